@@ -8,5 +8,6 @@ pub mod Remaining
 pub mod Running
 pub mod ShortPrograms
 pub mod Stepping
+pub mod Tops
 pub mod Turning
 pub mod Typing

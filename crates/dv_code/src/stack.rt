@@ -1,6 +1,6 @@
 //! Stacks.
 
-ghost use Rattle.std.specs.Prelude.{◌≡◌, ◌<◌, [], ◌∷◌, length, IfSome, None, OnErr, OnOk};
+ghost use Rattle.std.specs.Prelude.{◌≡◌, ◌<◌, List, [], ◌∷◌, length, IfSome, OnErr, OnOk};
 
 use std::alloc::{AllocError, Global};
 use std::marker::Model;
@@ -63,13 +63,18 @@ impl<T: Drop> Stack<T> {
             None => unreachable!(),
         }
     }
+}
 
-    /// What is on top, which goes, if there is something.
+impl<T: Copy> Stack<T> {
+    /// What is on top, which stays, if there is something.
+    #[tactic(auto, using(crate::proofs::Tops::on_top))]
     #[inline]
-    pub(crate) fn take(&mut self) -> Option<T>
-        ensures some { IfSome result (λ top. self.old ≡ top ∷ self.new) }
-        ensures none { result ≡ None → self.new ≡ self.old }
+    pub(crate) fn top(&self) -> Option<T>
+        ensures { IfSome result (λ top. (below : List T) × (self.now ≡ top ∷ below)) }
     {
-        self.values.pop()
+        match self.values.last() {
+            Some(top) => Some(*top),
+            None => None,
+        }
     }
 }

@@ -17,9 +17,13 @@ use Rattle.dv_command.specs.Words.{Said, Ready, at_most_one, given, said_by, val
 use Rattle.dv_command.specs.declared.request.RequestError.{RequestError}
 use Rattle.dv_command.specs.declared.request.RequestError.TheVariants.{Memory, Usage}
 use Rattle.dv_command.specs.declared.request.Check.{Check as CheckRequest}
+use Rattle.dv_command.specs.declared.request.Graph.{Graph as GraphRequest}
+use Rattle.dv_command.specs.declared.request.GraphChoice.{GraphChoice}
+use Rattle.dv_command.specs.declared.request.GraphChoice.TheVariants.{All, Depth, Phases}
 use Rattle.dv_command.specs.declared.request.Plan.{Plan as PlanRequest}
 use Rattle.dv_command.specs.declared.request.Run.{Run as RunRequest}
 use Rattle.dv_command.specs.declared.request.Stats.{Stats as StatsRequest}
+use Rattle.dv_command.specs.declared.request.StatsChoice.{StatsChoice}
 use Rattle.dv_command.specs.declared.request.Table.{Table as TableRequest}
 use Rattle.dv_command.specs.declared.request.TraceFiles.{TraceFiles}
 use Rattle.dv_command.specs.declared.request.Waves.{Waves}
@@ -44,6 +48,16 @@ flag_in name said = option_map (λ text. is_some text) (at_most_one (given name 
 -- the value of an option that need not stand; nothing where it stands more than once
 abbrev pub text_in : List ℕ → List Said → Option (Option (List ℕ))
 text_in name said = at_most_one (given name said)
+
+-- an option that may stand once does not stand
+abbrev pub is_nothing : Option (Option (List ℕ)) → Bool
+is_nothing None = false
+is_nothing (Some None) = true
+is_nothing (Some (Some text)) = false
+
+-- whether an option does not stand
+abbrev pub is_left_out : List ℕ → List Said → Bool
+is_left_out name said = is_nothing (text_in name said)
 
 -- the number that an option's value writes, where it has one
 abbrev pub number_of : ℕ → ℕ → Option (List ℕ) → Option (Option ℕ)
@@ -103,6 +117,30 @@ pub record AsksPlan (said : List Said) (plan : PlanRequest) : Type 0 where
   pub partition : AsksPartition said plan.partition
   pub explained : flag_in (codes "--explain") said ≡ Some plan.explained
 
+-- the depth of a graph, where one was chosen
+abbrev pub depth_of : GraphChoice → Option ℕ
+depth_of All = None
+depth_of (Depth n) = Some n
+depth_of (Phases name) = None
+
+-- the model whose phases a graph shows, where one was chosen
+abbrev pub phases_of : GraphChoice → Option (List ℕ)
+phases_of All = None
+phases_of (Depth n) = None
+phases_of (Phases name) = Some (string_bytes name)
+
+-- a graph shows all components, or those down to a depth, or the phases of a model
+pub record AsksGraphChoice (said : List Said) (choice : GraphChoice) : Type 0 where
+  pub depth : count_in 0 (2 ^ 64 - 1) (codes "--depth") said ≡ Some (depth_of choice)
+  pub phases : text_in (codes "--model") said ≡ Some (phases_of choice)
+
+-- `MODEL [--depth N] [--partition F | --processes N] [--explain]`, or `MODEL --model NAME [--explain]`
+pub record AsksGraph (said : List Said) (graph : GraphRequest) : Type 0 where
+  pub file : AsksModel said graph.file
+  pub partition : AsksPartition said graph.partition
+  pub choice : AsksGraphChoice said graph.choice
+  pub undivided : (is_some (phases_of graph.choice) && is_some graph.partition) ≡ false
+
 -- an option whose value is a text, and which need not stand
 abbrev pub AsksText : {Z : Type 0} → List ℕ → List Said → Option (String Z) → Type 0
 AsksText name said text = text_in name said ≡ Some (option_map string_bytes text)
@@ -121,7 +159,36 @@ pub record AsksDriving (said : List Said) (rounds workers : Option ℕ) : Type 0
   pub workers_given : count_in 1 most_workers (codes "--workers") said ≡ Some workers
   pub not_both : (is_some rounds && is_some workers) ≡ false
 
--- `MODEL --horizon H [--partition F | --processes N] [--inputs F] [--microsteps L] [--rounds N | --workers N] [--explain]`
+-- whether the last tick is not before the first one, where both are given
+abbrev pub are_in_order : Option ℕ → Option ℕ → Bool
+are_in_order (Some first) (Some last) = nat_le first last
+are_in_order _ _ = true
+
+-- `--from T`, `--to T`, each of which need not stand
+pub record AsksWindow (said : List Said) (first last : Option ℕ) : Type 0 where
+  pub first_given : count_in 0 greatest_tick (codes "--from") said ≡ Some first
+  pub last_given : count_in 0 greatest_tick (codes "--to") said ≡ Some last
+  pub in_order : are_in_order first last ≡ true
+
+-- `[--from T] [--to T] [--only PATH] [--quantiles] [--csv]`
+pub record AsksStatsChoice (said : List Said) (choice : StatsChoice) : Type 0 where
+  pub window : AsksWindow said choice.from choice.to
+  pub only : AsksText (codes "--only") said choice.only
+  pub quantiles : flag_in (codes "--quantiles") said ≡ Some choice.quantiles
+  pub csv : flag_in (codes "--csv") said ≡ Some choice.csv
+
+-- whether none of these stands
+abbrev pub has_no_stats_choice : List Said → Bool
+has_no_stats_choice said =
+    is_left_out (codes "--from") said && is_left_out (codes "--to") said && is_left_out (codes "--only") said
+    && is_left_out (codes "--quantiles") said && is_left_out (codes "--csv") said
+
+-- `--stats`, with what numbers are wanted; or none of these words
+abbrev pub AsksRunStats : List Said → Option StatsChoice → Type 0
+AsksRunStats said None = (flag_in (codes "--stats") said ≡ Some false) × (has_no_stats_choice said ≡ true)
+AsksRunStats said (Some choice) = (flag_in (codes "--stats") said ≡ Some true) × AsksStatsChoice said choice
+
+-- `MODEL --horizon H [--partition F | --processes N] [--inputs F] [--microsteps L] [--rounds N | --workers N] [--stats ..] [--progress] [--explain]`
 pub record AsksRun (said : List Said) (run : RunRequest) : Type 0 where
   pub model : values said ≡ string_bytes run.model ∷ []
   pub partition : AsksPartition said run.partition
@@ -130,6 +197,8 @@ pub record AsksRun (said : List Said) (run : RunRequest) : Type 0 where
   pub microsteps : AsksMicrosteps said run.microsteps
   pub driving : AsksDriving said run.rounds run.workers
   pub explained : flag_in (codes "--explain") said ≡ Some run.explained
+  pub stats : AsksRunStats said run.stats
+  pub progress : flag_in (codes "--progress") said ≡ Some run.progress
 
 -- `MODEL TRACE [--partial] [--explain]`
 pub record AsksTrace (said : List Said) (files : TraceFiles) : Type 0 where
@@ -144,24 +213,10 @@ pub record AsksWaves (said : List Said) (waves : Waves) : Type 0 where
   pub holds_ports : flag_in (codes "--hold-ports") said ≡ Some waves.holds_ports
   pub timescale : AsksText (codes "--timescale") said waves.timescale
 
--- whether the last tick is not before the first one, where both are given
-abbrev pub are_in_order : Option ℕ → Option ℕ → Bool
-are_in_order (Some first) (Some last) = nat_le first last
-are_in_order _ _ = true
-
--- `--from T`, `--to T`, each of which need not stand
-pub record AsksWindow (said : List Said) (first last : Option ℕ) : Type 0 where
-  pub first_given : count_in 0 greatest_tick (codes "--from") said ≡ Some first
-  pub last_given : count_in 0 greatest_tick (codes "--to") said ≡ Some last
-  pub in_order : are_in_order first last ≡ true
-
 -- `MODEL TRACE [--from T] [--to T] [--only PATH] [--quantiles] [--csv] [--partial] [--explain]`
 pub record AsksStats (said : List Said) (stats : StatsRequest) : Type 0 where
   pub files : AsksTrace said stats.files
-  pub window : AsksWindow said stats.from stats.to
-  pub only : AsksText (codes "--only") said stats.only
-  pub quantiles : flag_in (codes "--quantiles") said ≡ Some stats.quantiles
-  pub csv : flag_in (codes "--csv") said ≡ Some stats.csv
+  pub choice : AsksStatsChoice said stats.choice
 
 -- `MODEL TRACE [--inputs F] [--json] [--partial] [--explain]`
 pub record AsksTable (said : List Said) (table : TableRequest) : Type 0 where
@@ -178,7 +233,7 @@ abbrev pub AsksBehind : Subcommand → List Said → Request → Type 0
 AsksBehind subcommand.Check said (Check check) = AsksCheck said check
 AsksBehind subcommand.Code said (Code file) = AsksModel said file
 AsksBehind subcommand.Explain said (Explain explanation) = AsksCode said explanation.now.code.now
-AsksBehind subcommand.Graph said (Graph plan) = AsksPlan said plan
+AsksBehind subcommand.Graph said (Graph graph) = AsksGraph said graph
 AsksBehind subcommand.Plan said (Plan plan) = AsksPlan said plan
 AsksBehind subcommand.Run said (Run run) = AsksRun said run
 AsksBehind subcommand.Stats said (Stats stats) = AsksStats said stats

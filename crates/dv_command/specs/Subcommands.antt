@@ -17,20 +17,23 @@ subcommand_named word =
     else if bytes_eq word (codes "vcd") then Some Vcd
     else None
 
--- the options of a run to which a value belongs
-abbrev pub run_takes_value : List ℕ → Bool
-run_takes_value name =
-    bytes_eq name (codes "--horizon") || bytes_eq name (codes "--inputs") || bytes_eq name (codes "--microsteps")
-    || bytes_eq name (codes "--partition") || bytes_eq name (codes "--processes")
-    || bytes_eq name (codes "--rounds") || bytes_eq name (codes "--workers")
-
 -- the options by which a model is divided
 abbrev pub plan_takes_value : List ℕ → Bool
 plan_takes_value name = bytes_eq name (codes "--partition") || bytes_eq name (codes "--processes")
 
+-- the options of a graph: those by which the model is divided, and what is shown
+abbrev pub graph_takes_value : List ℕ → Bool
+graph_takes_value name = plan_takes_value name || bytes_eq name (codes "--depth") || bytes_eq name (codes "--model")
+
 -- the options of numbers: which ticks count, and which components
 abbrev pub stats_takes_value : List ℕ → Bool
 stats_takes_value name = bytes_eq name (codes "--from") || bytes_eq name (codes "--only") || bytes_eq name (codes "--to")
+
+-- the options of a run to which a value belongs: its own, those by which its model is divided, and those of its numbers
+abbrev pub run_takes_value : List ℕ → Bool
+run_takes_value name =
+    bytes_eq name (codes "--horizon") || bytes_eq name (codes "--inputs") || bytes_eq name (codes "--microsteps")
+    || bytes_eq name (codes "--rounds") || bytes_eq name (codes "--workers") || plan_takes_value name || stats_takes_value name
 
 -- the options of a value change dump
 abbrev pub vcd_takes_value : List ℕ → Bool
@@ -40,13 +43,19 @@ vcd_takes_value name = bytes_eq name (codes "--inputs") || bytes_eq name (codes 
 abbrev pub takes_value : Subcommand → List ℕ → Bool
 takes_value Run name = run_takes_value name
 takes_value Plan name = plan_takes_value name
-takes_value Graph name = plan_takes_value name
+takes_value Graph name = graph_takes_value name
 takes_value Check name = false
 takes_value Code name = false
 takes_value Explain name = false
 takes_value Stats name = stats_takes_value name
 takes_value Table name = bytes_eq name (codes "--inputs")
 takes_value Vcd name = vcd_takes_value name
+
+-- the flags of a run
+abbrev pub run_has_flag : List ℕ → Bool
+run_has_flag name =
+    bytes_eq name (codes "--csv") || bytes_eq name (codes "--explain") || bytes_eq name (codes "--progress")
+    || bytes_eq name (codes "--quantiles") || bytes_eq name (codes "--stats")
 
 -- the flags of numbers
 abbrev pub stats_has_flag : List ℕ → Bool
@@ -70,7 +79,7 @@ is_flag Check name = bytes_eq name (codes "--explain") || bytes_eq name (codes "
 is_flag Code name = bytes_eq name (codes "--explain")
 is_flag Graph name = bytes_eq name (codes "--explain")
 is_flag Plan name = bytes_eq name (codes "--explain")
-is_flag Run name = bytes_eq name (codes "--explain")
+is_flag Run name = run_has_flag name
 is_flag Stats name = stats_has_flag name
 is_flag Table name = table_has_flag name
 is_flag Vcd name = vcd_has_flag name

@@ -2,18 +2,18 @@
 
 ghost use Rattle.std.specs.Prelude.{◌≡◌, ◌≤◌, ◌∷◌, [], IfOk, IfSome, map, string_bytes};
 ghost use Rattle.dv_command.specs.Asked.{Asks, AsksBehind, AsksCheck, AsksCode, AsksDriving, AsksHorizon, AsksMicrosteps};
-ghost use Rattle.dv_command.specs.Asked.{AsksModel, AsksPartition, AsksPlan, AsksRun, AsksWith, IsAnswer};
-ghost use Rattle.dv_command.specs.Asked.{IsFitting, IsVersion, is_version};
+ghost use Rattle.dv_command.specs.Asked.{AsksModel, AsksRun, AsksWith, IsAnswer, IsFitting, IsVersion, is_version};
 ghost use Rattle.dv_command.specs.Subcommands.{subcommand_named};
 ghost use Rattle.dv_command.specs.Steps.{said_in};
 ghost use Rattle.dv_command.specs.Words.{values};
 ghost use Rattle.dv_time.specs.Limits.{greatest_limit, greatest_tick};
 
-use crate::given::{count_in, flag_in, owned_text_in, text_in, values};
+use crate::divided::{graph_in, partition_in, plan_in};
+use crate::given::{count_in, flag_in, owned_text_in, values};
 use crate::part::{Part, said_by};
-use crate::request::{Check, ModelFile, PartitionChoice, Plan, Request, Run, USUAL_LIMIT};
+use crate::request::{Check, ModelFile, Request, Run, USUAL_LIMIT};
 use crate::subcommand::{Subcommand, subcommand_named};
-use crate::viewed::{stats_in, table_in, waves_in};
+use crate::viewed::{run_stats_in, stats_in, table_in, waves_in};
 use dv_explain::{Explanation, explanation_in_any_case};
 use dv_time::{GREATEST_LIMIT, GREATEST_TICK};
 use std::alloc::{AllocError, Global};
@@ -25,7 +25,7 @@ pub(crate) const VERSION: &str = "0.1.0";
 pub(crate) const MOST_WORKERS: u64 = 256;
 
 /// The only value by itself.
-fn only_value(alloc: Global, parts: &[Part<'_>]) -> Result<Option<String>, AllocError>
+pub(crate) fn only_value(alloc: Global, parts: &[Part<'_>]) -> Result<Option<String>, AllocError>
     ensures { IfOk result (IsFitting (λ text. values (map said_in parts.now)
         ≡ string_bytes text ∷ [])) }
 {
@@ -37,7 +37,8 @@ fn only_value(alloc: Global, parts: &[Part<'_>]) -> Result<Option<String>, Alloc
     }
 }
 
-fn model_in(alloc: Global, parts: &[Part<'_>]) -> Result<Option<ModelFile>, AllocError>
+/// A model by itself.
+pub(crate) fn model_in(alloc: Global, parts: &[Part<'_>]) -> Result<Option<ModelFile>, AllocError>
     ensures { IfOk result (IsFitting (AsksModel (map said_in parts.now))) }
 {
     let Some(model) = only_value(alloc, parts)? else {
@@ -59,50 +60,6 @@ fn check_in(alloc: Global, parts: &[Part<'_>]) -> Result<Option<Check>, AllocErr
         return Ok(None);
     };
     Ok(Some(Check { file, warned }))
-}
-
-/// How the components are divided, where that is given.
-fn partition_in(
-    alloc: Global,
-    parts: &[Part<'_>],
-) -> Result<Option<Option<PartitionChoice>>, AllocError>
-    ensures { IfOk result (IsFitting (AsksPartition (map said_in parts.now))) }
-{
-    let Some(file) = text_in(alloc, "--partition", parts)? else {
-        return Ok(None);
-    };
-    let most = u64::from(u32::MAX);
-    let Some(count) = count_in(alloc, 0, most, "--processes", parts)? else {
-        return Ok(None);
-    };
-    match (file, count) {
-        (None, None) => Ok(Some(None)),
-        (Some(file), None) => {
-            let name = String::from_str(alloc, file)?;
-            Ok(Some(Some(PartitionChoice::File(name))))
-        }
-        (None, Some(count)) => Ok(Some(Some(PartitionChoice::Count(count as u32)))),
-        (Some(_), Some(_)) => Ok(None),
-    }
-}
-
-fn plan_in(alloc: Global, parts: &[Part<'_>]) -> Result<Option<Plan>, AllocError>
-    ensures { IfOk result (IsFitting (AsksPlan (map said_in parts.now))) }
-{
-    let Some(model) = only_value(alloc, parts)? else {
-        return Ok(None);
-    };
-    let Some(partition) = partition_in(alloc, parts)? else {
-        return Ok(None);
-    };
-    let Some(explained) = flag_in(alloc, "--explain", parts)? else {
-        return Ok(None);
-    };
-    Ok(Some(Plan {
-        model,
-        partition,
-        explained,
-    }))
 }
 
 /// The last tick of a run.
@@ -177,6 +134,12 @@ fn run_in(alloc: Global, parts: &[Part<'_>]) -> Result<Option<Run>, AllocError>
     let Some(explained) = flag_in(alloc, "--explain", parts)? else {
         return Ok(None);
     };
+    let Some(stats) = run_stats_in(alloc, parts)? else {
+        return Ok(None);
+    };
+    let Some(progress) = flag_in(alloc, "--progress", parts)? else {
+        return Ok(None);
+    };
     Ok(Some(Run {
         model,
         partition,
@@ -186,6 +149,8 @@ fn run_in(alloc: Global, parts: &[Part<'_>]) -> Result<Option<Run>, AllocError>
         rounds,
         workers,
         explained,
+        stats,
+        progress,
     }))
 }
 
@@ -226,8 +191,8 @@ fn asked_behind(
             Some(explanation) => Ok(Some(Request::Explain(explanation))),
             None => Ok(None),
         },
-        Subcommand::Graph => match plan_in(alloc, parts)? {
-            Some(plan) => Ok(Some(Request::Graph(plan))),
+        Subcommand::Graph => match graph_in(alloc, parts)? {
+            Some(graph) => Ok(Some(Request::Graph(graph))),
             None => Ok(None),
         },
         Subcommand::Plan => match plan_in(alloc, parts)? {

@@ -2,7 +2,7 @@
 
 ghost use Rattle.std.specs.Prelude.{◌≡◌, ◌≤◌, List, ℕ, map, option_map, filter_map, IfOk, is_some, IfSome};
 ghost use Rattle.dv_command.specs.Words.{at_most_one, given, named_in, value_in, values};
-ghost use Rattle.dv_command.specs.Asked.{AsksText, IsFitting, count_in, flag_in, number_of, text_in};
+ghost use Rattle.dv_command.specs.Asked.{AsksText, IsFitting, count_in, flag_in, is_left_out, number_of, text_in};
 ghost use Rattle.dv_command.specs.Steps.{said_in};
 
 use crate::number::number_in;
@@ -107,6 +107,17 @@ pub(crate) fn flag_in(
     match text_in(alloc, name, parts)? {
         Some(text) => Ok(Some(text.is_some())),
         None => Ok(None),
+    }
+}
+
+/// Whether nothing is said to the option of this name.
+pub(crate) fn is_left_out(alloc: Global, name: &str, parts: &[Part<'_>]) -> Result<bool, AllocError>
+    ensures { IfOk result (λ r. r ≡ is_left_out name.now (map said_in parts.now)) }
+{
+    match text_in(alloc, name, parts)? {
+        Some(None) => Ok(true),
+        Some(Some(_)) => Ok(false),
+        None => Ok(false),
     }
 }
 

@@ -71,7 +71,7 @@ const TICK: Value = Value {
 };
 
 const MODEL: WordHelp = WordHelp {
-    name: "model",
+    name: "model-file",
     form: Form::Plain("MODEL"),
     is_required: true,
     help: "the file of the model, or - for standard input",
@@ -95,7 +95,7 @@ const EXPLAIN: WordHelp = WordHelp {
     name: "explain",
     form: Form::Flag,
     is_required: false,
-    help: "shows the line of a refusal, and what it means",
+    help: "shows the line of a refusal, and what it means; behind a run, where its faults came from",
 };
 
 const CSV: WordHelp = WordHelp {
@@ -180,6 +180,20 @@ const QUANTILES: WordHelp = WordHelp {
     help: "prints quantiles, too",
 };
 
+const STATS: WordHelp = WordHelp {
+    name: "stats",
+    form: Form::Flag,
+    is_required: false,
+    help: "prints the numbers of the trace in its place; --from, --to, --only, --quantiles and --csv go with it",
+};
+
+const PROGRESS: WordHelp = WordHelp {
+    name: "progress",
+    form: Form::Flag,
+    is_required: false,
+    help: "tells once a second on standard error which tick is printed, and how many lines",
+};
+
 const HORIZON: WordHelp = WordHelp {
     name: "horizon",
     form: Form::Option("H", TICK),
@@ -234,6 +248,35 @@ const PROCESSES: WordHelp = WordHelp {
     help: "the number of processes, 1 to 256, and no more than the components (1)",
 };
 
+const DEPTH: WordHelp = WordHelp {
+    name: "depth",
+    form: Form::Option(
+        "N",
+        Value {
+            words: "a depth, 0 to 2^64-1",
+            numbers: Some(Numbers {
+                least: 0,
+                greatest: u64::MAX,
+            }),
+        },
+    ),
+    is_required: false,
+    help: "shows the coupled models at this depth as boxes; 0 is the root alone (all components)",
+};
+
+const PHASES: WordHelp = WordHelp {
+    name: "model",
+    form: Form::Option(
+        "NAME",
+        Value {
+            words: "the name of an atomic model",
+            numbers: None,
+        },
+    ),
+    is_required: false,
+    help: "shows the phases of the atomic model of this name, in the place of the components",
+};
+
 const ROUNDS: WordHelp = WordHelp {
     name: "rounds",
     form: Form::Option(
@@ -275,9 +318,10 @@ const SUBCOMMANDS: &[SubcommandHelp] = &[
     },
     SubcommandHelp {
         name: "run",
-        about: "Runs a model and prints its trace",
+        about: "Runs a model and prints its trace, or the numbers of it",
         words: &[
-            MODEL, HORIZON, PARTITION, PROCESSES, INPUTS, MICROSTEPS, ROUNDS, WORKERS, EXPLAIN,
+            MODEL, HORIZON, PARTITION, PROCESSES, INPUTS, MICROSTEPS, ROUNDS, WORKERS, STATS, FROM,
+            TO, ONLY, QUANTILES, CSV, PROGRESS, EXPLAIN,
         ],
     },
     SubcommandHelp {
@@ -288,7 +332,7 @@ const SUBCOMMANDS: &[SubcommandHelp] = &[
     SubcommandHelp {
         name: "graph",
         about: "Prints a model as a graph in the DOT language",
-        words: &[MODEL, PARTITION, PROCESSES, EXPLAIN],
+        words: &[MODEL, DEPTH, PHASES, PARTITION, PROCESSES, EXPLAIN],
     },
     SubcommandHelp {
         name: "code",

@@ -7,6 +7,8 @@ mod asked;
 mod command;
 /// From words to what they ask for.
 mod command_line;
+/// Requests for a model with how it is divided, read from what words say.
+mod divided;
 /// What parts say for an option.
 mod given;
 /// What the help says of subcommands and words.
@@ -26,6 +28,6 @@ mod viewed;
 
 pub use command_line::request_of;
 pub use request::{
-    Check, ModelFile, PartitionChoice, Plan, Request, RequestError, Run, Stats, Table, TraceFiles,
-    Usage, Waves,
+    Check, Graph, GraphChoice, ModelFile, PartitionChoice, Plan, Request, RequestError, Run, Stats,
+    StatsChoice, Table, TraceFiles, Usage, Waves,
 };

@@ -20,7 +20,7 @@ pub enum Request {
     /// Print how a model is divided.
     Plan(Plan),
     /// Print a model as a graph in the DOT language.
-    Graph(Plan),
+    Graph(Graph),
     /// Print a trace as a value change dump.
     Vcd(Waves),
     /// Print what a trace says of each component, in numbers.
@@ -75,10 +75,16 @@ pub struct Waves {
     pub timescale: Option<String>,
 }
 
-/// Count what a trace says of each component. The last tick is not before the first one.
+/// Count what a trace says of each component.
 #[derive(Debug, Drop)]
 pub struct Stats {
     pub files: TraceFiles,
+    pub choice: StatsChoice,
+}
+
+/// What of a trace is counted, and how it is printed. The last tick is not before the first one.
+#[derive(Debug, Drop)]
+pub struct StatsChoice {
     /// The first tick that counts, 0 to 10^15, where that is given.
     pub from: Option<u64>,
     /// The last tick that counts, 0 to 10^15, where that is given.
@@ -121,7 +127,27 @@ pub struct Plan {
     pub explained: bool,
 }
 
-/// Run a model and print its trace. Its numbers are within their ranges: its type keeps that.
+/// A model to print as a graph. It is not divided where phases are shown.
+#[derive(Debug, Drop)]
+pub struct Graph {
+    pub file: ModelFile,
+    /// How it is divided, where that was given; else no processes are shown.
+    pub partition: Option<PartitionChoice>,
+    pub choice: GraphChoice,
+}
+
+/// What of a model a graph shows.
+#[derive(Debug, Drop)]
+pub enum GraphChoice {
+    /// All components.
+    All,
+    /// The parts down to this depth.
+    Depth(u64),
+    /// The phases of the atomic model of this name. Whether there is one is not asked here.
+    Phases(String),
+}
+
+/// Run a model and print its trace, or the numbers of it. Horizon and microsteps are within their ranges: the type keeps that.
 #[derive(Debug, Drop)]
 pub struct Run {
     /// The file of the model.
@@ -140,6 +166,10 @@ pub struct Run {
     pub workers: Option<u32>,
     /// Whether a refusal is explained.
     pub explained: bool,
+    /// The numbers that are printed in the place of the trace, where they are asked for.
+    pub stats: Option<StatsChoice>,
+    /// Whether it is told how far the run is.
+    pub progress: bool,
     pub ghost in_range: { AreInRange horizon microsteps },
 }
 

@@ -1,8 +1,9 @@
 //! The subcommands, their names and their options.
 
 ghost use Rattle.std.specs.Prelude.{◌≡◌};
-ghost use Rattle.dv_command.specs.Subcommands.{is_flag, plan_takes_value, run_takes_value, stats_has_flag, stats_takes_value};
-ghost use Rattle.dv_command.specs.Subcommands.{subcommand_named, table_has_flag, takes_value, vcd_has_flag, vcd_takes_value};
+ghost use Rattle.dv_command.specs.Subcommands.{graph_takes_value, is_flag, plan_takes_value, run_has_flag, run_takes_value};
+ghost use Rattle.dv_command.specs.Subcommands.{stats_has_flag, stats_takes_value, subcommand_named, table_has_flag, takes_value};
+ghost use Rattle.dv_command.specs.Subcommands.{vcd_has_flag, vcd_takes_value};
 
 /// What stands behind the program's name.
 #[derive(Clone, Copy, Debug)]
@@ -45,28 +46,34 @@ pub(crate) fn subcommand_named(word: &str) -> Option<Subcommand>
     }
 }
 
-fn run_takes_value(name: &str) -> bool
-    ensures { result ≡ run_takes_value name.now }
-{
-    name == "--horizon"
-        || name == "--inputs"
-        || name == "--microsteps"
-        || name == "--partition"
-        || name == "--processes"
-        || name == "--rounds"
-        || name == "--workers"
-}
-
 fn plan_takes_value(name: &str) -> bool
     ensures { result ≡ plan_takes_value name.now }
 {
     name == "--partition" || name == "--processes"
 }
 
+fn graph_takes_value(name: &str) -> bool
+    ensures { result ≡ graph_takes_value name.now }
+{
+    plan_takes_value(name) || name == "--depth" || name == "--model"
+}
+
 fn stats_takes_value(name: &str) -> bool
     ensures { result ≡ stats_takes_value name.now }
 {
     name == "--from" || name == "--only" || name == "--to"
+}
+
+fn run_takes_value(name: &str) -> bool
+    ensures { result ≡ run_takes_value name.now }
+{
+    name == "--horizon"
+        || name == "--inputs"
+        || name == "--microsteps"
+        || name == "--rounds"
+        || name == "--workers"
+        || plan_takes_value(name)
+        || stats_takes_value(name)
 }
 
 fn vcd_takes_value(name: &str) -> bool
@@ -82,7 +89,7 @@ pub(crate) fn takes_value(subcommand: Subcommand, name: &str) -> bool
     match subcommand {
         Subcommand::Run => run_takes_value(name),
         Subcommand::Plan => plan_takes_value(name),
-        Subcommand::Graph => plan_takes_value(name),
+        Subcommand::Graph => graph_takes_value(name),
         Subcommand::Check => false,
         Subcommand::Code => false,
         Subcommand::Explain => false,
@@ -90,6 +97,16 @@ pub(crate) fn takes_value(subcommand: Subcommand, name: &str) -> bool
         Subcommand::Table => name == "--inputs",
         Subcommand::Vcd => vcd_takes_value(name),
     }
+}
+
+fn run_has_flag(name: &str) -> bool
+    ensures { result ≡ run_has_flag name.now }
+{
+    name == "--csv"
+        || name == "--explain"
+        || name == "--progress"
+        || name == "--quantiles"
+        || name == "--stats"
 }
 
 fn stats_has_flag(name: &str) -> bool
@@ -120,7 +137,7 @@ pub(crate) fn is_flag(subcommand: Subcommand, name: &str) -> bool
         Subcommand::Code => name == "--explain",
         Subcommand::Graph => name == "--explain",
         Subcommand::Plan => name == "--explain",
-        Subcommand::Run => name == "--explain",
+        Subcommand::Run => run_has_flag(name),
         Subcommand::Stats => stats_has_flag(name),
         Subcommand::Table => table_has_flag(name),
         Subcommand::Vcd => vcd_has_flag(name),

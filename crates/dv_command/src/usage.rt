@@ -28,9 +28,9 @@ pub(crate) fn usage_text(alloc: Global, words: &[String]) -> Result<String, Allo
     match command(alloc)?.try_get_matches_from(words) {
         Ok(matches) => match matches.subcommand() {
             Some(("explain", _)) => refused(alloc, unknown_code(alloc)?.as_str()),
-            Some((_, subcommand)) => match first_misfit(words) {
+            Some((name, subcommand)) => match first_misfit(words) {
                 Some(misfit) => refused_misfit(alloc, &misfit),
-                None => refused(alloc, reason(subcommand)),
+                None => refused(alloc, reason(name, subcommand)),
             },
             None => refused(alloc, "a subcommand is wanted"),
         },
@@ -52,17 +52,33 @@ pub(crate) fn usage_text(alloc: Global, words: &[String]) -> Result<String, Allo
 }
 
 /// Why words ask for nothing though `clap` takes them for a command line, and each option has a value that it takes.
-fn reason(matches: &ArgMatches) -> &'static str {
+fn reason(subcommand: &str, matches: &ArgMatches) -> &'static str {
     let has = |name: &str| matches.get_str(name).is_some();
     if has("partition") && has("processes") {
         "a partition or a number of processes is given, not both"
+    } else if has("depth") && has("model") {
+        "a depth or a model whose phases are shown is given, not both"
+    } else if has("model") && (has("partition") || has("processes")) {
+        "processes are not shown where phases are: --model stands without --partition and --processes"
     } else if has("rounds") && has("workers") {
         "rounds are not counted where there are workers"
+    } else if subcommand == "run" && !matches.get_flag("stats") && has_stats_choice(matches) {
+        "--from, --to, --only, --quantiles and --csv go with --stats"
     } else if has("from") && has("to") {
         "the last tick that counts, --to, is before the first one, --from"
     } else {
         "these words are no command"
     }
+}
+
+/// Whether it is said what is counted of a trace.
+fn has_stats_choice(matches: &ArgMatches) -> bool {
+    let has = |name: &str| matches.get_str(name).is_some();
+    has("from")
+        || has("to")
+        || has("only")
+        || matches.get_flag("quantiles")
+        || matches.get_flag("csv")
 }
 
 /// The first option that has no value that it takes; the first word is the program's name, and the second the subcommand's.

@@ -1,12 +1,13 @@
 //! Requests for what a trace says, read from what words say.
 
 ghost use Rattle.std.specs.Prelude.{◌≡◌, IfOk, map};
-ghost use Rattle.dv_command.specs.Asked.{AsksStats, AsksTable, AsksTrace, AsksWaves, AsksWindow, IsFitting, are_in_order};
+ghost use Rattle.dv_command.specs.Asked.{AsksRunStats, AsksStats, AsksStatsChoice, AsksTable, AsksTrace, AsksWaves};
+ghost use Rattle.dv_command.specs.Asked.{AsksWindow, IsFitting, are_in_order, has_no_stats_choice};
 ghost use Rattle.dv_command.specs.Steps.{said_in};
 
-use crate::given::{count_in, flag_in, owned_text_in, values};
+use crate::given::{count_in, flag_in, is_left_out, owned_text_in, values};
 use crate::part::Part;
-use crate::request::{Stats, Table, TraceFiles, Waves};
+use crate::request::{Stats, StatsChoice, Table, TraceFiles, Waves};
 use dv_time::GREATEST_TICK;
 use std::alloc::{AllocError, Global};
 
@@ -91,13 +92,10 @@ fn window_in(alloc: Global, parts: &[Part<'_>]) -> Result<Option<Window>, AllocE
     }
 }
 
-/// A trace in numbers.
-pub(crate) fn stats_in(alloc: Global, parts: &[Part<'_>]) -> Result<Option<Stats>, AllocError>
-    ensures { IfOk result (IsFitting (AsksStats (map said_in parts.now))) }
+/// What is counted of a trace, and how it is printed.
+fn stats_choice_in(alloc: Global, parts: &[Part<'_>]) -> Result<Option<StatsChoice>, AllocError>
+    ensures { IfOk result (IsFitting (AsksStatsChoice (map said_in parts.now))) }
 {
-    let Some(files) = trace_in(alloc, parts)? else {
-        return Ok(None);
-    };
     let Some((from, to)) = window_in(alloc, parts)? else {
         return Ok(None);
     };
@@ -110,14 +108,62 @@ pub(crate) fn stats_in(alloc: Global, parts: &[Part<'_>]) -> Result<Option<Stats
     let Some(csv) = flag_in(alloc, "--csv", parts)? else {
         return Ok(None);
     };
-    Ok(Some(Stats {
-        files,
+    Ok(Some(StatsChoice {
         from,
         to,
         only,
         quantiles,
         csv,
     }))
+}
+
+/// A trace in numbers.
+pub(crate) fn stats_in(alloc: Global, parts: &[Part<'_>]) -> Result<Option<Stats>, AllocError>
+    ensures { IfOk result (IsFitting (AsksStats (map said_in parts.now))) }
+{
+    let Some(files) = trace_in(alloc, parts)? else {
+        return Ok(None);
+    };
+    let Some(choice) = stats_choice_in(alloc, parts)? else {
+        return Ok(None);
+    };
+    Ok(Some(Stats { files, choice }))
+}
+
+/// Whether no option stands that says what is counted.
+fn has_no_stats_choice(alloc: Global, parts: &[Part<'_>]) -> Result<bool, AllocError>
+    ensures { IfOk result (λ r. r ≡ has_no_stats_choice (map said_in parts.now)) }
+{
+    Ok(
+        is_left_out(alloc, "--from", parts)?
+            && is_left_out(alloc, "--to", parts)?
+            && is_left_out(alloc, "--only", parts)?
+            && is_left_out(alloc, "--quantiles", parts)?
+            && is_left_out(alloc, "--csv", parts)?,
+    )
+}
+
+/// The numbers that a run prints in the place of its trace, where they are asked for.
+pub(crate) fn run_stats_in(
+    alloc: Global,
+    parts: &[Part<'_>],
+) -> Result<Option<Option<StatsChoice>>, AllocError>
+    ensures { IfOk result (IsFitting (AsksRunStats (map said_in parts.now))) }
+{
+    match flag_in(alloc, "--stats", parts)? {
+        Some(true) => match stats_choice_in(alloc, parts)? {
+            Some(choice) => Ok(Some(Some(choice))),
+            None => Ok(None),
+        },
+        Some(false) => {
+            if has_no_stats_choice(alloc, parts)? {
+                Ok(Some(None))
+            } else {
+                Ok(None)
+            }
+        }
+        None => Ok(None),
+    }
 }
 
 /// A trace as a table.

@@ -1,8 +1,8 @@
 //! What the words of a command line ask for, told in a line.
 
 use dv_command::{
-    Check, ModelFile, PartitionChoice, Plan, Request, RequestError, Run, Stats, Table, TraceFiles,
-    Waves, request_of,
+    Check, Graph, GraphChoice, ModelFile, PartitionChoice, Plan, Request, RequestError, Run, Stats,
+    StatsChoice, Table, TraceFiles, Waves, request_of,
 };
 use std::alloc::{AllocError, Global};
 
@@ -29,8 +29,8 @@ fn request_text(alloc: Global, request: &Request) -> Result<String, AllocError> 
     match request {
         Request::Check(check) => check_text(alloc, check),
         Request::Code(code) => file_text(alloc, "code", code),
-        Request::Plan(plan) => plan_text(alloc, "plan", plan),
-        Request::Graph(graph) => plan_text(alloc, "graph", graph),
+        Request::Plan(plan) => plan_text(alloc, plan),
+        Request::Graph(graph) => graph_text(alloc, graph),
         Request::Vcd(waves) => waves_text(alloc, waves),
         Request::Stats(stats) => stats_text(alloc, stats),
         Request::Table(table) => table_text(alloc, table),
@@ -59,9 +59,21 @@ fn check_text(alloc: Global, check: &Check) -> Result<String, AllocError> {
 }
 
 /// Model and partition.
-fn plan_text(alloc: Global, name: &str, plan: &Plan) -> Result<String, AllocError> {
-    let mut text = format!(in alloc; "{}{name} {}", way(plan.explained), plan.model)?;
+fn plan_text(alloc: Global, plan: &Plan) -> Result<String, AllocError> {
+    let mut text = format!(in alloc; "{}plan {}", way(plan.explained), plan.model)?;
     push_partition(&mut text, plan.partition.as_ref())?;
+    Ok(text)
+}
+
+/// Model, what is shown, and partition.
+fn graph_text(alloc: Global, graph: &Graph) -> Result<String, AllocError> {
+    let mut text = file_text(alloc, "graph", &graph.file)?;
+    match &graph.choice {
+        GraphChoice::All => {}
+        GraphChoice::Depth(depth) => write!(text, " to depth {depth}")?,
+        GraphChoice::Phases(name) => write!(text, " of {name}")?,
+    }
+    push_partition(&mut text, graph.partition.as_ref())?;
     Ok(text)
 }
 
@@ -109,23 +121,33 @@ fn waves_text(alloc: Global, waves: &Waves) -> Result<String, AllocError> {
     Ok(text)
 }
 
-/// Model, trace, the ticks and the path that count, and the quantiles.
+/// Model, trace, and what is counted.
 fn stats_text(alloc: Global, stats: &Stats) -> Result<String, AllocError> {
-    let name = if stats.csv { "stats in csv" } else { "stats" };
+    let name = if stats.choice.csv {
+        "stats in csv"
+    } else {
+        "stats"
+    };
     let mut text = trace_text(alloc, name, &stats.files)?;
-    if let Some(from) = stats.from {
+    push_choice(&mut text, &stats.choice)?;
+    Ok(text)
+}
+
+/// The ticks and the path that count, and the quantiles.
+fn push_choice(text: &mut String, choice: &StatsChoice) -> Result<(), AllocError> {
+    if let Some(from) = choice.from {
         write!(text, " from {from}")?;
     }
-    if let Some(to) = stats.to {
+    if let Some(to) = choice.to {
         write!(text, " to {to}")?;
     }
-    if let Some(only) = &stats.only {
+    if let Some(only) = &choice.only {
         write!(text, " only {only}")?;
     }
-    if stats.quantiles {
+    if choice.quantiles {
         text.push_str(" with quantiles")?;
     }
-    Ok(text)
+    Ok(())
 }
 
 /// Model, trace and inputs.
@@ -136,7 +158,7 @@ fn table_text(alloc: Global, table: &Table) -> Result<String, AllocError> {
     Ok(text)
 }
 
-/// Model, horizon, microstep limit, partition, rounds, workers and inputs.
+/// Model, horizon, microstep limit, partition, rounds, workers, inputs, numbers and progress.
 fn run_text(alloc: Global, run: &Run) -> Result<String, AllocError> {
     let way = way(run.explained);
     let mut text = format!(in alloc; "{way}{} {} {}", run.model, run.horizon, run.microsteps)?;
@@ -148,5 +170,16 @@ fn run_text(alloc: Global, run: &Run) -> Result<String, AllocError> {
         write!(text, " on {workers}")?;
     }
     push_inputs(&mut text, run.inputs.as_ref())?;
+    if let Some(choice) = &run.stats {
+        text.push_str(if choice.csv {
+            " counted in csv"
+        } else {
+            " counted"
+        })?;
+        push_choice(&mut text, choice)?;
+    }
+    if run.progress {
+        text.push_str(" with progress")?;
+    }
     Ok(text)
 }

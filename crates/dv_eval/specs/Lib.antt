@@ -6,3 +6,4 @@ pub mod Contexts
 pub mod Steps
 pub mod Edges
 pub mod Rows
+pub mod NameLists

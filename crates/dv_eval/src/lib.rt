@@ -9,6 +9,8 @@ pub mod expression;
 pub mod laws;
 /// The start, the rules and the holds of an atomic model.
 pub mod model;
+/// The names of one kind that an atomic model declares.
+mod name_list;
 /// What is known where an expression stands.
 pub mod moment;
 /// What a rule does.
@@ -19,5 +21,5 @@ pub mod scope;
 pub use expression::eval;
 pub use model::{hold, phase_hold, phase_ticks, rule_body, rule_of, start_state};
 pub use moment::{Context, Moment};
-pub use rule::run_rule;
+pub use rule::{loop_values, run_rule, run_statement};
 pub use scope::{Domain, Scope, VariableRange, state_variable_of};

@@ -82,8 +82,13 @@ fn run(
     Ok(effect)
 }
 
+/// The effect of one statement, in the context where it stands, after what has been done before it.
+///
+/// # Errors
+///
+/// Those of [`run_rule`].
 #[cycle(run)]
-fn run_statement(
+pub fn run_statement(
     alloc: Global,
     statement: &Stmt,
     context: &Context,
@@ -137,7 +142,7 @@ fn run_statement(
             block,
             ..
         } => {
-            let pairs = pairs_at_entry(alloc, bag.number, &effect.state, context, scope)?;
+            let pairs = loop_values(alloc, bag.number, &effect.state, context, scope)?;
             run_loop(
                 alloc,
                 &pairs,
@@ -210,8 +215,13 @@ fn run_copies(
     Ok(effect)
 }
 
-// The values of the collection that a name stands for, to be walked while the state changes.
-fn pairs_at_entry(
+/// The values that a loop over the collection of a name walks, in their order, each with the number of its copies. They
+/// are those at the entry of the loop; the state may change while it goes on.
+///
+/// # Errors
+///
+/// No memory for them.
+pub fn loop_values(
     alloc: Global,
     name: u32,
     state: &State,

@@ -1,12 +1,14 @@
 //! The names that an atomic model declares.
 
-ghost use Rattle.std.specs.Prelude.{◌≡◌, ◌<◌, ℕ, [], length, slice_get, nat_eq, map, option_map, IfOk, OnOk};
-ghost use Rattle.std.specs.List.{IsDistinct};
+ghost use Rattle.std.specs.Prelude.{◌≡◌, ℕ, [], length, slice_get, map, option_map, IfOk, IfSome, OnOk, OnSome};
 ghost use Rattle.dv_syntax.specs.Trees.{atomic_of, phases_of};
+ghost use Rattle.dv_eval.specs.NameLists.{names_in};
 ghost use Rattle.dv_eval.specs.Scope.{bound_value, inputs_in, names_of, nothing_declared, outputs_in, phases_in, place_of};
 ghost use Rattle.dv_eval.specs.Scope.{range_of, scope_of, state_variable_of, state_variables_in, with_name, with_names};
 ghost use Rattle.dv_eval.specs.Scope.{with_variable, with_variables};
 
+use crate::name_list::{FewNames, NameList};
+use arrayvec::ArrayVec;
 use dv_bag::Discipline;
 use dv_syntax::{Atomic, Bound, Declaration, Name, Phases, Variable};
 use indexmap::{IndexMap, IndexSet};
@@ -85,21 +87,22 @@ pub fn state_variable_of(declaration: &Declaration) -> Option<(Name, Domain)>
 #[derive(Drop)]
 pub struct Scope {
     variables: IndexMap<u32, Domain>,
-    phases: IndexSet<u32>,
-    inputs: IndexSet<u32>,
-    outputs: IndexSet<u32>,
+    phases: NameList,
+    inputs: NameList,
+    outputs: NameList,
 }
 
 impl Model for Scope {
+    ghost use Rattle.dv_eval.specs.NameLists.{names_in};
     ghost use Rattle.dv_eval.specs.Scope as scope;
 
     ghost Value = { scope.Scope };
 
     ghost view = { λ e. record {
       variables = e.variables.entries;
-      phases = e.phases.keys;
-      inputs = e.inputs.keys;
-      outputs = e.outputs.keys;
+      phases = names_in e.phases;
+      inputs = names_in e.inputs;
+      outputs = names_in e.outputs;
     } };
 }
 
@@ -110,9 +113,9 @@ impl Scope {
     {
         Scope {
             variables: IndexMap::new(alloc),
-            phases: IndexSet::new(alloc),
-            inputs: IndexSet::new(alloc),
-            outputs: IndexSet::new(alloc),
+            phases: NameList::new(),
+            inputs: NameList::new(),
+            outputs: NameList::new(),
         }
     }
 
@@ -146,22 +149,21 @@ impl Scope {
     pub fn phase(&self, name: u32) -> Option<u32>
         ensures { result ≡ place_of name self.now.phases }
     {
-        let place = self.phases.get_index_of(&name)?;
-        Some(place_number(self.phases.as_slice(), place))
+        self.phases.place_number(name)
     }
 
     /// The place of an input port.
     pub fn input(&self, name: u32) -> Option<usize>
         ensures { result ≡ place_of name self.now.inputs }
     {
-        self.inputs.get_index_of(&name)
+        self.inputs.place(name)
     }
 
     /// The place of an output port.
     pub fn output(&self, name: u32) -> Option<usize>
         ensures { result ≡ place_of name self.now.outputs }
     {
-        self.outputs.get_index_of(&name)
+        self.outputs.place(name)
     }
 
     /// What the variable, flag, bag or queue at a place may hold.
@@ -176,7 +178,7 @@ impl Scope {
     pub fn phase_name(&self, place: u32) -> Option<u32>
         ensures { result ≡ slice_get self.now.phases place }
     {
-        self.phases.get_index(place as usize).copied()
+        self.phases.as_slice().get(place as usize).copied()
     }
 
     /// The names of the variables, flags, bags and queues by place.
@@ -218,7 +220,7 @@ impl Scope {
     pub fn output_count(&self) -> usize
         ensures { result ≡ length self.now.outputs }
     {
-        self.outputs.len()
+        self.outputs.as_slice().len()
     }
 }
 
@@ -242,17 +244,42 @@ fn variables_of(
 fn port_names(
     alloc: Global,
     declarations: &[Declaration],
-) -> Result<(IndexSet<u32>, IndexSet<u32>), AllocError>
+) -> Result<(NameList, NameList), AllocError>
     ensures { IfOk result
-        (λ names. (names.0.keys ≡ with_names [] (inputs_in declarations.now))
-        × (names.1.keys ≡ with_names [] (outputs_in declarations.now))) }
+        (λ names. (names_in names.0 ≡ with_names [] (inputs_in declarations.now))
+        × (names_in names.1 ≡ with_names [] (outputs_in declarations.now))) }
 {
     let inputs = input_names(alloc, declarations)?;
     let outputs = output_names(alloc, declarations)?;
     Ok((inputs, outputs))
 }
 
-fn input_names(alloc: Global, declarations: &[Declaration]) -> Result<IndexSet<u32>, AllocError>
+fn input_names(alloc: Global, declarations: &[Declaration]) -> Result<NameList, AllocError>
+    ensures { IfOk result (λ names. names_in names ≡ with_names [] (inputs_in declarations.now)) }
+{
+    match few_input_names(declarations) {
+        Some(names) => Ok(NameList::Few(names)),
+        None => Ok(NameList::Many(many_input_names(alloc, declarations)?)),
+    }
+}
+
+// The names of the input ports, if they are few.
+fn few_input_names(declarations: &[Declaration]) -> Option<FewNames>
+    ensures { IfSome result (λ names. names.items ≡ with_names [] (inputs_in declarations.now)) }
+{
+    let mut names = ArrayVec::new();
+    for declaration in declarations {
+        if let Declaration::In(port) = declaration {
+            declare_among_few(&mut names, port)?;
+        }
+    }
+    Some(names)
+}
+
+fn many_input_names(
+    alloc: Global,
+    declarations: &[Declaration],
+) -> Result<IndexSet<u32>, AllocError>
     ensures { IfOk result (λ names. names.keys ≡ with_names [] (inputs_in declarations.now)) }
 {
     let mut names = IndexSet::new(alloc);
@@ -264,7 +291,34 @@ fn input_names(alloc: Global, declarations: &[Declaration]) -> Result<IndexSet<u
     Ok(names)
 }
 
-fn output_names(alloc: Global, declarations: &[Declaration]) -> Result<IndexSet<u32>, AllocError>
+fn output_names(alloc: Global, declarations: &[Declaration]) -> Result<NameList, AllocError>
+    ensures { IfOk result (λ names. names_in names
+        ≡ with_names [] (outputs_in declarations.now)) }
+{
+    match few_output_names(declarations) {
+        Some(names) => Ok(NameList::Few(names)),
+        None => Ok(NameList::Many(many_output_names(alloc, declarations)?)),
+    }
+}
+
+// The names of the output ports, if they are few.
+fn few_output_names(declarations: &[Declaration]) -> Option<FewNames>
+    ensures { IfSome result (λ names. names.items
+        ≡ with_names [] (outputs_in declarations.now)) }
+{
+    let mut names = ArrayVec::new();
+    for declaration in declarations {
+        if let Declaration::Out(port) = declaration {
+            declare_among_few(&mut names, port)?;
+        }
+    }
+    Some(names)
+}
+
+fn many_output_names(
+    alloc: Global,
+    declarations: &[Declaration],
+) -> Result<IndexSet<u32>, AllocError>
     ensures { IfOk result (λ names. names.keys ≡ with_names [] (outputs_in declarations.now)) }
 {
     let mut names = IndexSet::new(alloc);
@@ -276,7 +330,29 @@ fn output_names(alloc: Global, declarations: &[Declaration]) -> Result<IndexSet<
     Ok(names)
 }
 
-fn phase_names(alloc: Global, phases: &[Phases]) -> Result<IndexSet<u32>, AllocError>
+fn phase_names(alloc: Global, phases: &[Phases]) -> Result<NameList, AllocError>
+    ensures { IfOk result (λ names. names_in names
+        ≡ with_names [] (phases_in (map phases_of phases.now))) }
+{
+    match few_phase_names(phases) {
+        Some(names) => Ok(NameList::Few(names)),
+        None => Ok(NameList::Many(many_phase_names(alloc, phases)?)),
+    }
+}
+
+// The names of the phases, if they are few.
+fn few_phase_names(phases: &[Phases]) -> Option<FewNames>
+    ensures { IfSome result (λ names. names.items
+        ≡ with_names [] (phases_in (map phases_of phases.now))) }
+{
+    let mut names = ArrayVec::new();
+    for item in phases {
+        declare_all_among_few(&mut names, &item.names)?;
+    }
+    Some(names)
+}
+
+fn many_phase_names(alloc: Global, phases: &[Phases]) -> Result<IndexSet<u32>, AllocError>
     ensures { IfOk result (λ names. names.keys
         ≡ with_names [] (phases_in (map phases_of phases.now))) }
 {
@@ -317,11 +393,21 @@ fn declare_names(names: &mut IndexSet<u32>, declared: &[Name]) -> Result<(), All
     Ok(())
 }
 
-// A place among names of 32 bits, no two of them equal, has 32 bits.
-fn place_number(names: &[u32], place: usize) -> u32
-    requires distinct { IsDistinct nat_eq names.now }
-    requires within { place < length names.now }
-    ensures { result ≡ place }
+// One name more among few, if there is room.
+fn declare_among_few(names: &mut FewNames, name: &Name) -> Option<()>
+    ensures { OnSome result (names.new.items ≡ with_name names.old.items name.now) }
 {
-    place as u32
+    if names.as_slice().contains(&name.number) {
+        return Some(());
+    }
+    names.try_push(name.number).ok()
+}
+
+fn declare_all_among_few(names: &mut FewNames, declared: &[Name]) -> Option<()>
+    ensures { OnSome result (names.new.items ≡ with_names names.old.items declared.now) }
+{
+    for name in declared {
+        declare_among_few(names, name)?;
+    }
+    Some(())
 }

@@ -144,7 +144,7 @@ fn slips() -> &'static [Slip] {
         Slip {
             before: "",
             after: "=",
-            words: "`:=` assigns, `=` compares, and `:` stands between a part and its model.\n",
+            words: "`:=` assigns, `=` compares, and `:` stands before the model of a part, as `part a: A;`, and before a range, as `var n: 0..9 = 0;`.\n",
         },
         Slip {
             before: "",

@@ -6,21 +6,23 @@ ghost use Rattle.indexmap.specs.IndexMap.{get};
 ghost use Rattle.dv_syntax.specs.Trees.{atomic_of, hold_of, rule_of as tree_of, statements_of};
 ghost use Rattle.dv_syntax.specs.declared.tree.RuleSort.{RuleSort as DeclaredSort};
 ghost use Rattle.dv_eval.specs.Scope.{hold_ticks, rule_of, same_sort, ticks_found};
-ghost use Rattle.dv_gen.specs.Directories.{rule_found, rule_under, ticks_found_in, ticks_under};
+ghost use Rattle.dv_gen.specs.Directories.{first_rule, rule_found, rule_under, ticks_found_in, ticks_under};
 
+use dv_eval::{phase_ticks, rule_of};
 use dv_syntax::{Atomic, Hold, Rule, RuleSort, Stmt, Ticks};
 use indexmap::IndexMap;
 use std::alloc::{AllocError, Global};
 
-/// For the name of each phase its first rule of each sort, and its first hold. Each is found without
-/// a look at the others, so that all phases take a time linear in the model's text.
+/// The greatest number of rules, and of holds, that are looked for one after the other.
+const GREATEST_FEW: usize = 8;
+
+/// For the name of each phase its first rule of each sort, and its first hold. Most models have few of them, and these are
+/// searched sooner than tables are made of them. Of many each is found without a look at the others, so that all phases
+/// take a time linear in the model's text.
 #[derive(Drop)]
-pub struct Directory<'a> {
-    output: IndexMap<u32, &'a [Stmt]>,
-    internal: IndexMap<u32, &'a [Stmt]>,
-    external: IndexMap<u32, &'a [Stmt]>,
-    confluent: IndexMap<u32, &'a [Stmt]>,
-    holds: IndexMap<u32, &'a Ticks>,
+pub enum Directory<'a> {
+    Few(&'a Atomic),
+    Many(Firsts<'a>),
 }
 
 impl<'a> Directory<'a> {
@@ -35,17 +37,63 @@ impl<'a> Directory<'a> {
         ensures holds { IfOk result (λ directory. (phase : ℕ)
             → ticks_found_in directory phase ≡ hold_ticks phase (atomic_of model.now).holds) }
     {
-        let mut directory = Directory::with_holds(alloc, first_holds(alloc, &model.holds)?);
-        directory.add_rules(&model.rules)?;
-        Ok(directory)
+        if model.rules.len() <= GREATEST_FEW && model.holds.len() <= GREATEST_FEW {
+            return Ok(Directory::Few(model));
+        }
+        Ok(Directory::Many(Firsts::of(alloc, model)?))
+    }
+
+    /// The statements of the first rule of a sort for a phase, if there is such a rule.
+    pub fn rule(&self, sort: RuleSort, phase: u32) -> Option<&'a [Stmt]>
+        ensures { option_map statements_of (option_copied result)
+            ≡ rule_found self.now sort phase }
+    {
+        match self {
+            Directory::Few(model) => rule_of(*model, sort, phase),
+            Directory::Many(firsts) => firsts.rule(sort, phase),
+        }
+    }
+
+    /// The ticks of the first hold of a phase, if it has one.
+    pub fn ticks(&self, phase: u32) -> Option<&'a Ticks>
+        ensures { ticks_found (option_copied result) ≡ ticks_found_in self.now phase }
+    {
+        match self {
+            Directory::Few(model) => phase_ticks(*model, phase),
+            Directory::Many(firsts) => firsts.ticks(phase),
+        }
+    }
+}
+
+/// Tables of the first rule of each sort and of the first hold, by the names of their phases.
+#[derive(Drop)]
+pub struct Firsts<'a> {
+    output: IndexMap<u32, &'a [Stmt]>,
+    internal: IndexMap<u32, &'a [Stmt]>,
+    external: IndexMap<u32, &'a [Stmt]>,
+    confluent: IndexMap<u32, &'a [Stmt]>,
+    holds: IndexMap<u32, &'a Ticks>,
+}
+
+impl<'a> Firsts<'a> {
+    fn of(alloc: Global, model: &'a Atomic) -> Result<Self, AllocError>
+        ensures rules { IfOk result (λ firsts. (sort : DeclaredSort) (phase : ℕ)
+            → first_rule firsts sort phase ≡ rule_of sort phase (atomic_of model.now).rules) }
+        ensures holds { IfOk result (λ firsts. (phase : ℕ)
+            → ticks_under firsts.holds phase ≡ hold_ticks phase (atomic_of model.now).holds) }
+    {
+        let mut firsts = Firsts::with_holds(alloc, first_holds(alloc, &model.holds)?);
+        firsts.add_rules(&model.rules)?;
+        Ok(firsts)
     }
 
     // No rules yet.
     fn with_holds(alloc: Global, holds: IndexMap<u32, &'a Ticks>) -> Self
-        ensures rules { (sort : DeclaredSort) (phase : ℕ) → rule_found result sort phase ≡ None }
-        ensures holds { (phase : ℕ) → ticks_found_in result phase ≡ ticks_under holds.entry phase }
+        ensures rules { (sort : DeclaredSort) (phase : ℕ) → first_rule result sort phase ≡ None }
+        ensures holds { (phase : ℕ)
+            → ticks_under result.holds phase ≡ ticks_under holds.entry phase }
     {
-        Directory {
+        Firsts {
             output: IndexMap::new(alloc),
             internal: IndexMap::new(alloc),
             external: IndexMap::new(alloc),
@@ -57,8 +105,8 @@ impl<'a> Directory<'a> {
     // Adds the first rules of each sort, behind those that are there.
     fn add_rules(&mut self, rules: &'a [Rule]) -> Result<(), AllocError>
         ensures rules { OnOk result ((sort : DeclaredSort) (phase : ℕ)
-            → rule_found self.new sort phase
-            ≡ option_or (rule_found self.old sort phase)
+            → first_rule self.new sort phase
+            ≡ option_or (first_rule self.old sort phase)
             (rule_of sort phase (map tree_of rules.now))) }
         ensures holds { self.new.holds ≡ self.old.holds }
     {
@@ -68,10 +116,10 @@ impl<'a> Directory<'a> {
         add_first_rules(&mut self.confluent, RuleSort::Confluent, rules)
     }
 
-    /// The statements of the first rule of a sort for a phase, if there is such a rule.
-    pub fn rule(&self, sort: RuleSort, phase: u32) -> Option<&'a [Stmt]>
+    // The statements of the first rule of a sort for a phase, if there is such a rule.
+    fn rule(&self, sort: RuleSort, phase: u32) -> Option<&'a [Stmt]>
         ensures { option_map statements_of (option_copied result)
-            ≡ rule_found self.now sort phase }
+            ≡ first_rule self.now sort phase }
     {
         let rules = match sort {
             RuleSort::Output => &self.output,
@@ -82,9 +130,9 @@ impl<'a> Directory<'a> {
         rules.get(&phase).copied()
     }
 
-    /// The ticks of the first hold of a phase, if it has one.
-    pub fn ticks(&self, phase: u32) -> Option<&'a Ticks>
-        ensures { ticks_found (option_copied result) ≡ ticks_found_in self.now phase }
+    // The ticks of the first hold of a phase, if it has one.
+    fn ticks(&self, phase: u32) -> Option<&'a Ticks>
+        ensures { ticks_found (option_copied result) ≡ ticks_under self.now.holds phase }
     {
         self.holds.get(&phase).copied()
     }

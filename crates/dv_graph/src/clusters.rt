@@ -1,13 +1,23 @@
 //! The nodes of components, in the clusters of the coupled models around them.
 
-use crate::pieces::{push_name, push_tabs};
+use crate::pieces::{push_part, push_tabs, tabs_at};
+use crate::unlinked::{LinkedPorts, UnlinkedPort, push_unlinked};
 use dv_check::GREATEST_DEPTH;
 use dv_partition::Groups;
-use dv_syntax::Model;
 use dv_text::{WriteError, hand_over_if_long};
 use dv_tree::{Level, PlacedPart, Tree, level_at};
-use std::alloc::AllocError;
+use std::alloc::{AllocError, Global};
 use std::io::Write;
+
+/// What is drawn of a model.
+#[derive(Clone, Copy)]
+pub(crate) struct Scene<'s> {
+    pub(crate) alloc: Global,
+    pub(crate) tree: &'s Tree<'s>,
+    /// The processes, where there is a partition.
+    pub(crate) groups: Option<&'s Groups>,
+    pub(crate) linked: &'s LinkedPorts,
+}
 
 /// How many components and coupled models have been written. They are numbered so.
 #[derive(Drop)]
@@ -19,8 +29,7 @@ pub(crate) struct Counts {
 /// Writes the parts of a coupled model: a node for a component, with a colour for its process where there are groups, and a
 /// cluster for a coupled model. There may be so many levels of them.
 pub(crate) fn write_parts<W: Write>(
-    tree: &Tree,
-    groups: Option<&Groups>,
+    scene: Scene<'_>,
     level: &Level,
     depth: usize,
     counts: &mut Counts,
@@ -33,80 +42,98 @@ pub(crate) fn write_parts<W: Write>(
     let tabs = tabs_at(depth);
     for part in level.parts() {
         push_tabs(text, tabs)?;
-        match level_at(tree.levels(), part.model) {
+        match level_at(scene.tree.levels(), part.model) {
             Some(inside) => {
-                push_cluster(text, tree, part, counts, tabs)?;
-                write_parts(tree, groups, inside, depth - 1, counts, text, writer)?;
+                push_cluster(text, scene.tree, part, counts.clusters, tabs)?;
+                counts.clusters = counts.clusters.saturating_add(1);
+                write_parts(scene, inside, depth - 1, counts, text, writer)?;
                 push_tabs(text, tabs)?;
                 text.push_str("}\n")?;
             }
-            None => push_component(text, tree, groups, part, counts)?,
+            None => push_counted(text, scene, part, counts)?,
         }
         hand_over_if_long(text, writer)?;
     }
     Ok(())
 }
 
-// How many tabs indent the lines of a level at which there may be so many levels below.
-fn tabs_at(depth: usize) -> usize {
-    GREATEST_DEPTH.saturating_sub(depth).saturating_add(1)
-}
-
-// The front of a cluster.
-fn push_cluster(
+/// The front of the cluster of this number.
+pub(crate) fn push_cluster(
     text: &mut String,
     tree: &Tree,
     part: &PlacedPart,
-    counts: &mut Counts,
+    number: u32,
     tabs: usize,
 ) -> Result<(), AllocError> {
-    writeln!(text, "subgraph cluster_{} {{", counts.clusters)?;
-    counts.clusters = counts.clusters.saturating_add(1);
+    writeln!(text, "subgraph cluster_{number} {{")?;
     push_tabs(text, tabs.saturating_add(1))?;
     text.push_str("label=\"")?;
     push_part(text, tree, part)?;
     text.push_str("\"\n")
 }
 
-// The name of a part and that of its model.
-fn push_part(text: &mut String, tree: &Tree, part: &PlacedPart) -> Result<(), AllocError> {
-    push_name(text, tree.name(part.name.number))?;
-    text.push_str(": ")?;
-    push_name(text, model_name(tree, part.model))
-}
-
-fn model_name<'t>(tree: &'t Tree<'_>, place: usize) -> &'t str {
-    match tree.reached().get(place) {
-        Some(Model::Atomic(model)) => tree.name(model.name.number),
-        Some(Model::Coupled(model)) => tree.name(model.name.number),
-        None => "",
-    }
-}
-
-// The node of a component.
-fn push_component(
+// The node of the next component.
+fn push_counted(
     text: &mut String,
-    tree: &Tree,
-    groups: Option<&Groups>,
+    scene: Scene<'_>,
     part: &PlacedPart,
     counts: &mut Counts,
 ) -> Result<(), AllocError> {
     let component = counts.components;
     counts.components = component.saturating_add(1);
-    write!(text, "c{component} [label=\"")?;
-    push_part(text, tree, part)?;
-    if let Some(groups) = groups {
-        let process = groups.owner(component);
-        write!(text, "\\nprocess {process}\", fillcolor=\"0.")?;
-        push_hue(text, process, groups.processes())?;
-        text.push_str(" 0.3 1.0")?;
-    }
-    text.push_str("\"];\n")
+    let unlinked = scene
+        .linked
+        .unlinked_of(scene.alloc, scene.tree, component)?;
+    push_component(text, scene, part, component, &unlinked)
 }
 
-// The hue of a process, in thousandths: the processes share the circle of hues evenly.
-fn push_hue(text: &mut String, process: u32, processes: usize) -> Result<(), AllocError> {
-    let count = (processes as u64).max(1);
-    let hue = u64::from(process) * 1000 / count;
-    write!(text, "{hue:03}")
+/// The node of a component. What of its ports is unlinked is told in grey, where something is.
+pub(crate) fn push_component(
+    text: &mut String,
+    scene: Scene<'_>,
+    part: &PlacedPart,
+    component: u32,
+    unlinked: &[UnlinkedPort<'_>],
+) -> Result<(), AllocError> {
+    write!(text, "c{component} [label=")?;
+    if unlinked.is_empty() {
+        text.push('"')?;
+        push_part(text, scene.tree, part)?;
+        push_process(text, scene, component, "\\n")?;
+        text.push('"')?;
+    } else {
+        // No name has a character that means something here.
+        text.push('<')?;
+        push_part(text, scene.tree, part)?;
+        push_process(text, scene, component, "<br/>")?;
+        push_unlinked(text, unlinked)?;
+        text.push('>')?;
+    }
+    if let Some(groups) = scene.groups {
+        push_colour(text, groups, groups.owner(component))?;
+    }
+    text.push_str("];\n")
+}
+
+fn push_process(
+    text: &mut String,
+    scene: Scene<'_>,
+    component: u32,
+    line_break: &str,
+) -> Result<(), AllocError> {
+    match scene.groups {
+        Some(groups) => write!(text, "{line_break}process {}", groups.owner(component)),
+        None => Ok(()),
+    }
+}
+
+/// The colour of a process: the processes share the circle of hues evenly.
+pub(crate) fn push_colour(
+    text: &mut String,
+    groups: &Groups,
+    process: u32,
+) -> Result<(), AllocError> {
+    let count = (groups.processes() as u64).max(1);
+    let thousandths = u64::from(process) * 1000 / count;
+    write!(text, ", fillcolor=\"0.{thousandths:03} 0.3 1.0\"")
 }

@@ -1,6 +1,8 @@
 //! The links, as edges.
 
-use crate::pieces::{input_name, output_name, push_name, root_output};
+use crate::number::number_of;
+use crate::pieces::{inputs_of, outputs_of, port_name, push_name};
+use crate::unlinked::LinkedPorts;
 use dv_flat::{DirectLink, EntryLink, ExitLink, LinkLists};
 use dv_partition::Groups;
 use dv_text::{WriteError, hand_over_if_long};
@@ -17,8 +19,8 @@ pub(crate) fn write_direct<W: Write>(
     writer: &mut W,
 ) -> Result<(), WriteError> {
     for link in links {
-        let from = output_name(tree, link.from.component, link.from.port);
-        let to = input_name(tree, link.to.component, link.to.port);
+        let from = port_name(tree, outputs_of(tree, link.from.component), link.from.port);
+        let to = port_name(tree, inputs_of(tree, link.to.component), link.to.port);
         write!(
             text,
             "\tc{} -> c{} [label=\"",
@@ -39,7 +41,7 @@ pub(crate) fn write_entries<W: Write>(
     writer: &mut W,
 ) -> Result<(), WriteError> {
     for link in links {
-        let to = input_name(tree, link.to.component, link.to.port);
+        let to = port_name(tree, inputs_of(tree, link.to.component), link.to.port);
         write!(text, "\ti{} -> c{} [label=\"", link.from, link.to.component)?;
         push_name(text, to)?;
         push_rest(text, link.copies, false)?;
@@ -56,7 +58,7 @@ pub(crate) fn write_exits<W: Write>(
     writer: &mut W,
 ) -> Result<(), WriteError> {
     for link in links {
-        let from = output_name(tree, link.from.component, link.from.port);
+        let from = port_name(tree, outputs_of(tree, link.from.component), link.from.port);
         write!(text, "\tc{} -> o{} [label=\"", link.from.component, link.to)?;
         push_name(text, from)?;
         push_rest(text, link.copies, false)?;
@@ -78,28 +80,47 @@ pub(crate) fn write_links<W: Write>(
     write_exits(tree, &links.exits, text, writer)
 }
 
-/// The nodes of the root's inputs.
-pub(crate) fn push_inputs(text: &mut String, names: &[String]) -> Result<(), AllocError> {
+/// The nodes of the root's inputs. Those that no link takes are grey.
+pub(crate) fn push_inputs(
+    text: &mut String,
+    names: &[String],
+    linked: &LinkedPorts,
+) -> Result<(), AllocError> {
     for (port, name) in names.iter().enumerate() {
         write!(text, "\ti{port} [label=\"")?;
         push_name(text, name.as_str())?;
-        text.push_str("\", shape=invhouse, style=solid];\n")?;
+        text.push_str("\", shape=invhouse, style=solid")?;
+        push_node_end(text, linked.has_root_input(number_of(port)))?;
     }
     Ok(())
 }
 
-/// The nodes of the root's outputs.
-pub(crate) fn push_outputs(text: &mut String, tree: &Tree) -> Result<(), AllocError> {
+/// The nodes of the root's outputs. Those that no link takes are grey.
+pub(crate) fn push_outputs(
+    text: &mut String,
+    tree: &Tree,
+    linked: &LinkedPorts,
+) -> Result<(), AllocError> {
     for port in 0..tree.output_count() {
         write!(text, "\to{port} [label=\"")?;
         push_name(text, tree.output_name(port))?;
-        text.push_str("\", shape=house, style=solid];\n")?;
+        text.push_str("\", shape=house, style=solid")?;
+        push_node_end(text, linked.has_root_output(number_of(port)))?;
     }
     Ok(())
 }
 
-// Whether a link leads to another process.
-fn is_crossing(groups: Option<&Groups>, link: &DirectLink) -> bool {
+// The end of the node of a port.
+fn push_node_end(text: &mut String, is_linked: bool) -> Result<(), AllocError> {
+    text.push_str(if is_linked {
+        "];\n"
+    } else {
+        ", color=gray40, fontcolor=gray40];\n"
+    })
+}
+
+/// Whether a link leads to another process.
+pub(crate) fn is_crossing(groups: Option<&Groups>, link: &DirectLink) -> bool {
     match groups {
         Some(groups) => groups.owner(link.from.component) != groups.owner(link.to.component),
         None => false,

@@ -7,12 +7,12 @@ use crate::models::model_around;
 use crate::reading::{ReadText, read};
 use crate::reason::Search;
 use crate::repeats::{repeat_at, repeated_link};
-use crate::roots::{atomic_root, limit_at, own_part, unknown_root};
+use crate::roots::{atomic_root, limit_at, own_part, too_long, unknown_root};
 use crate::starts::start_at;
 use crate::statements::look_through_model;
 use crate::words::cause_of;
 use dv_explain::{Cause, nesting_at, stray_at, unexpected_at};
-use dv_lex::{RefusalNumber, TextError};
+use dv_lex::{GREATEST_LENGTH, RefusalNumber, TextError};
 use dv_syntax::{Atomic, Coupled, Model};
 use std::alloc::{AllocError, Global};
 
@@ -29,6 +29,7 @@ pub fn hint_on(alloc: Global, text: &[u8], refusal: &TextError) -> Result<Cause,
         RefusalNumber::E3 => Cause::of(alloc, "a number above 9223372036854775807", ""),
         RefusalNumber::E4 => unexpected_at(alloc, text, place),
         RefusalNumber::E5 => Cause::of(alloc, nesting_at(text, place), ""),
+        RefusalNumber::E17 if text.len() > GREATEST_LENGTH => too_long(alloc, text.len()),
         _ => match read(alloc, text)? {
             Some(read) => hint_in_tree(alloc, text, &read, refusal),
             None => Cause::of(alloc, "", ""),

@@ -28,8 +28,8 @@ mod missing;
 /// The models of a text.
 mod models;
 
-/// Near names.
-mod near;
+/// Near names, which other refusals of names tell too.
+pub mod near;
 
 /// What is wrong at a place of an atomic model.
 mod reason;
@@ -62,3 +62,4 @@ mod wanted;
 mod words;
 
 pub use hint::hint_on;
+pub use near::unknown_name;

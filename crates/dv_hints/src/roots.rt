@@ -6,6 +6,7 @@ use crate::models::{model_around, model_named};
 use crate::reading::ReadText;
 use crate::sorts::{NameSort, name_of as name_of_declaration, sort_of};
 use dv_explain::{Cause, Quoted};
+use dv_lex::GREATEST_LENGTH;
 use dv_syntax::{Atomic, Declaration, Model, StateCollection};
 use std::alloc::{AllocError, Global};
 
@@ -130,6 +131,18 @@ pub fn limit_at(alloc: Global, read: &ReadText, place: u32) -> Result<Cause, All
         });
     }
     Cause::of(alloc, "more than 4,096 names of one kind", "")
+}
+
+/// The cause where a text has so many bytes, which are too many.
+///
+/// # Errors
+///
+/// No memory for the words.
+pub fn too_long(alloc: Global, length: usize) -> Result<Cause, AllocError> {
+    Ok(Cause {
+        summary: format!(in alloc; "the text has {length} bytes, more than {GREATEST_LENGTH}")?,
+        sentences: String::new(alloc),
+    })
 }
 
 fn too_large(alloc: Global, read: &ReadText) -> Result<Cause, AllocError> {

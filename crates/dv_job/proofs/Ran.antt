@@ -287,15 +287,6 @@ planned_tree model inputs partition limit tree groups played m cut read = record
   parted = cut;
 }
 
--- a partition that is refused
-pub left_by_partition : (e : PartitionError) (model inputs : List ℕ) (partition : Partition) (o : Options) (old : Option (List ℕ))
-    (tree : Source) → IsModelOf model tree.names (file_of tree.file)
-    → IsErrorOf (partition_answer (paths_of tree.names (file_of tree.file)) partition) e
-    → LeftByRun (job_error_of_partition e) model inputs partition o old old
-left_by_partition (parting.Refused r) model inputs partition o old tree m refused =
-    (record { names = tree.names; file = file_of tree.file; accepted = m; refused = refused }, kept old)
-left_by_partition parting.Memory model inputs partition o old tree m refused = inl (kept old)
-
 -- no plan of a partition that is refused
 pub unplanned : (e : PartitionError) (model : List ℕ) (partition : Partition) (tree : Source)
     → IsModelOf model tree.names (file_of tree.file)
@@ -305,29 +296,18 @@ unplanned (parting.Refused r) model partition tree m refused =
     record { names = tree.names; file = file_of tree.file; accepted = m; refused = refused }
 unplanned parting.Memory model partition tree m refused = tt
 
--- inputs that were not read
-pub left_by_last : (e : InputsError) (model inputs : List ℕ) (partition : Partition) (o : Options) (old : Option (List ℕ)) (tree : Source)
-    (groups : Grouping) → IsModelOf model tree.names (file_of tree.file)
-    → partition_answer (paths_of tree.names (file_of tree.file)) partition ≡ Ok groups
-    → ((r : InputRefusal) → ◌≡◌ {A = Result (List Input) InputsError} (Err e) (Err (input.Refused r))
-    → reading_of inputs (tree_inputs tree) o.limit ≡ Err r)
-    → LeftByRun (job_error_of_inputs e) model inputs partition o old old
-left_by_last (input.Refused r) model inputs partition o old tree groups m cut refused = (
-  record {
-    names = tree.names;
-    file = file_of tree.file;
-    groups = groups;
-    accepted = m;
-    parted = cut;
-    refused = refused r refl;
-  },
-  kept old,
-)
-left_by_last input.Memory model inputs partition o old tree groups m cut refused = inl (kept old)
+-- what is left where no run was set up
+pub left_by_answer : (e : JobError) (model inputs : List ℕ) (partition : Partition) (o : Options) (old : Option (List ℕ))
+    → AnswersSteps model inputs partition o.limit e → LeftByRun e model inputs partition o old old
+left_by_answer (error.Text e) model inputs partition o old h = (h, kept old)
+left_by_answer (error.Partition r) model inputs partition o old h = (h, kept old)
+left_by_answer (error.Inputs r) model inputs partition o old h = (h, kept old)
+left_by_answer error.Write model inputs partition o old h = absurd h
+left_by_answer error.Memory model inputs partition o old h = inl (kept old)
 
--- ---- Steps
+-- ---- A run is set up
 
--- no steps of a partition that is refused
+-- nothing is set up of a partition that is refused
 pub unstepped_groups : (e : PartitionError) (model inputs : List ℕ) (partition : Partition) (limit : ℕ) (tree : Source)
     → IsModelOf model tree.names (file_of tree.file)
     → IsErrorOf (partition_answer (paths_of tree.names (file_of tree.file)) partition) e

@@ -25,6 +25,8 @@ pub mod planned;
 mod rounds;
 /// The run of a model in processes.
 pub mod run;
+/// What a run of an accepted text is set up from.
+mod setup;
 /// The run of a model by a list of steps of its processes.
 pub mod steps;
 /// The run of a model in processes on threads.

@@ -6,16 +6,15 @@ ghost use Rattle.dv_job.specs.Job.{IsModelOf};
 ghost use Rattle.dv_job.specs.Running.{EndsBy, LeftByRun};
 
 use crate::ended::{JobEnded, JobError};
-use crate::load::{accept, load, load_groups, load_inputs};
+use crate::load::{accept, load};
 use crate::options::Options;
 use crate::rounds::granted;
+use crate::setup::{Setup, set_up};
 use crate::written::write_end;
 use dv_bag::Bags;
-use dv_flat::flatten;
 use dv_partition::Partition;
 use dv_planned::TextJob;
 use dv_run::compiled_run;
-use dv_sound::numbers::inputs_are_of_numbers;
 use dv_text::laws::a_trace_is_its_pieces;
 use dv_tree::Tree;
 use std::alloc::Global;
@@ -66,14 +65,14 @@ fn run_tree<W: Write>(
 {
     // The lines of a trace are continued by those of what is since.
     a_trace_is_its_pieces::<Bags>();
-    // The values of inputs that were read are numbers of the language.
-    inputs_are_of_numbers();
-    let links = flatten(alloc, tree)?;
-    let groups = load_groups(alloc, tree, groups)?;
-    let played = load_inputs(alloc, inputs, tree, options.limit)?;
+    let Setup {
+        links,
+        groups,
+        inputs,
+    } = set_up(alloc, tree, model, inputs, groups, options.limit)?;
     let job = TextJob {
         tree,
-        inputs: &played,
+        inputs: &inputs,
         groups: &groups,
         horizon: options.horizon,
         limit: options.limit,

@@ -6,15 +6,14 @@ ghost use Rattle.dv_job.specs.Job.{IsModelOf};
 ghost use Rattle.dv_job.specs.Stepping.{AnswersSteps, HasSteppedText};
 
 use crate::ended::JobError;
-use crate::load::{accept, load, load_groups, load_inputs};
+use crate::load::{accept, load};
 use crate::options::Options;
+use crate::setup::{Setup, set_up};
 use dv_core::Step;
-use dv_flat::flatten;
 use dv_partition::Partition;
 use dv_plan::Stepped;
 use dv_planned::TextJob;
 use dv_run::compiled_steps;
-use dv_sound::numbers::inputs_are_of_numbers;
 use dv_tree::Tree;
 use std::alloc::Global;
 
@@ -61,14 +60,14 @@ fn step_tree(
     ensures error { IfErr result (AnswersSteps model.now inputs.now groups.entry
         options.now.limit) }
 {
-    // The values of inputs that were read are numbers of the language.
-    inputs_are_of_numbers();
-    let links = flatten(alloc, tree)?;
-    let groups = load_groups(alloc, tree, groups)?;
-    let played = load_inputs(alloc, inputs, tree, options.limit)?;
+    let Setup {
+        links,
+        groups,
+        inputs,
+    } = set_up(alloc, tree, model, inputs, groups, options.limit)?;
     let job = TextJob {
         tree,
-        inputs: &played,
+        inputs: &inputs,
         groups: &groups,
         horizon: options.horizon,
         limit: options.limit,

@@ -5,13 +5,14 @@ use Rattle.std.proofs.Common.{ap, sym, ◌∙◌, subst, arith}
 use Rattle.std.specs.List.{list_all, list_any}
 use Rattle.std.specs.Prelude.{is_none}
 use Rattle.std.proofs.lemmas.Bool.Decides.{nat_tests}
-use Rattle.dv_time.specs.Time.{IsOfRun, end_of, rank}
+use Rattle.dv_time.specs.Time.{IsOfRun, end_of, rank, time_of}
 use Rattle.dv_time.specs.declared.time.Time.{Time}
 use Rattle.dv_conservative.proofs.Settled.{least_within}
 use Rattle.dv_conservative.specs.Events.{Event}
 use Rattle.dv_conservative.specs.Process.{IsWithin, Share, at_most, end_rank, events_by, least_clock, least_of, promise}
 use Rattle.dv_conservative.specs.Promise.{foreseen}
 use Rattle.dv_conservative.specs.Turn.{Done, IsTurnOf, Moved, Position, Turned, Waiting, all_free, some_prepared, turned}
+use Rattle.dv_devs.proofs.NextTimes.{rank_at_time, time_of_run}
 use Rattle.dv_proc.proofs.Arrived.{nothing_left}
 use Rattle.dv_proc.proofs.Received.{least_meant}
 use Rattle.dv_proc.proofs.Turns.{free_ended, prepared_ended, process_ended, promise_found, turn_ended}
@@ -54,6 +55,33 @@ least_before_end s is limit horizon r le he e =
     let last : end_of limit horizon ≡ end_rank s = ap (λ (l : ℕ). end_of l horizon) le ∙ ap (end_of s.limit) he in
     omega (arith, least_within s (received_by is))
 
+-- a time of the run is the end, where it is not before it
+at_end : (v : View) (now : Time) (limit horizon : ℕ) → limit ≡ v.share.limit → horizon ≡ v.share.horizon →
+    rank v.share.limit now ≤ end_rank v.share → (b : Bool) → b ≡ nat_lt (rank limit now) (end_of limit horizon) →
+    not b ≡ nat_eq (rank v.share.limit now) (end_rank v.share)
+at_end v now limit horizon le he within b h =
+    let last : end_of limit horizon ≡ end_rank v.share = ap (λ (l : ℕ). end_of l horizon) le ∙ ap (end_of v.share.limit) he in
+    let here : rank v.share.limit now ≡ rank limit now = ap (λ (l : ℕ). rank l now) (sym le) in
+    ap not h ∙ ap (λ (i : ℕ). not (nat_lt i (end_of limit horizon))) (sym here)
+    ∙ ap (λ (i : ℕ). not (nat_lt (rank v.share.limit now) i)) last
+    ∙ not_before (rank v.share.limit now) (end_rank v.share) within
+  where
+    not_before : (i j : ℕ) → i ≤ j → not (nat_lt i j) ≡ nat_eq i j
+    not_before i j le = grind (arith, nat_tests)
+
+-- the answer, from what the code finds of the positions before and after
+answer_by : (s : Share) (x y : Position) (ended free rose prepared : Bool) → ended ≡ nat_eq (rank s.limit y.clock) (end_rank s) →
+    free ≡ all_free y s.outgoing → rose ≡ nat_lt (rank s.limit x.clock) (rank s.limit y.clock) →
+    prepared ≡ some_prepared x y s.outgoing → cond (ended && free) Done (cond (rose || prepared) Moved Waiting) ≡ turned s x y
+answer_by s x y ended free rose prepared e f r p =
+    ap (λ (t : Bool). cond (t && free) Done (cond (rose || prepared) Moved Waiting)) e
+    ∙ ap (λ (t : Bool). cond (nat_eq (rank s.limit y.clock) (end_rank s) && t) Done (cond (rose || prepared) Moved Waiting)) f
+    ∙ ap (λ (t : Bool).
+    cond (nat_eq (rank s.limit y.clock) (end_rank s) && all_free y s.outgoing) Done (cond (t || prepared) Moved Waiting)) r
+    ∙ ap (λ (t : Bool).
+    cond (nat_eq (rank s.limit y.clock) (end_rank s) && all_free y s.outgoing) Done
+    (cond (nat_lt (rank s.limit x.clock) (rank s.limit y.clock) || t) Moved Waiting)) p
+
 module _ (v : View) (is : List Incoming) (xs ms ys : List Outgoing) (emitted : Bool) (clock now upto : Time)
     (midway : IsMidway v is xs emitted now)
     (limit horizon m n : ℕ) (le : limit ≡ v.share.limit) (he : horizon ≡ v.share.horizon) (me : m ≡ least_clock v.share (received_by is))
@@ -88,34 +116,67 @@ module _ (v : View) (is : List Incoming) (xs ms ys : List Outgoing) (emitted : B
   pub whole_turn : IsTurnOf v.share (received_by is) (position_by clock xs) (position_by now ys)
   whole_turn = turn_ended v is xs ys emitted clock now upto midway of_run_v far finished rises goes_v
 
-  at_end : (b : Bool) → b ≡ nat_lt (rank limit now) (end_of limit horizon) → not b ≡ nat_eq (rank v.share.limit now) (end_rank v.share)
-  at_end b h =
-      let last : end_of limit horizon ≡ end_rank v.share = ap (λ (l : ℕ). end_of l horizon) le ∙ ap (end_of v.share.limit) he in
-      let within : rank v.share.limit now ≤ end_rank v.share = midway.within.1 in
-      ap not h ∙ ap (λ (i : ℕ). not (nat_lt i (end_of limit horizon))) (sym at_now)
-      ∙ ap (λ (i : ℕ). not (nat_lt (rank v.share.limit now) i)) last
-      ∙ not_before (rank v.share.limit now) (end_rank v.share) within
-    where
-      not_before : (i j : ℕ) → i ≤ j → not (nat_lt i j) ≡ nat_eq i j
-      not_before i j le = grind (arith, nat_tests)
-
   pub whole_answer : (before free rose prepared : Bool) → before ≡ nat_lt (rank limit now) (end_of limit horizon) →
       free ≡ list_all (λ (o : Outgoing). is_none o.standing) ys → rose ≡ nat_lt (rank limit clock) (rank limit now) →
       prepared ≡ list_any (is_prepared upto) xs →
       cond (not before && free) Done (cond (rose || prepared) Moved Waiting) ≡ turned v.share (position_by clock xs) (position_by now ys)
   whole_answer before free rose prepared b f r p =
-      let free_is : free ≡ all_free (position_by now ys) v.share.outgoing
-      = f ∙ sym (free_ended v is xs ys emitted clock now upto midway of_run_v far finished) in
-      let prepared_is : prepared ≡ some_prepared (position_by clock xs) (position_by now ys) v.share.outgoing
-      = p ∙ sym (prepared_ended v is xs ys emitted clock now upto midway of_run_v far finished) in
-      let rose_is : rose ≡ nat_lt (rank v.share.limit clock) (rank v.share.limit now)
-      = r ∙ ap (λ (i : ℕ). nat_lt i (rank limit now)) (sym at_clock) ∙ ap (nat_lt (rank v.share.limit clock)) (sym at_now) in
-      ap (λ (t : Bool). cond (t && free) Done (cond (rose || prepared) Moved Waiting)) (at_end before b)
-      ∙ ap (λ (t : Bool). cond (nat_eq (rank v.share.limit now) (end_rank v.share) && t) Done (cond (rose || prepared) Moved Waiting))
-      free_is
-      ∙ ap (λ (t : Bool).
-      cond (nat_eq (rank v.share.limit now) (end_rank v.share) && all_free (position_by now ys) v.share.outgoing) Done
-      (cond (t || prepared) Moved Waiting)) rose_is
-      ∙ ap (λ (t : Bool).
-      cond (nat_eq (rank v.share.limit now) (end_rank v.share) && all_free (position_by now ys) v.share.outgoing) Done
-      (cond (nat_lt (rank v.share.limit clock) (rank v.share.limit now) || t) Moved Waiting)) prepared_is
+      answer_by v.share (position_by clock xs) (position_by now ys) (not before) free rose prepared
+      (at_end v now limit horizon le he midway.within.1 before b)
+      (f ∙ sym (free_ended v is xs ys emitted clock now upto midway of_run_v far finished))
+      (r ∙ ap (λ (i : ℕ). nat_lt i (rank limit now)) (sym at_clock) ∙ ap (nat_lt (rank v.share.limit clock)) (sym at_now))
+      (p ∙ sym (prepared_ended v is xs ys emitted clock now upto midway of_run_v far finished))
+
+-- a turn of a process from which no link leads away
+module _ (v : View) (is : List Incoming) (xs : List Outgoing) (emitted : Bool) (clock now : Time) (midway : IsMidway v is xs emitted now)
+    (none : length xs ≡ 0) (limit horizon m : ℕ) (le : limit ≡ v.share.limit) (he : horizon ≡ v.share.horizon)
+    (me : m ≡ least_clock v.share (received_by is)) (heard : rank limit clock ≤ m)
+    (goes : (rank limit now ≡ m) ⊎ (rank limit clock < rank limit now)) where
+  abbrev until : Time
+  until = time_of v.share.limit (promise v.share (received_by is) (rank v.share.limit now))
+
+  until_of_run : IsOfRun v.share.limit until
+  until_of_run = time_of_run v.share.limit (promise v.share (received_by is) (rank v.share.limit now))
+
+  until_far : rank v.share.limit until ≡ promise v.share (received_by is) (rank v.share.limit now)
+  until_far = rank_at_time v.share.limit (promise v.share (received_by is) (rank v.share.limit now))
+
+  unfinished : AreBeside (λ j. IsFinished emitted now until) xs xs
+  unfinished = (refl, λ j d lt. absurd (omega (arith, none)))
+
+  now_is : rank v.share.limit now ≡ rank limit now
+  now_is = ap (λ (l : ℕ). rank l now) (sym le)
+
+  clock_is : rank v.share.limit clock ≡ rank limit clock
+  clock_is = ap (λ (l : ℕ). rank l clock) (sym le)
+
+  rises_alone : rank v.share.limit clock ≤ rank v.share.limit now
+  rises_alone = elim goes [ inl last ↦ omega (arith, now_is, clock_is) | inr up ↦ omega (arith, now_is, clock_is) ]
+
+  goes_alone : (rank v.share.limit now ≡ least_clock v.share (received_by is)) ⊎ (rank v.share.limit clock < rank v.share.limit now)
+  goes_alone = elim goes [ inl last ↦ inl (now_is ∙ last ∙ me) | inr up ↦ inr (omega (arith, now_is, clock_is)) ]
+
+  pub alone_process : IsProcess v is xs now
+  alone_process = process_ended v is xs xs emitted clock now until midway until_of_run until_far unfinished
+
+  pub alone_turn : IsTurnOf v.share (received_by is) (position_by clock xs) (position_by now xs)
+  alone_turn = turn_ended v is xs xs emitted clock now until midway until_of_run until_far unfinished rises_alone goes_alone
+
+  no_link : (f : Outgoing → Bool) → (list_all f xs ≡ true) × (list_any f xs ≡ false)
+  no_link f = ends xs none
+    where
+      ends : (ys : List Outgoing) → length ys ≡ 0 → (list_all f ys ≡ true) × (list_any f ys ≡ false)
+      ends [] e = (refl, refl)
+      ends (y ∷ ys) e = absurd (omega arith)
+
+  pub alone_answer : (before rose : Bool) → before ≡ nat_lt (rank limit now) (end_of limit horizon) →
+      rose ≡ nat_lt (rank limit clock) (rank limit now) →
+      cond (not before && true) Done (cond (rose || false) Moved Waiting) ≡ turned v.share (position_by clock xs) (position_by now xs)
+  alone_answer before rose b r =
+      answer_by v.share (position_by clock xs) (position_by now xs) (not before) true rose false
+      (at_end v now limit horizon le he midway.within.1 before b)
+      (sym (no_link (λ (o : Outgoing). is_none o.standing)).0
+      ∙ sym (free_ended v is xs xs emitted clock now until midway until_of_run until_far unfinished))
+      (r ∙ ap (λ (i : ℕ). nat_lt i (rank limit now)) (sym clock_is) ∙ ap (nat_lt (rank v.share.limit clock)) (sym now_is))
+      (sym (no_link (is_prepared until)).1
+      ∙ sym (prepared_ended v is xs xs emitted clock now until midway until_of_run until_far unfinished))

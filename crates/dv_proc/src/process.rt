@@ -297,7 +297,7 @@ impl<L: Local> Process<L> {
         Ok(self.finish(&frame, least, now.is_before(frame.end()), now))
     }
 
-    // Ends a turn at a time: packets are prepared, and the clock is the time.
+    // Ends a turn at a time: packets are prepared, and the clock is the time. Where no link leads away nothing is promised.
     fn finish(&mut self, frame: &Frame, least: Time, emitted: bool, now: Time) -> Turned
         requires limit { frame.now.limit ≡ (L.view self.old.local).share.limit }
         requires horizon { frame.now.horizon ≡ (L.view self.old.local).share.horizon }
@@ -327,9 +327,13 @@ impl<L: Local> Process<L> {
         ensures local { self.new.local ≡ self.old.local }
         ensures incoming { self.new.incoming ≡ self.old.incoming }
     {
+        let rose = self.clock.is_before(now);
+        if self.outgoing.as_slice().is_empty() {
+            self.clock = now;
+            return answer(!now.is_before(frame.end()), true, rose, false);
+        }
         let upto = promise_at(&self.local, frame, least, now);
         let prepared = can_prepare_any(self.outgoing.as_slice(), upto);
-        let rose = self.clock.is_before(now);
         finish_all(self.alloc, self.outgoing.as_mut_slice(), emitted, now, upto);
         self.clock = now;
         let free = are_free(self.outgoing.as_slice());

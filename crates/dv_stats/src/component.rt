@@ -86,7 +86,7 @@ impl ComponentCount {
     ) -> Result<Self, AllocError> {
         let mut variables = Vec::with_capacity(alloc, scope.domains().len())?;
         for domain in scope.domains() {
-            variables.push(VariableCount::new(*domain))?;
+            variables.push(VariableCount::new(*domain, span.from))?;
         }
         let mut count = ComponentCount {
             transitions: Transitions::NONE,
@@ -103,22 +103,22 @@ impl ComponentCount {
         Ok(count)
     }
 
-    /// Time passes up to a tick. The ticks behind a fault count for no phase and no variable.
-    pub(crate) fn pass(&mut self, tick: u64) {
-        let ticks = tick.saturating_sub(self.tick);
-        if ticks == 0 {
-            return;
+    /// The trace ends before a tick. The ticks behind a fault count for no phase and no variable.
+    pub(crate) fn finish(&mut self, tick: u64) {
+        self.pass(tick);
+        if self.fault.is_none() {
+            pass_all(&mut self.variables, tick);
         }
+    }
+
+    // Time passes up to a tick.
+    fn pass(&mut self, tick: u64) {
+        let ticks = tick.saturating_sub(self.tick);
         self.tick = tick;
         if self.fault.is_some() {
             self.faulted = self.faulted.saturating_add(ticks);
-            return;
-        }
-        if let Some(count) = self.phases.get_mut(self.phase) {
+        } else if let Some(count) = self.phases.get_mut(self.phase) {
             count.ticks = count.ticks.saturating_add(ticks);
-        }
-        for variable in &mut self.variables {
-            variable.pass(ticks);
         }
     }
 
@@ -126,7 +126,7 @@ impl ComponentCount {
     pub(crate) fn add(&mut self, entry: &Entry<'_>, span: Span) -> Result<(), AllocError> {
         match span.side_of(entry.time.tick) {
             Side::Before => {
-                self.stand(entry);
+                self.stand(entry, span.from);
                 Ok(())
             }
             Side::Within => self.count(entry),
@@ -135,13 +135,13 @@ impl ComponentCount {
     }
 
     // What a line before the span says: where the component stands from then on.
-    fn stand(&mut self, entry: &Entry<'_>) {
+    fn stand(&mut self, entry: &Entry<'_>, from: u64) {
         self.set_visits(0);
         match &entry.happening {
             Happening::Transition { phase, state, .. } => {
                 self.phase = *phase as usize;
                 self.set_visits(1);
-                stand_all(&mut self.variables, state);
+                stand_all(&mut self.variables, state, from);
             }
             Happening::Fault(fault) => {
                 self.fault = Some((*fault, entry.time));
@@ -150,19 +150,30 @@ impl ComponentCount {
         }
     }
 
-    // What a line within the span says.
+    // What a line within the span says. Variables behind a fault hold nothing.
     fn count(&mut self, entry: &Entry<'_>) -> Result<(), AllocError> {
-        self.pass(entry.time.tick);
+        let tick = entry.time.tick;
+        self.pass(tick);
         match &entry.happening {
             Happening::Transition { kind, phase, state } => {
                 self.transitions.add(*kind);
                 self.enter(*phase as usize);
-                hold_all(&mut self.variables, state);
+                if self.fault.is_none() {
+                    hold_all(&mut self.variables, state, tick);
+                }
             }
-            Happening::Fault(fault) => self.fault = Some((*fault, entry.time)),
+            Happening::Fault(fault) => {
+                if self.fault.is_none() {
+                    pass_all(&mut self.variables, tick);
+                }
+                self.fault = Some((*fault, entry.time));
+            }
         }
         send_all(&mut self.ports, &entry.sent);
-        tally_all(&mut self.tallies, entry.time.tick, &entry.sent)
+        if self.tallies.is_empty() {
+            return Ok(());
+        }
+        tally_all(&mut self.tallies, tick, &entry.sent)
     }
 
     fn enter(&mut self, phase: usize) {
@@ -182,9 +193,9 @@ impl ComponentCount {
     }
 }
 
-fn stand_all(variables: &mut [VariableCount], state: &[Datum<'_>]) {
+fn stand_all(variables: &mut [VariableCount], state: &[Datum<'_>], from: u64) {
     for (variable, datum) in variables.iter_mut().zip(state) {
-        variable.stand(*datum);
+        variable.stand(*datum, from);
     }
 }
 
@@ -194,9 +205,15 @@ fn cease_all(variables: &mut [VariableCount]) {
     }
 }
 
-fn hold_all(variables: &mut [VariableCount], state: &[Datum<'_>]) {
+fn pass_all(variables: &mut [VariableCount], tick: u64) {
+    for variable in variables {
+        variable.pass(tick);
+    }
+}
+
+fn hold_all(variables: &mut [VariableCount], state: &[Datum<'_>], tick: u64) {
     for (variable, datum) in variables.iter_mut().zip(state) {
-        variable.hold(*datum);
+        variable.hold(*datum, tick);
     }
 }
 

@@ -106,7 +106,7 @@ impl Counts {
         self.span = self.span.cut(self.ticks);
         for component in &mut self.components {
             if let Some(component) = component {
-                component.pass(self.span.before);
+                component.finish(self.span.before);
             }
         }
     }

@@ -32,16 +32,23 @@ impl PortCount {
     {
         self.instants = self.instants.saturating_add(1);
         self.values = self.values.saturating_add(values.count);
-        sum_up(&mut self.sent, values);
+        if values.count == 1 {
+            add_number(&mut self.sent, values.text);
+        } else {
+            add_numbers(&mut self.sent, values.text);
+        }
+    }
+}
+
+fn add_numbers(sent: &mut Summary, text: &str) {
+    for piece in text.split(',') {
+        add_number(sent, piece);
     }
 }
 
 // The reader of the trace takes nothing but numbers between commas.
-fn sum_up(sent: &mut Summary, values: Values<'_>) {
-    for piece in values.text.split(',') {
-        if let Ok(value) = piece.parse::<i64>() {
-            sent.meet(value);
-            sent.weigh(value, 1);
-        }
+fn add_number(sent: &mut Summary, text: &str) {
+    if let Ok(value) = text.parse::<i64>() {
+        sent.add(value);
     }
 }

@@ -37,10 +37,20 @@ impl Summary {
         });
     }
 
+    /// A value is among them, and in the sum.
+    pub(crate) fn add(&mut self, value: i64) {
+        self.meet(value);
+        self.sum = with(self.sum, value);
+    }
+
     /// The sum has so many copies of a value more.
     pub(crate) fn weigh(&mut self, value: i64, copies: u64) {
         self.sum = with_copies(self.sum, value, copies);
     }
+}
+
+fn with(sum: Option<i128>, value: i64) -> Option<i128> {
+    sum?.checked_add(i128::from(value))
 }
 
 // Nothing wraps: the product of two numbers of 64 bits has 128.

@@ -8,30 +8,37 @@ use dv_trace::Datum;
 #[derive(Clone, Copy)]
 pub(crate) struct VariableCount {
     now: i64,
+    // The tick up to which the sum is made. Since then it holds the same.
+    since: u64,
     /// The least and the greatest of what it held, and the sum over all ticks.
     pub(crate) held: Summary,
 }
 
 impl VariableCount {
-    /// A variable at the start.
-    pub(crate) fn new(domain: Domain) -> Self {
-        VariableCount::standing(match domain {
+    /// A variable at the start of the model. The span begins at a tick.
+    pub(crate) fn new(domain: Domain, from: u64) -> Self {
+        let now = match domain {
             Domain::Number(range) => range.start,
             Domain::Flag { start } => i64::from(start),
             Domain::Held { .. } => 0,
-        })
+        };
+        VariableCount::standing(now, from)
     }
 
     // A variable that holds a value where the span begins.
-    fn standing(now: i64) -> Self {
+    fn standing(now: i64, from: u64) -> Self {
         let mut held = Summary::NOTHING;
         held.meet(now);
-        VariableCount { now, held }
+        VariableCount {
+            now,
+            since: from,
+            held,
+        }
     }
 
-    /// It holds something before the span: what it held until then does not count.
-    pub(crate) fn stand(&mut self, datum: Datum<'_>) {
-        *self = VariableCount::standing(number_of(datum));
+    /// It holds something before the span, which begins at a tick: what it held until then does not count.
+    pub(crate) fn stand(&mut self, datum: Datum<'_>, from: u64) {
+        *self = VariableCount::standing(number_of(datum), from);
     }
 
     /// It holds nothing more before the span.
@@ -39,15 +46,20 @@ impl VariableCount {
         self.held = Summary::NOTHING;
     }
 
-    /// So many ticks pass.
-    pub(crate) fn pass(&mut self, ticks: u64) {
-        self.held.weigh(self.now, ticks);
+    /// It held the same up to a tick.
+    pub(crate) fn pass(&mut self, tick: u64) {
+        self.held.weigh(self.now, tick.saturating_sub(self.since));
+        self.since = tick;
     }
 
-    /// It holds something from now on.
-    pub(crate) fn hold(&mut self, datum: Datum<'_>) {
-        self.now = number_of(datum);
-        self.held.meet(self.now);
+    /// It holds something from a tick on.
+    pub(crate) fn hold(&mut self, datum: Datum<'_>, tick: u64) {
+        let number = number_of(datum);
+        if number != self.now {
+            self.pass(tick);
+            self.now = number;
+            self.held.meet(number);
+        }
     }
 }
 

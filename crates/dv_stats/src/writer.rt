@@ -4,7 +4,7 @@ use crate::counter::Counter;
 use crate::error::StatsError;
 use crate::listing::write_counts;
 use crate::options::StatsOptions;
-use dv_trace::{End, Reach};
+use dv_trace::{End, LineBuffer, Reach};
 use dv_tree::Tree;
 use std::alloc::Global;
 use std::io;
@@ -18,8 +18,7 @@ pub struct StatsWriter<'t> {
     tree: &'t Tree<'t>,
     options: StatsOptions<'t>,
     counter: Counter<'t>,
-    // The beginning of a line whose end has not come yet.
-    line: Vec<u8>,
+    lines: LineBuffer,
     // Why nothing more is counted.
     error: Option<StatsError>,
 }
@@ -41,7 +40,7 @@ impl<'t> StatsWriter<'t> {
             tree,
             options: *options,
             counter: Counter::new(alloc, tree, options)?,
-            line: Vec::new(alloc),
+            lines: LineBuffer::new(alloc),
             error: None,
         })
     }
@@ -57,7 +56,7 @@ impl<'t> StatsWriter<'t> {
             tree,
             options,
             mut counter,
-            line,
+            lines,
             error,
         } = self;
         if let Some(error) = error {
@@ -65,7 +64,7 @@ impl<'t> StatsWriter<'t> {
         }
         // What stands behind the last line feed is a line where the trace has to have an end.
         if options.end == End::Required {
-            counter.add(&line)?;
+            counter.add(lines.rest())?;
         }
         let (counts, reach) = counter.end(options.end)?;
         write_counts(alloc, tree, &counts, &options, writer)?;
@@ -75,23 +74,11 @@ impl<'t> StatsWriter<'t> {
     // Counts the lines that end in these bytes.
     fn take(&mut self, bytes: &[u8]) -> Result<(), StatsError> {
         for piece in bytes.split_inclusive(|byte| *byte == b'\n') {
-            match piece.split_last() {
-                Some((b'\n', end)) => self.end_line(end)?,
-                Some(_) | None => self.line.extend_from_slice(piece)?,
+            if let Some(line) = self.lines.add(piece)? {
+                self.counter.add(line)?;
             }
         }
         Ok(())
-    }
-
-    // Counts the line that ends with these bytes.
-    fn end_line(&mut self, end: &[u8]) -> Result<(), StatsError> {
-        if self.line.is_empty() {
-            return self.counter.add(end);
-        }
-        self.line.extend_from_slice(end)?;
-        let counted = self.counter.add(&self.line);
-        self.line.clear();
-        counted
     }
 }
 

@@ -8,15 +8,15 @@ use std::alloc::{AllocError, Global};
 
 /// So many copies of a value at an input port of a component.
 #[derive(Clone, Copy)]
-pub(crate) struct Arrival {
-    pub(crate) to: ComponentPort,
-    pub(crate) value: i64,
-    pub(crate) copies: u64,
+pub struct Arrival {
+    pub to: ComponentPort,
+    pub value: i64,
+    pub copies: u64,
 }
 
 /// By which links values travel, and what comes from outside.
 #[derive(Clone, Copy)]
-pub(crate) struct Routes<'a> {
+pub struct Routes<'a> {
     links: &'a LinkLists,
     // The inputs that are not before the last time that was asked for.
     inputs: &'a [Input],
@@ -24,7 +24,7 @@ pub(crate) struct Routes<'a> {
 
 impl<'a> Routes<'a> {
     /// Routes by these links, at the start of these inputs.
-    pub(crate) fn new(links: &'a LinkLists, inputs: &'a [Input]) -> Self {
+    pub fn new(links: &'a LinkLists, inputs: &'a [Input]) -> Self {
         Routes { links, inputs }
     }
 
@@ -42,15 +42,43 @@ impl<'a> Routes<'a> {
     ) -> Result<Vec<Arrival>, AllocError> {
         let mut arrivals = Vec::new(alloc);
         for entry in entries {
-            add_sent(&self.links.direct, entry, &mut arrivals)?;
+            self.add_sent(entry, &mut arrivals)?;
         }
+        self.complete(time, &mut arrivals)?;
+        Ok(arrivals)
+    }
+
+    /// Adds what arrives of what a component sends, as its line says it, to what arrives at that time.
+    ///
+    /// # Errors
+    ///
+    /// No memory for what arrives.
+    pub fn add_sent(
+        &self,
+        entry: &Entry<'_>,
+        arrivals: &mut Vec<Arrival>,
+    ) -> Result<(), AllocError> {
+        for sending in &entry.sent {
+            let from_port = direct_from(&self.links.direct, entry.component, sending.port);
+            add_sending(from_port, sending, arrivals)?;
+        }
+        Ok(())
+    }
+
+    /// Adds what arrives from outside to what components send at a time, and puts all in its order: by component, by port and by
+    /// value. Times are asked for in their order.
+    ///
+    /// # Errors
+    ///
+    /// No memory for what arrives.
+    pub fn complete(&mut self, time: Time, arrivals: &mut Vec<Arrival>) -> Result<(), AllocError> {
         for input in self.inputs_at(time) {
-            add_input(&self.links.entries, *input, &mut arrivals)?;
+            add_input(&self.links.entries, *input, arrivals)?;
         }
         arrivals.sort_unstable_by_key(|arrival| {
             (arrival.to.component, arrival.to.port, arrival.value)
         });
-        Ok(arrivals)
+        Ok(())
     }
 
     // The inputs of a time, which are passed by then.
@@ -69,19 +97,7 @@ fn behind<T>(items: &[T], place: usize) -> &[T] {
     items.get(place..).unwrap_or(&[])
 }
 
-// What a component sends goes along the links from its ports.
-fn add_sent(
-    links: &[DirectLink],
-    entry: &Entry<'_>,
-    arrivals: &mut Vec<Arrival>,
-) -> Result<(), AllocError> {
-    for sending in &entry.sent {
-        let from_port = direct_from(links, entry.component, sending.port);
-        add_sending(from_port, sending, arrivals)?;
-    }
-    Ok(())
-}
-
+// A sending goes along the links from its port.
 fn add_sending(
     links: &[DirectLink],
     sending: &Sending<'_>,
@@ -148,7 +164,7 @@ fn entries_from(links: &[EntryLink], from: u32) -> &[EntryLink] {
 }
 
 /// Those of the arrivals of a time that come to a component.
-pub(crate) fn arrivals_to(arrivals: &[Arrival], component: u32) -> &[Arrival] {
+pub fn arrivals_to(arrivals: &[Arrival], component: u32) -> &[Arrival] {
     let first = arrivals.partition_point(|arrival| arrival.to.component < component);
     let arrivals = behind(arrivals, first);
     let count = arrivals.partition_point(|arrival| arrival.to.component == component);

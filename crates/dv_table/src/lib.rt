@@ -3,7 +3,7 @@
 #![tactic(auto)]
 
 /// What arrives at the components.
-mod arrivals;
+pub mod arrivals;
 /// Rows as comma-separated values.
 mod csv_rows;
 /// Why a table is not written to its end.
@@ -19,5 +19,6 @@ pub mod table;
 /// From what happened to rows.
 mod teller;
 
+pub use arrivals::{Arrival, Routes, arrivals_to};
 pub use error::TableError;
 pub use table::{TableForm, TableOptions, write_table};

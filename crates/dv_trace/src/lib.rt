@@ -1,6 +1,8 @@
 //! Reads the text of a trace back, line by line, by the names of the model that it is a trace of.
 #![tactic(auto)]
 
+/// Bytes that come in pieces, cut into lines.
+pub mod buffer;
 /// What a line says.
 pub mod line;
 /// The names of a model, by their texts.
@@ -18,6 +20,7 @@ pub mod refusal;
 /// Values between commas.
 mod values;
 
+pub use buffer::LineBuffer;
 pub use line::{Datum, Entry, Happening, Outside, Sending, TraceLine, Values};
 pub use reach::{End, Reach, read_part};
 pub use reader::{TraceReader, check_trace};

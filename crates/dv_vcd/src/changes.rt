@@ -6,7 +6,7 @@ use crate::ports::Ports;
 use crate::shown::{AllShown, Shown, Standing};
 use crate::survey::tick_behind;
 use crate::values::{
-    push_count, push_datum, push_integer, push_nothing, push_standing, push_string, push_unknown,
+    push_count, push_datum, push_nothing, push_number, push_standing, push_string, push_unknown,
 };
 use dv_bag::Input;
 use dv_trace::{Datum, Entry, Happening, Outside, Reach, Sending};
@@ -28,7 +28,25 @@ pub(crate) struct Changes<'a> {
     // The tick at which the text is.
     tick: u64,
     // What passed in this tick by ports that are texts, by their codes.
-    marks: IndexMap<u64, String>,
+    marks: IndexMap<u64, Mark<'a>>,
+}
+
+/// What passed by a port in one tick.
+#[derive(Drop)]
+enum Mark<'a> {
+    /// At one time, as the trace has it.
+    Line(&'a str),
+    /// At one time by an input of the root, or at several times.
+    Text(String),
+}
+
+impl Mark<'_> {
+    fn as_str(&self) -> &str {
+        match self {
+            Mark::Line(text) => text,
+            Mark::Text(text) => text.as_str(),
+        }
+    }
 }
 
 impl<'a> Changes<'a> {
@@ -106,7 +124,7 @@ impl<'a> Changes<'a> {
             self.arrived = self.arrived.saturating_add(together.len());
             for arrival in arrivals_of(self.alloc, together)? {
                 let code = self.shown.inputs.saturating_add(u64::from(arrival.port));
-                self.pass(code, arrival.values.as_str())?;
+                self.pass(code, Mark::Text(arrival.values))?;
             }
         }
         Ok(())
@@ -172,40 +190,40 @@ impl<'a> Changes<'a> {
     }
 
     // What leaves by ports whose codes are from a first one on.
-    fn sent(&mut self, first: u64, sent: &[Sending<'_>]) -> Result<(), AllocError> {
+    fn sent(&mut self, first: u64, sent: &[Sending<'a>]) -> Result<(), AllocError> {
         for sending in sent {
             let code = first.saturating_add(sending.port as u64);
-            self.pass(code, sending.values.text)?;
+            self.pass(code, Mark::Line(sending.values.text))?;
         }
         Ok(())
     }
 
     // Values of one time that pass by a port.
-    fn pass(&mut self, code: u64, values: &str) -> Result<(), AllocError> {
-        match self.ports.form(code) {
-            Form::Text | Form::Wire => self.mark(code, values),
-            Form::Integer => match values.parse::<i64>() {
-                Ok(value) => push_integer(&mut self.text, value, code),
-                Err(_) => push_unknown(&mut self.text, code),
+    fn pass(&mut self, code: u64, mark: Mark<'a>) -> Result<(), AllocError> {
+        let form = self.ports.form(code);
+        match form {
+            Form::Text => self.mark(code, mark),
+            Form::Wire | Form::Integer => match mark.as_str().parse::<i64>() {
+                Ok(value) => push_number(&mut self.text, form, value, code),
+                Err(_) => push_unknown(&mut self.text, form, code),
             },
         }
     }
 
     // Values that pass by a port that is a text, behind those that passed in the same tick.
-    fn mark(&mut self, code: u64, values: &str) -> Result<(), AllocError> {
+    fn mark(&mut self, code: u64, mark: Mark<'a>) -> Result<(), AllocError> {
         match self.marks.get_mut(&code) {
-            Some(mark) => {
-                mark.push(';')?;
-                mark.push_str(values)?;
-                push_string(&mut self.text, mark.as_str(), code)
+            Some(before) => {
+                let text = format!(in self.alloc; "{};{}", before.as_str(), mark.as_str())?;
+                push_string(&mut self.text, text.as_str(), code)?;
+                *before = Mark::Text(text);
             }
             None => {
-                push_string(&mut self.text, values, code)?;
-                self.marks
-                    .insert(code, String::from_str(self.alloc, values)?)?;
-                Ok(())
+                push_string(&mut self.text, mark.as_str(), code)?;
+                self.marks.insert(code, mark)?;
             }
         }
+        Ok(())
     }
 }
 
@@ -228,7 +246,7 @@ fn push_ports(
         let code = first.saturating_add(port as u64);
         match ports.form(code) {
             Form::Text => push_nothing(text, code)?,
-            Form::Integer | Form::Wire => push_unknown(text, code)?,
+            form => push_unknown(text, form, code)?,
         }
     }
     Ok(())

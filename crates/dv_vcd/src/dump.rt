@@ -66,8 +66,8 @@ impl From<AllocError> for VcdError {
 /// ports; in the scope of the root there are its output ports and, where inputs are given, its input ports.
 ///
 /// A port is a string: `-`, and for one tick the values that passed, those of different microsteps with a semicolon between them.
-/// A port that is held shows the last values until the next ones: as an integer where in this trace it has no more than one value
-/// in each tick, and else as a string. Changes at the microsteps of one tick stand one after the other at that tick: the last one
+/// A port that is held shows the last values until the next ones: where in this trace it has no more than one value in each tick as
+/// an integer, or as a wire where all of them are 0 or 1, and else as a string. Changes at the microsteps of one tick stand one after the other at that tick: the last one
 /// stays.
 ///
 /// # Errors

@@ -7,20 +7,51 @@ use std::alloc::{AllocError, Global};
 #[derive(Clone, Copy, PartialEq, Eq)]
 pub(crate) enum Passed {
     Nothing,
-    /// At most one value in each tick, the last one in this tick.
-    Singly(u64),
+    /// At most one value in each tick, all of them 0 or 1, and the last one in this tick.
+    Bits(u64),
+    /// At most one value in each tick, and the last one in this tick.
+    Numbers(u64),
     /// More than one value in some tick.
     Crowded,
 }
 
+/// What passes by a port at one time.
+#[derive(Clone, Copy, PartialEq, Eq)]
+pub(crate) enum Passing {
+    /// 0 or 1.
+    Bit,
+    /// Another number.
+    Number,
+    /// Several numbers.
+    Several,
+}
+
+impl Passing {
+    /// One number.
+    pub(crate) fn of(number: i64) -> Passing {
+        match number {
+            0 | 1 => Passing::Bit,
+            _ => Passing::Number,
+        }
+    }
+}
+
 impl Passed {
-    // What has passed once so many values pass in a tick.
-    fn and(self, tick: u64, count: u64) -> Passed {
+    // What has passed once something passes in a tick.
+    fn and(self, tick: u64, passing: Passing) -> Passed {
+        match (self, passing) {
+            (Passed::Crowded, _) | (_, Passing::Several) => Passed::Crowded,
+            (Passed::Bits(last) | Passed::Numbers(last), _) if last == tick => Passed::Crowded,
+            (Passed::Nothing | Passed::Bits(_), Passing::Bit) => Passed::Bits(tick),
+            (Passed::Nothing | Passed::Bits(_) | Passed::Numbers(_), _) => Passed::Numbers(tick),
+        }
+    }
+
+    fn form(self) -> Form {
         match self {
-            Passed::Crowded => Passed::Crowded,
-            Passed::Singly(last) if last == tick => Passed::Crowded,
-            Passed::Singly(_) | Passed::Nothing if count > 1 => Passed::Crowded,
-            Passed::Singly(_) | Passed::Nothing => Passed::Singly(tick),
+            Passed::Bits(_) => Form::Wire,
+            Passed::Nothing | Passed::Numbers(_) => Form::Integer,
+            Passed::Crowded => Form::Text,
         }
     }
 }
@@ -30,7 +61,7 @@ impl Passed {
 pub(crate) enum Ports {
     /// Each as a text, which has the values in the tick in which they passed.
     Marked,
-    /// Each with the last values: as a number where they come singly. What passes by ports stands at their codes.
+    /// Each with the last values: as a number or a bit where they come singly. What passes by ports stands at their codes.
     Held(Vec<Passed>),
 }
 
@@ -44,12 +75,12 @@ impl Ports {
         Ok(Ports::Held(passed))
     }
 
-    /// So many values pass in a tick by the port with a code.
-    pub(crate) fn pass(&mut self, tick: u64, code: u64, count: u64) {
+    /// Something passes in a tick by the port with a code.
+    pub(crate) fn pass(&mut self, tick: u64, code: u64, passing: Passing) {
         match self {
             Ports::Held(ports) => {
                 if let Some(passed) = ports.get_mut(code as usize) {
-                    *passed = passed.and(tick, count);
+                    *passed = passed.and(tick, passing);
                 }
             }
             Ports::Marked => {}
@@ -60,8 +91,8 @@ impl Ports {
     pub(crate) fn form(&self, code: u64) -> Form {
         match self {
             Ports::Held(ports) => match ports.get(code as usize) {
-                Some(Passed::Nothing | Passed::Singly(_)) => Form::Integer,
-                Some(Passed::Crowded) | None => Form::Text,
+                Some(passed) => passed.form(),
+                None => Form::Text,
             },
             Ports::Marked => Form::Text,
         }

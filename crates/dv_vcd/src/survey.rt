@@ -1,9 +1,11 @@
 //! The first reading of a trace: how far it reaches, and how its ports are shown.
 
-use crate::ports::Ports;
+use crate::ports::{Passing, Ports};
 use crate::shown::AllShown;
 use dv_bag::Input;
-use dv_trace::{End, Reach, Sending, TraceError, TraceLine, TraceReader, check_trace, read_part};
+use dv_trace::{
+    End, Reach, Sending, TraceError, TraceLine, TraceReader, Values, check_trace, read_part,
+};
 use dv_tree::Tree;
 use std::alloc::Global;
 
@@ -49,7 +51,7 @@ pub(crate) fn survey_held(
     let behind = tick_behind(reach, last);
     for input in inputs.iter().take_while(|input| input.time.tick < behind) {
         let code = shown.inputs.saturating_add(u64::from(input.port));
-        ports.pass(input.time.tick, code, 1);
+        ports.pass(input.time.tick, code, Passing::of(input.value));
     }
     Ok(Survey { reach, ports })
 }
@@ -85,6 +87,13 @@ fn watch(ports: &mut Ports, shown: &AllShown<'_>, line: &TraceLine<'_>, last: &m
 fn watch_sent(ports: &mut Ports, tick: u64, first: u64, sent: &[Sending<'_>]) {
     for sending in sent {
         let code = first.saturating_add(sending.port as u64);
-        ports.pass(tick, code, sending.values.count);
+        ports.pass(tick, code, passing_of(sending.values));
+    }
+}
+
+fn passing_of(values: Values<'_>) -> Passing {
+    match values.text.parse::<i64>() {
+        Ok(number) => Passing::of(number),
+        Err(_) => Passing::Several,
     }
 }

@@ -13,6 +13,7 @@ pub fn is_as_shown<R: AllocGlobal + Files + Print>(rt: &R, folder: &str) -> io::
         trace: bytes_of(rt, folder, "trace.txt")?,
         inputs: bytes_of(rt, folder, "inputs.txt").ok(),
         only: line_of(rt, folder, "only.txt")?,
+        phased: line_of(rt, folder, "phases.txt")?,
     };
     let mut shown: u32 = 0;
     let mut is_well = true;

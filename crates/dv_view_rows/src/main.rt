@@ -1,9 +1,12 @@
 //! Compares the views of models and of traces with those that lie beside them.
 //!
 //! Each word names a folder with a model, a trace and their views; the file `warned.txt` with models and what is told of them;
-//! the file `timescales.txt` with texts of time scales; or another file (`.txt`) with traces that are refused.
+//! the file `faulted.txt` with models and what is told of their faults; the file `timescales.txt` with texts of time scales; or another
+//! file (`.txt`) with traces that are refused.
 #![tactic(auto)]
 
+/// Models with faults.
+mod faulted;
 /// The views of a folder.
 mod folder;
 /// Traces that are refused.
@@ -24,6 +27,8 @@ fn main(rt: HostRuntime) -> io::Result<ExitCode> {
     for word in &words {
         let is_same = if word.as_str() == "warned.txt" {
             warned::are_as_told(&rt, word.as_str())?
+        } else if word.as_str() == "faulted.txt" {
+            faulted::are_as_told(&rt, word.as_str())?
         } else if word.as_str() == "timescales.txt" {
             timescales::are_as_told(&rt, word.as_str())?
         } else if word.as_str().ends_with(".txt") {

@@ -4,9 +4,9 @@ use dv_partition::Partition;
 use dv_trace::End;
 use dv_tree::Tree;
 use dv_views::{
-    Form, StatsOptions, StatsWriter, TableForm, TableOptions, TimeUnit, Timescale, UnitCount,
-    ViewError, WaveOptions, accept, graph_bytes, load, stats_bytes, table_bytes, vcd_bytes,
-    warnings_bytes,
+    Form, GraphOptions, Shown, StatsOptions, StatsWriter, TableForm, TableOptions, TimeUnit,
+    Timescale, UnitCount, ViewError, WaveOptions, accept, graph_bytes, load, stats_bytes,
+    table_bytes, vcd_bytes, warnings_bytes,
 };
 use std::alloc::Global;
 use std::io::Write;
@@ -22,6 +22,8 @@ pub struct Texts {
     pub inputs: Option<Vec<u8>>,
     /// The path whose components' numbers are asked for.
     pub only: String,
+    /// The model whose phases are asked for.
+    pub phased: String,
 }
 
 impl Texts {
@@ -35,6 +37,11 @@ impl Texts {
 pub enum View {
     Graph,
     TwoProcesses,
+    Whole,
+    Parts,
+    PartsOfTwoProcesses,
+    TwoLevels,
+    Phases,
     Warnings,
     Dump,
     HeldDump,
@@ -53,9 +60,14 @@ pub enum View {
 }
 
 impl View {
-    pub const ALL: [View; 17] = [
+    pub const ALL: [View; 22] = [
         View::Graph,
         View::TwoProcesses,
+        View::Whole,
+        View::Parts,
+        View::PartsOfTwoProcesses,
+        View::TwoLevels,
+        View::Phases,
         View::Warnings,
         View::Dump,
         View::HeldDump,
@@ -78,6 +90,11 @@ impl View {
         match self {
             View::Graph => "graph.dot",
             View::TwoProcesses => "two_processes.dot",
+            View::Whole => "whole.dot",
+            View::Parts => "parts.dot",
+            View::PartsOfTwoProcesses => "two_processes_parts.dot",
+            View::TwoLevels => "two_levels.dot",
+            View::Phases => "phases.dot",
             View::Warnings => "warnings.txt",
             View::Dump => "trace.vcd",
             View::HeldDump => "held.vcd",
@@ -128,8 +145,13 @@ pub fn write_view(
 ) -> Result<(), ViewError> {
     let model = texts.model.as_slice();
     match view {
-        View::Graph => graph_bytes(alloc, model, None, written),
-        View::TwoProcesses => graph_bytes(alloc, model, Some(Partition::Count(2)), written),
+        View::Graph
+        | View::TwoProcesses
+        | View::Whole
+        | View::Parts
+        | View::PartsOfTwoProcesses
+        | View::TwoLevels
+        | View::Phases => write_drawing(alloc, view, texts, written),
         View::Warnings => {
             let _count = warnings_bytes(alloc, "model.pd", model, written)?;
             Ok(())
@@ -144,6 +166,31 @@ pub fn write_view(
         View::Columns | View::Csv | View::Quantiles | View::Span | View::Only | View::Partial =>
             write_numbers(alloc, view, texts, written),
     }
+}
+
+fn write_drawing(
+    alloc: Global,
+    view: View,
+    texts: &Texts,
+    written: &mut Vec<u8>,
+) -> Result<(), ViewError> {
+    let mut options = GraphOptions {
+        groups: None,
+        shown: Shown::All,
+    };
+    match view {
+        View::TwoProcesses => options.groups = Some(Partition::Count(2)),
+        View::Whole => options.shown = Shown::Depth(0),
+        View::Parts => options.shown = Shown::Depth(1),
+        View::PartsOfTwoProcesses => {
+            options.groups = Some(Partition::Count(2));
+            options.shown = Shown::Depth(1);
+        }
+        View::TwoLevels => options.shown = Shown::Depth(2),
+        View::Phases => options.shown = Shown::Phases(texts.phased.as_str()),
+        _ => {}
+    }
+    graph_bytes(alloc, &texts.model, &options, written)
 }
 
 fn write_dump(

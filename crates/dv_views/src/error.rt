@@ -1,5 +1,7 @@
 //! Why there is no view.
 
+use dv_fault::FaultsError;
+use dv_inputs::InputsError;
 use dv_job::JobError;
 use dv_lex::LoadError;
 use dv_partition::PartitionError;
@@ -21,6 +23,8 @@ pub enum ViewError {
     Trace(TraceRefusal),
     /// No component has the path of which numbers are asked for; nothing was written.
     NoPath,
+    /// No atomic model has the name whose phases are asked for, in words; nothing was written.
+    NoPhases(String),
 }
 
 impl fmt::Display for ViewError {
@@ -29,6 +33,7 @@ impl fmt::Display for ViewError {
             ViewError::Job(error) => write!(f, "{error}"),
             ViewError::Trace(refusal) => write!(f, "{refusal}"),
             ViewError::NoPath => f.write_str("no component of this path"),
+            ViewError::NoPhases(words) => f.write_str(words.as_str()),
         }
     }
 }
@@ -81,6 +86,27 @@ impl From<TableError> for ViewError {
             TableError::Write => ViewError::Job(JobError::Write),
             TableError::Memory => ViewError::Job(JobError::Memory),
         }
+    }
+}
+
+impl From<FaultsError> for ViewError {
+    fn from(error: FaultsError) -> Self {
+        match error {
+            FaultsError::Refused(refusal) => ViewError::Trace(refusal),
+            FaultsError::Memory => ViewError::Job(JobError::Memory),
+        }
+    }
+}
+
+impl From<InputsError> for ViewError {
+    fn from(error: InputsError) -> Self {
+        ViewError::Job(JobError::from(error))
+    }
+}
+
+impl From<JobError> for ViewError {
+    fn from(error: JobError) -> Self {
+        ViewError::Job(error)
     }
 }
 

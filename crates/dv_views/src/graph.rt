@@ -6,43 +6,78 @@ ghost use Rattle.dv_syntax.specs.Trees.{file_of};
 
 use crate::error::ViewError;
 use crate::model::{accept, load};
-use dv_flat::{flatten, paths_of};
-use dv_graph::write_graph;
+use dv_flat::{LinkLists, flatten, paths_of};
+use dv_graph::{write_graph, write_overview, write_phases};
+use dv_hints::unknown_name;
 use dv_partition::{Groups, Partition, partition};
+use dv_syntax::{Atomic, Model};
 use dv_tree::Tree;
-use std::alloc::Global;
+use std::alloc::{AllocError, Global};
 use std::io::Write;
 
-/// Writes the graph of the model of a text in the DOT language, with its processes where there is a partition.
+/// What is wanted of a graph.
+#[derive(Clone, Copy)]
+pub struct GraphOptions<'a> {
+    /// The partition, where processes are to be shown.
+    pub groups: Option<Partition<'a>>,
+    pub shown: Shown<'a>,
+}
+
+/// What of a model a graph shows.
+#[derive(Clone, Copy, Debug, PartialEq, Eq)]
+pub enum Shown<'a> {
+    /// All components.
+    All,
+    /// An overview, in which coupled models at this depth are boxes. The root is at depth 0, its parts are at depth 1.
+    Depth(u64),
+    /// The phases of the atomic model of this name. A partition is not read then.
+    Phases(&'a str),
+}
+
+/// Writes the graph of the model of a text in the DOT language, with its processes where there is a partition; or an overview of it; or
+/// the phases of one of its models.
 ///
 /// # Errors
 ///
 /// `Job` with `Text`, the answer to the model's text, or with `Partition`, where the model is accepted, that to the partition;
-/// nothing was written then. With `Write` or `Memory` the writer holds a beginning of the graph that is not all of it,
-/// for `Memory` perhaps nothing. It is never `Trace`.
+/// or `NoPhases`, where the model is accepted and none of its atomic models has the name; nothing was written then. With `Write` or
+/// `Memory` the writer holds a beginning of the graph that is not all of it, for `Memory` perhaps nothing. It is never `Trace`.
 pub fn graph_bytes<W: Write>(
     alloc: Global,
     model: &[u8],
-    groups: Option<Partition<'_>>,
+    options: &GraphOptions<'_>,
     writer: &mut W,
 ) -> Result<(), ViewError> {
     let checked = load(alloc, model)?;
     let tree = accept(alloc, model, &checked)?;
-    graph_tree(alloc, &tree, groups, writer)
+    match options.shown {
+        Shown::All => {
+            let (links, groups) = linked(alloc, &tree, options.groups)?;
+            write_graph(alloc, &tree, &links, groups.as_ref(), writer)?;
+        }
+        Shown::Depth(depth) => {
+            let (links, groups) = linked(alloc, &tree, options.groups)?;
+            write_overview(alloc, &tree, &links, groups.as_ref(), depth, writer)?;
+        }
+        Shown::Phases(name) => {
+            let atomic = atomic_named(alloc, &tree, name)?;
+            write_phases(alloc, &tree, atomic, writer)?;
+        }
+    }
+    Ok(())
 }
 
-fn graph_tree<W: Write>(
+// The links of a model, and the groups of its components, where there is a partition.
+fn linked(
     alloc: Global,
     tree: &Tree<'_>,
     groups: Option<Partition<'_>>,
-    writer: &mut W,
-) -> Result<(), ViewError>
+) -> Result<(LinkLists, Option<Groups>), ViewError>
     requires few { link_refusal (file_of tree.now.file) ≡ None }
 {
     let links = flatten(alloc, tree)?;
     let groups = groups_of(alloc, tree, groups)?;
-    write_graph(alloc, tree, &links, groups.as_ref(), writer)?;
-    Ok(())
+    Ok((links, groups))
 }
 
 // The groups of the components, where there is a partition.
@@ -58,4 +93,35 @@ fn groups_of(
     let _few = tree.component_count();
     let paths = paths_of(alloc, tree)?;
     Ok(Some(partition(alloc, &paths, groups)?))
+}
+
+// The atomic model of a name, among all of the text.
+fn atomic_named<'t>(
+    alloc: Global,
+    tree: &'t Tree<'_>,
+    name: &str,
+) -> Result<&'t Atomic, ViewError> {
+    for model in &tree.file().models {
+        match model {
+            Model::Atomic(atomic) if tree.name(atomic.name.number) == name => return Ok(atomic),
+            Model::Coupled(coupled) if tree.name(coupled.name.number) == name => {
+                return Err(ViewError::NoPhases(format!(in alloc;
+                    "`{name}` is a coupled model, which has no phases"
+                )?));
+            }
+            Model::Atomic(_) | Model::Coupled(_) => {}
+        }
+    }
+    let names = atomic_names(alloc, tree)?;
+    Err(ViewError::NoPhases(unknown_name(alloc, name, &names)?))
+}
+
+fn atomic_names<'t>(alloc: Global, tree: &'t Tree<'_>) -> Result<Vec<&'t str>, AllocError> {
+    let mut names = Vec::new(alloc);
+    for model in &tree.file().models {
+        if let Model::Atomic(atomic) = model {
+            names.push(tree.name(atomic.name.number))?;
+        }
+    }
+    Ok(names)
 }

@@ -1,5 +1,6 @@
 //! The files that the words of a command line name.
 
+use crate::plans::partition_of_plan;
 use crate::told::{Texts, tell_line};
 use dv_cause::Source;
 use dv_command::{PartitionChoice, TraceFiles};
@@ -9,7 +10,7 @@ use std::rt::Files;
 use std::{fs, io};
 
 /// The word that names standard input.
-const STANDARD_INPUT: &str = "-";
+pub const STANDARD_INPUT: &str = "-";
 
 /// A file that was read.
 #[derive(Drop)]
@@ -164,8 +165,8 @@ pub fn read_trace<'a, R: AllocGlobal + Files + Input + Eprint>(
     }))
 }
 
-/// How a model is divided: into one process where nothing is chosen; `None` if the file of the partition cannot be read, as
-/// `read`.
+/// How a model is divided: into one process where nothing is chosen. The text of a plan stands for its partition. `None` if the file
+/// cannot be read, as `read`.
 ///
 /// # Errors
 ///
@@ -176,7 +177,10 @@ pub fn read_parting<R: AllocGlobal + Files + Input + Eprint>(
 ) -> io::Result<Option<Parting>> {
     match choice {
         Some(PartitionChoice::File(name)) => match read(rt, name.as_str())? {
-            Some(FileBytes { name: _, bytes }) => Ok(Some(Parting::Text(bytes))),
+            Some(FileBytes { name: _, bytes }) => {
+                let planned = partition_of_plan(rt.alloc(), &bytes)?;
+                Ok(Some(Parting::Text(planned.unwrap_or(bytes))))
+            }
             None => Ok(None),
         },
         Some(PartitionChoice::Count(count)) => Ok(Some(Parting::Count(*count))),

@@ -2,18 +2,30 @@
 //! as wave forms, in numbers and as tables, and explains refusals and faults.
 #![tactic(auto)]
 
+/// Where the faults of a run came from.
+mod faulted;
 /// The files that the words of a command line name.
 mod files;
+/// Where the lines of a run go.
+mod lines;
 /// What is asked of a model alone.
 mod models;
 /// A writer that keeps why a write failed.
 mod noted;
+/// Runs whose numbers are printed in the place of the trace.
+mod numbers;
 /// How the program was built.
 mod origin;
+/// What `plan` prints, in the place of a partition.
+mod plans;
 /// Printing through such a writer.
 mod printed;
+/// How far a run is, told while it goes on.
+mod progress;
 /// Runs of models.
 mod runs;
+/// Standard input in the place of several files.
+mod shared;
 /// What is told on standard error.
 mod told;
 /// What is asked of a trace and its model.
@@ -24,6 +36,7 @@ use dv_explain::explanation_text;
 use models::{check_model, graph_model, list_model, plan_model};
 use origin::origin;
 use runs::run_model;
+use shared::shares_standard_input;
 use std::alloc::AllocError;
 use std::io;
 use std::io::ErrorKind;
@@ -31,6 +44,7 @@ use std::process::ExitCode;
 use std::rt::{Env, Files};
 use std::sync::Wait;
 use std::thread::Threads;
+use std::time::Clock;
 use told::{tell_failure, tell_line, tell_text};
 use traces::{count_trace, dump_trace, tabulate_trace};
 
@@ -43,6 +57,9 @@ const REFUSED: u8 = 1;
 /// Words that are no command.
 const USAGE: u8 = 2;
 
+/// A whole run in which a component had a fault.
+const FAULTED: u8 = 3;
+
 fn main(rt: HostRuntime) -> ExitCode {
     match answer(&rt) {
         Ok(status) => ExitCode::from(status),
@@ -54,7 +71,7 @@ fn main(rt: HostRuntime) -> ExitCode {
 }
 
 /// Does what the words ask for, and answers the status. An error is of the system: no memory for the words.
-fn answer<R: AllocGlobal + Env + Files + Input + Print + Eprint + Threads + Wait + Sync>(
+fn answer<R: AllocGlobal + Clock + Env + Files + Input + Print + Eprint + Threads + Wait + Sync>(
     rt: &R,
 ) -> io::Result<u8> {
     let words = match std::env::args(rt) {
@@ -82,10 +99,14 @@ fn answer<R: AllocGlobal + Env + Files + Input + Print + Eprint + Threads + Wait
 }
 
 /// Does what is asked for, and answers the status. An error is of the system: a write that failed, or no memory.
-fn do_request<R: AllocGlobal + Files + Input + Print + Eprint + Threads + Wait + Sync>(
+fn do_request<R: AllocGlobal + Clock + Files + Input + Print + Eprint + Threads + Wait + Sync>(
     rt: &R,
     request: &Request,
 ) -> io::Result<u8> {
+    if shares_standard_input(request) {
+        tell_line(rt, "standard input, `-`, can be read for one file only");
+        return Ok(USAGE);
+    }
     match request {
         Request::Check(check) => check_model(rt, check),
         Request::Run(run) => run_model(rt, run),
@@ -112,7 +133,8 @@ fn is_explained(request: &Request) -> bool {
         Request::Check(check) => check.file.explained,
         Request::Code(file) => file.explained,
         Request::Run(run) => run.explained,
-        Request::Plan(plan) | Request::Graph(plan) => plan.explained,
+        Request::Plan(plan) => plan.explained,
+        Request::Graph(graph) => graph.file.explained,
         Request::Vcd(waves) => waves.files.explained,
         Request::Stats(stats) => stats.files.explained,
         Request::Table(table) => table.files.explained,

@@ -4,9 +4,9 @@ use crate::files::{read, read_parting};
 use crate::printed::print_through;
 use crate::told::tell_error;
 use crate::{ACCEPTED, REFUSED};
-use dv_command::{Check, ModelFile, Plan};
+use dv_command::{Check, Graph, GraphChoice, ModelFile, Plan};
 use dv_job::{check_bytes, list_code, plan_bytes};
-use dv_views::{ViewError, graph_bytes, warnings_bytes};
+use dv_views::{GraphOptions, Shown, ViewError, graph_bytes, warnings_bytes};
 use std::io;
 use std::rt::Files;
 
@@ -76,9 +76,9 @@ pub fn plan_model<R: AllocGlobal + Files + Input + Print + Eprint>(
 /// Prints the graph that was asked for, and answers the status. Files are read in the order model, partition.
 pub fn graph_model<R: AllocGlobal + Files + Input + Print + Eprint>(
     rt: &R,
-    graph: &Plan,
+    graph: &Graph,
 ) -> io::Result<u8> {
-    let Some(model) = read(rt, graph.model.as_str())? else {
+    let Some(model) = read(rt, graph.file.model.as_str())? else {
         return Ok(REFUSED);
     };
     let Some(parting) = read_parting(rt, graph.partition.as_ref())? else {
@@ -89,9 +89,22 @@ pub fn graph_model<R: AllocGlobal + Files + Input + Print + Eprint>(
     } else {
         None
     };
+    let options = GraphOptions {
+        groups,
+        shown: shown(&graph.choice),
+    };
     let alloc = rt.alloc();
     let printed = print_through(rt, |writer| {
-        graph_bytes(alloc, &model.bytes, groups, writer)
+        graph_bytes(alloc, &model.bytes, &options, writer)
     });
-    Ok(printed.status(rt, model.texts(), graph.explained))
+    Ok(printed.status(rt, model.texts(), graph.file.explained))
+}
+
+/// What of a model a graph shows.
+fn shown(choice: &GraphChoice) -> Shown<'_> {
+    match choice {
+        GraphChoice::All => Shown::All,
+        GraphChoice::Depth(depth) => Shown::Depth(*depth),
+        GraphChoice::Phases(name) => Shown::Phases(name.as_str()),
+    }
 }

@@ -1,12 +1,15 @@
 //! Printing through a writer that keeps why a write failed.
 
+use crate::lines::Lines;
 use crate::noted::Noted;
+use crate::progress::Progress;
 use crate::told::{Texts, tell_reason, tell_view_error};
 use crate::{ACCEPTED, REFUSED};
 use dv_text::WriteError;
 use dv_views::ViewError;
 use std::io;
 use std::io::{Printer, Write};
+use std::time::Clock;
 
 /// What became of something that was to be printed.
 #[derive(Drop)]
@@ -30,6 +33,37 @@ where
     if writer.flush().is_err() {
         result = Err(E::from(WriteError::Write));
     }
+    Printed {
+        result,
+        reason: writer.into_reason(),
+    }
+}
+
+/// Prints the lines that `print` writes, as `print_through` does, and tells how far they are.
+pub fn print_lines<'a, R, T, E, F>(
+    rt: &'a R,
+    progress: Option<Progress<'a, R>>,
+    print: F,
+) -> Printed<T, E>
+where
+    R: Print + Eprint + Clock,
+    T: Drop,
+    E: Drop + From<WriteError>,
+    F: FnOnce(&mut Lines<'a, Noted<Printer<'a, R>>, R>) -> Result<T, E>,
+    requires { F.IsAlwaysCallable print }
+{
+    let mut lines = Lines {
+        writer: Noted::new(io::writer(rt)),
+        progress,
+    };
+    let mut result = print(&mut lines);
+    if lines.flush().is_err() {
+        result = Err(E::from(WriteError::Write));
+    }
+    let Lines {
+        writer,
+        progress: _,
+    } = lines;
     Printed {
         result,
         reason: writer.into_reason(),

@@ -1,9 +1,12 @@
 //! Runs of models.
 
+use crate::faulted::tell_faults;
 use crate::files::{read, read_inputs, read_parting};
-use crate::printed::print_through;
-use crate::told::tell_error;
-use crate::{REFUSED, USAGE};
+use crate::numbers::print_numbers;
+use crate::printed::print_lines;
+use crate::progress::Progress;
+use crate::told::{Texts, tell_error, tell_view_error};
+use crate::{FAULTED, REFUSED, USAGE};
 use dv_command::Run;
 use dv_job::{JobEnded, JobError, Options, run_by_workers, run_bytes, status};
 use dv_partition::Partition;
@@ -12,36 +15,60 @@ use std::io::Write;
 use std::rt::Files;
 use std::sync::Wait;
 use std::thread::Threads;
+use std::time::Clock;
 
 /// The packets that a link between processes holds.
 const LINK_CAPACITY: u32 = 16;
 
-/// Prints the trace, by workers where there are some.
-fn print_trace<R: AllocGlobal + Threads + Wait + Sync, W: Write>(
+/// What is run.
+#[derive(Clone, Copy)]
+pub struct Job<'a> {
+    pub texts: Texts<'a>,
+    pub groups: Partition<'a>,
+    pub options: &'a Options,
+    /// Whether a refusal or a failure is explained.
+    pub is_explained: bool,
+}
+
+/// Runs a job, by workers where there are some, and writes its trace.
+pub fn run_job<R: AllocGlobal + Threads + Wait + Sync, W: Write>(
     rt: &R,
-    model: &[u8],
-    inputs: &[u8],
-    groups: Partition<'_>,
-    options: &Options,
+    job: &Job<'_>,
     writer: &mut W,
 ) -> Result<JobEnded, JobError> {
-    match options.workers {
+    let model = job.texts.model.bytes;
+    let inputs = job.texts.inputs.bytes;
+    match job.options.workers {
         Some(workers) => run_by_workers(
             rt,
             rt.alloc(),
             model,
             inputs,
-            groups,
-            options,
+            job.groups,
+            job.options,
             workers,
             writer,
         ),
-        None => run_bytes(rt.alloc(), model, inputs, groups, options, writer),
+        None => run_bytes(rt.alloc(), model, inputs, job.groups, job.options, writer),
     }
 }
 
+/// Runs a job, prints its trace, and answers the status. Why not all of it is printed is told.
+fn print_trace<'a, R: AllocGlobal + Clock + Print + Eprint + Threads + Wait + Sync>(
+    rt: &'a R,
+    job: &Job<'_>,
+    progress: Option<Progress<'a, R>>,
+) -> u8 {
+    let printed = print_lines(rt, progress, |writer| run_job(rt, job, writer));
+    if let Err(error) = &printed.result {
+        tell_error(rt, job.texts, error, job.is_explained);
+        printed.tell_reason(rt, job.is_explained);
+    }
+    status(&printed.result)
+}
+
 /// Runs what was asked for, and answers the status. Files are read in the order model, partition, inputs.
-pub fn run_model<R: AllocGlobal + Files + Input + Print + Eprint + Threads + Wait + Sync>(
+pub fn run_model<R: AllocGlobal + Clock + Files + Input + Print + Eprint + Threads + Wait + Sync>(
     rt: &R,
     run: &Run,
 ) -> io::Result<u8> {
@@ -63,21 +90,29 @@ pub fn run_model<R: AllocGlobal + Files + Input + Print + Eprint + Threads + Wai
     ) else {
         return Ok(USAGE);
     };
-    let texts = model.texts_with(inputs.as_ref());
-    let groups = parting.partition();
-    let printed = print_through(rt, |writer| {
-        print_trace(
-            rt,
-            texts.model.bytes,
-            texts.inputs.bytes,
-            groups,
-            &options,
-            writer,
-        )
-    });
-    if let Err(error) = &printed.result {
-        tell_error(rt, texts, error, run.explained);
-        printed.tell_reason(rt, run.explained);
+    let job = Job {
+        texts: model.texts_with(inputs.as_ref()),
+        groups: parting.partition(),
+        options: &options,
+        is_explained: run.explained,
+    };
+    let progress = if run.progress {
+        Progress::begin(rt)
+    } else {
+        None
+    };
+    let status = match &run.stats {
+        None => print_trace(rt, &job, progress),
+        Some(choice) => match print_numbers(rt, &job, choice, progress) {
+            Ok(status) => status,
+            Err(error) => {
+                tell_view_error(rt, job.texts, &error, job.is_explained);
+                REFUSED
+            }
+        },
+    };
+    if job.is_explained && status == FAULTED {
+        tell_faults(rt, &job);
     }
-    Ok(status(&printed.result))
+    Ok(status)
 }

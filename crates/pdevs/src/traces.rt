@@ -1,14 +1,14 @@
 //! What is asked of a trace and its model.
 
 use crate::files::{TraceBytes, read_trace};
+use crate::numbers::stats_options;
 use crate::printed::{Printed, print_through};
 use crate::told::tell_line;
 use crate::{REFUSED, USAGE};
 use dv_command::{Stats, Table, TraceFiles, Waves};
 use dv_trace::{End, Reach};
 use dv_views::{
-    Form, StatsOptions, TableForm, TableOptions, Timescale, ViewError, WaveOptions, stats_bytes,
-    table_bytes, vcd_bytes,
+    TableForm, TableOptions, Timescale, ViewError, WaveOptions, stats_bytes, table_bytes, vcd_bytes,
 };
 use std::io;
 use std::rt::Files;
@@ -89,18 +89,11 @@ pub fn count_trace<R: AllocGlobal + Files + Input + Print + Eprint>(
     let Some(bytes) = read_trace(rt, &stats.files, None)? else {
         return Ok(REFUSED);
     };
-    let only = match &stats.only {
-        Some(path) => Some(path.as_str()),
-        None => None,
-    };
-    let options = StatsOptions {
-        end: end_of(&stats.files),
-        form: if stats.csv { Form::Csv } else { Form::Columns },
-        from: stats.from,
-        to: stats.to,
-        only,
-        quantiles: stats.quantiles,
-    };
+    let options = stats_options(
+        &stats.choice,
+        stats.choice.only.as_ref(),
+        end_of(&stats.files),
+    );
     let alloc = rt.alloc();
     let printed = print_through(rt, |writer| {
         stats_bytes(

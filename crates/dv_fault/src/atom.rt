@@ -1,0 +1,64 @@
+//! An atomic model, with the names of its text.
+
+use dv_bag::State;
+use dv_eval::{Domain, Scope};
+use dv_syntax::{Atomic, Hold, Rule, RuleSort};
+use dv_tree::Tree;
+use std::alloc::Global;
+
+/// The model of a component, with what it declares and the names of its text.
+#[derive(Clone, Copy)]
+pub(crate) struct Atom<'t> {
+    pub(crate) alloc: Global,
+    pub(crate) tree: &'t Tree<'t>,
+    pub(crate) model: &'t Atomic,
+    pub(crate) scope: &'t Scope,
+}
+
+impl<'t> Atom<'t> {
+    /// The model of a component, if there is one of this number.
+    pub(crate) fn of(alloc: Global, tree: &'t Tree<'t>, component: u32) -> Option<Self> {
+        let component = component as usize;
+        if component >= tree.component_count() {
+            return None;
+        }
+        Some(Atom {
+            alloc,
+            tree,
+            model: tree.atomic(component),
+            scope: tree.scope(component),
+        })
+    }
+
+    /// The text of a name.
+    pub(crate) fn name(&self, number: u32) -> &'t str {
+        self.tree.name(number)
+    }
+
+    /// What the state variable of a name may hold, if there is one.
+    pub(crate) fn domain(&self, name: u32) -> Option<Domain> {
+        let place = self.scope.variable(name)?;
+        self.scope.domain(place)
+    }
+
+    /// The name of the phase of a state.
+    pub(crate) fn phase_of(&self, state: &State) -> u32 {
+        self.scope.phase_name(state.phase).unwrap_or(0)
+    }
+
+    /// The rule of a sort for the phase of a name, if there is one.
+    pub(crate) fn rule(&self, sort: RuleSort, phase: u32) -> Option<&'t Rule> {
+        self.model
+            .rules
+            .iter()
+            .find(|rule| rule.sort == sort && rule.phase.number == phase)
+    }
+
+    /// The hold of the phase of a name. Each phase of an accepted model has one.
+    pub(crate) fn hold(&self, phase: u32) -> Option<&'t Hold> {
+        self.model
+            .holds
+            .iter()
+            .find(|hold| hold.phase.number == phase)
+    }
+}

@@ -1,0 +1,92 @@
+//! What a component is between two instants.
+
+use crate::atom::Atom;
+use dv_bag::{Bag, Collection, Datum, Discipline, GREATEST_COUNT, Held, Queue, State, Variables};
+use dv_eval::{Domain, Scope, start_state};
+use dv_time::Time;
+use std::alloc::{AllocError, Global};
+
+/// A component behind its last line, or as it starts.
+#[derive(Drop)]
+pub(crate) struct Component {
+    pub(crate) state: State,
+    /// The tick of its last transition.
+    pub(crate) last: u64,
+    /// When its hold runs out; `None` is never.
+    pub(crate) until: Option<Time>,
+}
+
+/// The state in which a component of a model starts.
+///
+/// # Errors
+///
+/// No memory for the state.
+pub(crate) fn state_at_start(atom: &Atom<'_>) -> Result<State, AllocError> {
+    let scope = Scope::of(atom.alloc, atom.model)?;
+    start_state(atom.alloc, atom.model, &scope)
+}
+
+/// The state that a line of a component tells.
+///
+/// # Errors
+///
+/// No memory for the state.
+pub(crate) fn state_told(
+    alloc: Global,
+    scope: &Scope,
+    phase: u32,
+    data: &[dv_trace::Datum<'_>],
+) -> Result<State, AllocError> {
+    let mut variables = Variables::new(alloc);
+    for (domain, datum) in scope.domains().iter().zip(data) {
+        variables.push(datum_told(alloc, *domain, *datum)?)?;
+    }
+    Ok(State { phase, variables })
+}
+
+fn datum_told(
+    alloc: Global,
+    domain: Domain,
+    datum: dv_trace::Datum<'_>,
+) -> Result<Datum, AllocError> {
+    match (datum, domain) {
+        (dv_trace::Datum::Number(number), _) => Ok(Datum::Number(number)),
+        (dv_trace::Datum::Flag(flag), _) => Ok(Datum::Flag(flag)),
+        (
+            dv_trace::Datum::Held(values),
+            Domain::Held {
+                discipline: Discipline::Queue,
+                ..
+            },
+        ) => Ok(Datum::Held(queue_told(alloc, values.text)?)),
+        (dv_trace::Datum::Held(values), _) => Ok(Datum::Held(bag_told(alloc, values.text)?)),
+    }
+}
+
+// The bag of values between commas. No run has more of them than a bag may have.
+fn bag_told(alloc: Global, text: &str) -> Result<Held, AllocError> {
+    let mut bag = Bag::new(alloc);
+    for piece in text.split(',') {
+        if let Ok(value) = piece.parse::<i64>() {
+            bag.insert(value)?;
+        }
+    }
+    if bag.size() > GREATEST_COUNT {
+        return Held::new(alloc, Collection::Bag(Bag::new(alloc)));
+    }
+    Held::new(alloc, Collection::Bag(bag))
+}
+
+// The queue of values between commas. No run has more of them than a queue may have.
+fn queue_told(alloc: Global, text: &str) -> Result<Held, AllocError> {
+    let mut queue = Queue::new(alloc);
+    for piece in text.split(',') {
+        if let Ok(value) = piece.parse::<i64>() {
+            queue.push(value)?;
+        }
+    }
+    if queue.len() as u64 > GREATEST_COUNT {
+        return Held::new(alloc, Collection::Queue(Queue::new(alloc)));
+    }
+    Held::new(alloc, Collection::Queue(queue))
+}

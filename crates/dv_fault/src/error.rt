@@ -1,0 +1,34 @@
+//! Why there are no paragraphs.
+
+use dv_trace::{TraceError, TraceRefusal};
+use std::alloc::{AllocError, AllocFailed};
+
+/// Why nothing is told of the faults of a trace.
+#[derive(Clone, Copy, Debug, PartialEq, Eq)]
+pub enum FaultsError {
+    /// The trace is none of the model.
+    Refused(TraceRefusal),
+    /// An allocation was refused.
+    Memory,
+}
+
+impl From<TraceError> for FaultsError {
+    fn from(error: TraceError) -> Self {
+        match error {
+            TraceError::Refused(refusal) => FaultsError::Refused(refusal),
+            TraceError::Memory => FaultsError::Memory,
+        }
+    }
+}
+
+impl From<AllocError> for FaultsError {
+    fn from(_error: AllocError) -> Self {
+        FaultsError::Memory
+    }
+}
+
+impl<T: Drop> From<AllocFailed<T>> for FaultsError {
+    fn from(_error: AllocFailed<T>) -> Self {
+        FaultsError::Memory
+    }
+}

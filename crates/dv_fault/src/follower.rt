@@ -1,0 +1,218 @@
+//! What happens in a run, instant after instant.
+
+use crate::atom::Atom;
+use crate::component::{Component, state_at_start, state_told};
+use crate::reaction::{Instant, until_behind};
+use crate::stop::Stop;
+use crate::told::{FileText, Told};
+use dv_bag::{Bags, Input, What};
+use dv_eval::phase_hold;
+use dv_flat::LinkLists;
+use dv_table::{Arrival, Routes, arrivals_to};
+use dv_time::Time;
+use dv_trace::{Entry, Happening, TraceLine};
+use dv_tree::Tree;
+use std::alloc::{AllocError, Global};
+use std::mem;
+
+/// What happened to a component at the instant of the last lines.
+#[derive(Drop)]
+struct Event {
+    component: u32,
+    what: What,
+}
+
+/// Follows a run by the lines of its trace. It keeps of each component what it was before the instant of the last lines, and what
+/// happened and arrived then.
+#[derive(Drop)]
+pub(crate) struct Follower<'t> {
+    alloc: Global,
+    tree: &'t Tree<'t>,
+    /// The greatest microstep of a tick.
+    limit: u32,
+    routes: Routes<'t>,
+    components: Vec<Component>,
+    time: Time,
+    events: Vec<Event>,
+    arrivals: Vec<Arrival>,
+    told: Told<'t>,
+}
+
+impl<'t> Follower<'t> {
+    /// Before the first line of a run of the model of a tree, with these links and inputs.
+    ///
+    /// # Errors
+    ///
+    /// No memory for the components.
+    pub(crate) fn new(
+        alloc: Global,
+        tree: &'t Tree<'t>,
+        links: &'t LinkLists,
+        inputs: &'t [Input],
+        limit: u32,
+        model: FileText<'t>,
+    ) -> Result<Self, AllocError> {
+        Ok(Follower {
+            alloc,
+            tree,
+            limit,
+            routes: Routes::new(links, inputs),
+            components: components_at_start(alloc, tree, limit)?,
+            time: Time::ZERO,
+            events: Vec::new(alloc),
+            arrivals: Vec::new(alloc),
+            told: Told::new(alloc, model),
+        })
+    }
+
+    /// One more line. The faults of the lines before are explained where this one is later.
+    ///
+    /// # Errors
+    ///
+    /// No memory for what is kept or told.
+    pub(crate) fn add(&mut self, line: &TraceLine<'_>) -> Result<(), AllocError> {
+        let TraceLine::Entry(entry) = line else {
+            return Ok(());
+        };
+        if self.time != entry.time {
+            self.settle()?;
+            self.time = entry.time;
+        }
+        if self.told.is_full() {
+            self.count(entry);
+            return Ok(());
+        }
+        self.keep(entry)
+    }
+
+    /// What is told where the last line was the last.
+    ///
+    /// # Errors
+    ///
+    /// No memory for what is told.
+    pub(crate) fn finish(mut self) -> Result<String, AllocError> {
+        self.settle()?;
+        let Follower { told, .. } = self;
+        told.into_text()
+    }
+
+    // Counts a fault behind those that are explained.
+    fn count(&mut self, entry: &Entry<'_>) {
+        if let Happening::Fault(_) = entry.happening {
+            self.told.count_one();
+        }
+    }
+
+    // Keeps what happened to a component, and what arrives of what it sent.
+    fn keep(&mut self, entry: &Entry<'_>) -> Result<(), AllocError> {
+        self.routes.add_sent(entry, &mut self.arrivals)?;
+        let Some(atom) = Atom::of(self.alloc, self.tree, entry.component) else {
+            return Ok(());
+        };
+        let what = match &entry.happening {
+            Happening::Fault(fault) => What::Fault(*fault),
+            Happening::Transition { kind, phase, state } => What::Transition {
+                kind: *kind,
+                state: state_told(self.alloc, atom.scope, *phase, state)?,
+            },
+        };
+        self.events.push(Event {
+            component: entry.component,
+            what,
+        })?;
+        Ok(())
+    }
+
+    // Goes past the instant of the last lines.
+    fn settle(&mut self) -> Result<(), AllocError> {
+        self.routes.complete(self.time, &mut self.arrivals)?;
+        let events = mem::replace(&mut self.events, Vec::new(self.alloc));
+        for event in events {
+            self.pass(event)?;
+        }
+        self.arrivals.clear();
+        Ok(())
+    }
+
+    // Goes past what happened to a component.
+    fn pass(&mut self, event: Event) -> Result<(), AllocError> {
+        let Some(atom) = Atom::of(self.alloc, self.tree, event.component) else {
+            return Ok(());
+        };
+        if event.component as usize >= self.tree.component_count() {
+            return Ok(());
+        }
+        let Some(component) = self.components.get_mut(event.component as usize) else {
+            return Ok(());
+        };
+        let arrivals = arrivals_to(&self.arrivals, event.component);
+        let received = bags_of(self.alloc, atom.scope.inputs().len(), arrivals)?;
+        let instant = Instant {
+            time: self.time,
+            limit: self.limit,
+            received: &received,
+        };
+        match event.what {
+            What::Fault(_) => {
+                let path = self.tree.path_text(self.alloc, event.component as usize)?;
+                self.told.explain(&atom, path.as_str(), component, &instant)
+            }
+            What::Transition { kind, state } => {
+                let until = match until_behind(&atom, component, &instant, kind, &state) {
+                    Ok(until) => until,
+                    // The trace tells of a transition, so there is no fault.
+                    Err(Stop::Fault(_)) => None,
+                    Err(Stop::Memory) => return Err(AllocError),
+                };
+                *component = Component {
+                    state,
+                    last: self.time.tick,
+                    until,
+                };
+                Ok(())
+            }
+        }
+    }
+}
+
+// The components as a run begins.
+fn components_at_start(
+    alloc: Global,
+    tree: &Tree<'_>,
+    limit: u32,
+) -> Result<Vec<Component>, AllocError> {
+    let mut components = Vec::with_capacity(alloc, tree.component_count())?;
+    for number in 0..tree.component_count() {
+        if let Some(atom) = Atom::of(alloc, tree, number as u32) {
+            components.push(component_at_start(&atom, limit)?)?;
+        }
+    }
+    Ok(components)
+}
+
+// A component as a run begins. The hold of the start phase of an accepted model has no fault.
+fn component_at_start(atom: &Atom<'_>, limit: u32) -> Result<Component, AllocError> {
+    let state = state_at_start(atom)?;
+    let phase = atom.phase_of(&state);
+    let until = match phase_hold(atom.model, phase, &state, atom.scope) {
+        Ok(Some(ticks)) => Time::ZERO.after(ticks, limit).ok(),
+        Ok(None) | Err(_) => None,
+    };
+    Ok(Component {
+        state,
+        last: 0,
+        until,
+    })
+}
+
+// What arrives at a component, a bag for each of so many input ports.
+fn bags_of(alloc: Global, ports: usize, arrivals: &[Arrival]) -> Result<Bags, AllocError> {
+    let mut bags = Bags::empty(alloc, ports);
+    for arrival in arrivals {
+        let port = arrival.to.port as usize;
+        if port < bags.len() {
+            bags.insert_copies(port, arrival.value, arrival.copies)?;
+        }
+    }
+    Ok(bags)
+}

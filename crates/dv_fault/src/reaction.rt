@@ -1,0 +1,283 @@
+//! The reaction of one component at one instant.
+
+use crate::atom::Atom;
+use crate::case::sentences_on_hold;
+use crate::component::Component;
+use crate::search::find_in_rule;
+use crate::stop::{Found, Site, Stop};
+use dv_bag::{Arrivals, Bags, Effect, Fault, GREATEST_COUNT, Kind, RuleError, State};
+use dv_eval::{hold, run_rule};
+use dv_explain::Quoted;
+use dv_syntax::{Declaration, Name, RuleSort};
+use dv_time::{GREATEST_TICK, Time};
+use std::alloc::AllocError;
+
+/// The ticks of the longest hold.
+const LONGEST_HOLD: u64 = 9_223_372_036_854_775_807;
+
+/// An instant of a component.
+#[derive(Clone, Copy)]
+pub(crate) struct Instant<'a> {
+    pub(crate) time: Time,
+    /// The greatest microstep of a tick.
+    pub(crate) limit: u32,
+    /// What arrives at its input ports.
+    pub(crate) received: &'a Bags,
+}
+
+/// What becomes of a hold.
+#[derive(Clone, Copy)]
+enum Hold {
+    /// It goes on as it was.
+    Continues,
+    /// One of so many ticks begins; `None` is forever.
+    Begins(Option<u64>),
+}
+
+/// What a transition leaves.
+#[derive(Drop)]
+struct After {
+    state: State,
+    hold: Hold,
+}
+
+/// What a rule leaves: the state, and whether a `goto` ran.
+#[derive(Drop)]
+struct Changed {
+    state: State,
+    goes: bool,
+}
+
+/// What happens to a component: which transition it makes.
+pub(crate) fn kind_at(component: &Component, instant: &Instant<'_>) -> Kind {
+    if component.until != Some(instant.time) {
+        Kind::External
+    } else if instant.received.is_empty() {
+        Kind::Internal
+    } else {
+        Kind::Confluent
+    }
+}
+
+/// Lets a component react at an instant, and answers when its hold runs out behind that; `None` is never.
+///
+/// # Errors
+///
+/// `Fault`: it has a fault, of these the first: of the output rule, the flood of what arrives, of the transition, of the hold, and of
+/// the microsteps. `Memory`: no memory for its states.
+pub(crate) fn react(
+    atom: &Atom<'_>,
+    component: &Component,
+    instant: &Instant<'_>,
+) -> Result<Option<Time>, Stop> {
+    let state = &component.state;
+    let kind = kind_at(component, instant);
+    if kind != Kind::External {
+        let _sent = leave_rule(atom, RuleSort::Output, state, &Arrivals::nothing())?;
+    }
+    if !instant.received.are_few() {
+        return Err(flood_of(atom, instant.received)?);
+    }
+    let elapsed = match kind {
+        Kind::External => instant.time.tick.saturating_sub(component.last),
+        Kind::Internal | Kind::Confluent => 0,
+    };
+    let arrivals = Arrivals::new(instant.received, elapsed);
+    let after = match kind {
+        Kind::Internal => internal(atom, state)?,
+        Kind::External => external(atom, state, &arrivals, Hold::Continues)?,
+        Kind::Confluent => confluent(atom, state, &arrivals)?,
+    };
+    match after.hold {
+        Hold::Continues => Ok(component.until),
+        Hold::Begins(ticks) => end_of_hold(atom, &after.state, instant, ticks),
+    }
+}
+
+/// When the hold runs out of a component that made a transition of this kind to a state; `None` is never.
+///
+/// # Errors
+///
+/// As `react`, where the transition did not take place.
+pub(crate) fn until_behind(
+    atom: &Atom<'_>,
+    component: &Component,
+    instant: &Instant<'_>,
+    kind: Kind,
+    state: &State,
+) -> Result<Option<Time>, Stop> {
+    let phase = atom.phase_of(&component.state);
+    let begins_there = match kind {
+        Kind::Internal => true,
+        Kind::External => component.state.phase != state.phase,
+        Kind::Confluent => atom.rule(RuleSort::Confluent, phase).is_some(),
+    };
+    // Where the line does not tell whether a hold began, and with which values, the rules do.
+    if !begins_there {
+        return react(atom, component, instant);
+    }
+    let ticks = ticks_of(atom, state)?;
+    end_of_hold(atom, state, instant, ticks)
+}
+
+// What the rule of a sort for the phase of a state leaves. Where there is none it is an empty one.
+fn leave_rule(
+    atom: &Atom<'_>,
+    sort: RuleSort,
+    state: &State,
+    arrivals: &Arrivals<'_>,
+) -> Result<Changed, Stop> {
+    let Some(rule) = atom.rule(sort, atom.phase_of(state)) else {
+        return Ok(Changed {
+            state: state.clone()?,
+            goes: false,
+        });
+    };
+    let statements = &rule.body.statements;
+    match run_rule(atom.alloc, statements, state, arrivals, atom.scope) {
+        Ok(effect) => Ok(changed_by(effect)),
+        Err(RuleError::Memory) => Err(Stop::Memory),
+        Err(RuleError::Fault(fault)) => {
+            let found = find_in_rule(atom, rule, state, arrivals, fault)?;
+            Err(Stop::Fault(found))
+        }
+    }
+}
+
+fn changed_by(effect: Effect) -> Changed {
+    let Effect {
+        mut state,
+        sent: _,
+        goto,
+    } = effect;
+    if let Some(phase) = goto {
+        state.phase = phase;
+    }
+    Changed {
+        state,
+        goes: goto.is_some(),
+    }
+}
+
+fn internal(atom: &Atom<'_>, state: &State) -> Result<After, Stop> {
+    let changed = leave_rule(atom, RuleSort::Internal, state, &Arrivals::nothing())?;
+    with_hold(atom, changed.state)
+}
+
+fn external(
+    atom: &Atom<'_>,
+    state: &State,
+    arrivals: &Arrivals<'_>,
+    hold: Hold,
+) -> Result<After, Stop> {
+    let changed = leave_rule(atom, RuleSort::External, state, arrivals)?;
+    if changed.goes {
+        return with_hold(atom, changed.state);
+    }
+    Ok(After {
+        state: changed.state,
+        hold,
+    })
+}
+
+// Without a confluent rule, the internal rule and its hold come first, and then the external rule of the phase that is reached.
+fn confluent(atom: &Atom<'_>, state: &State, arrivals: &Arrivals<'_>) -> Result<After, Stop> {
+    if atom
+        .rule(RuleSort::Confluent, atom.phase_of(state))
+        .is_some()
+    {
+        let changed = leave_rule(atom, RuleSort::Confluent, state, arrivals)?;
+        return with_hold(atom, changed.state);
+    }
+    let After { state, hold } = internal(atom, state)?;
+    external(atom, &state, arrivals, hold)
+}
+
+// A state, and the hold of its phase, which begins.
+fn with_hold(atom: &Atom<'_>, state: State) -> Result<After, Stop> {
+    let ticks = ticks_of(atom, &state)?;
+    Ok(After {
+        state,
+        hold: Hold::Begins(ticks),
+    })
+}
+
+// The ticks of the hold of a state; `None` is forever.
+fn ticks_of(atom: &Atom<'_>, state: &State) -> Result<Option<u64>, Stop> {
+    let phase = atom.phase_of(state);
+    let Some(item) = atom.hold(phase) else {
+        return Ok(None);
+    };
+    match hold(&item.ticks, state, atom.scope) {
+        Ok(ticks) => Ok(ticks),
+        Err(fault) => Err(fault_of_hold(atom, state, fault)?),
+    }
+}
+
+// When a hold of so many ticks runs out that begins at an instant in a state; `None` is never.
+fn end_of_hold(
+    atom: &Atom<'_>,
+    state: &State,
+    instant: &Instant<'_>,
+    ticks: Option<u64>,
+) -> Result<Option<Time>, Stop> {
+    let Some(ticks) = ticks else {
+        return Ok(None);
+    };
+    // No run has a later instant.
+    if instant.time.tick > GREATEST_TICK {
+        return Ok(None);
+    }
+    match instant.time.after(ticks.min(LONGEST_HOLD), instant.limit) {
+        Ok(time) => Ok(Some(time)),
+        Err(_) => Err(fault_of_hold(atom, state, Fault::Microsteps)?),
+    }
+}
+
+fn fault_of_hold(atom: &Atom<'_>, state: &State, fault: Fault) -> Result<Stop, AllocError> {
+    let phase = atom.phase_of(state);
+    let (place, sentences) = match atom.hold(phase) {
+        Some(item) => (item.place, sentences_on_hold(atom, state, &item.ticks)?),
+        None => (atom.model.name.place, String::new(atom.alloc)),
+    };
+    Ok(Stop::Fault(Found {
+        fault,
+        site: Site::Hold { phase },
+        place,
+        sentences,
+    }))
+}
+
+// The flood of what arrives, at the first port that has more values than may come.
+fn flood_of(atom: &Atom<'_>, received: &Bags) -> Result<Stop, AllocError> {
+    for held in received.held() {
+        let count = held.bag.size();
+        if count > GREATEST_COUNT {
+            let port = atom.scope.inputs().get(held.port).copied();
+            return flood_at(atom, port.unwrap_or(0), count);
+        }
+    }
+    flood_at(atom, 0, 0)
+}
+
+fn flood_at(atom: &Atom<'_>, port: u32, count: u64) -> Result<Stop, AllocError> {
+    let name = Quoted(atom.name(port));
+    Ok(Stop::Fault(Found {
+        fault: Fault::Flood,
+        site: Site::Arrival { port },
+        place: declared_at(atom, port),
+        sentences: format!(in atom.alloc; "{count} values came to {name} at once.\n")?,
+    }))
+}
+
+// Where the model declares an input port.
+fn declared_at(atom: &Atom<'_>, port: u32) -> u32 {
+    for declaration in &atom.model.declarations {
+        if let Declaration::In(Name { number, place }) = declaration
+            && *number == port
+        {
+            return *place;
+        }
+    }
+    atom.model.name.place
+}

@@ -1,0 +1,188 @@
+//! The statement of a rule that has a fault.
+
+use crate::atom::Atom;
+use crate::case::{place_of, sentences_on_statement};
+use crate::stop::{Found, Site, Stop};
+use dv_bag::{Arrivals, Effect, Fault, RuleError, Sent, State, Value};
+use dv_eval::{Context, Moment, eval, loop_values, run_statement};
+use dv_syntax::{Expr, Rule, Stmt};
+use std::alloc::AllocError;
+
+/// A rule whose statements are run one by one.
+#[derive(Clone, Copy)]
+struct Search<'a> {
+    atom: &'a Atom<'a>,
+    site: Site,
+}
+
+/// Where the fault of a rule is that has one in a state, with what has arrived.
+///
+/// # Errors
+///
+/// No memory for what is told of it.
+pub(crate) fn find_in_rule(
+    atom: &Atom<'_>,
+    rule: &Rule,
+    state: &State,
+    arrivals: &Arrivals<'_>,
+    fault: Fault,
+) -> Result<Found, AllocError> {
+    let site = Site::Rule {
+        sort: rule.sort,
+        phase: rule.phase.number,
+    };
+    let effect = Effect {
+        state: state.clone()?,
+        sent: Sent::empty(atom.alloc, atom.scope.output_count()),
+        goto: None,
+    };
+    let search = Search { atom, site };
+    match follow(
+        &search,
+        &rule.body.statements,
+        &Context::Outermost(arrivals),
+        effect,
+    ) {
+        Err(Stop::Fault(found)) => Ok(found),
+        Err(Stop::Memory) => Err(AllocError),
+        // The rule as a whole has the fault, so one of its statements has it.
+        Ok(_) => Ok(Found {
+            fault,
+            site,
+            place: rule.phase.place,
+            sentences: String::new(atom.alloc),
+        }),
+    }
+}
+
+// What statements do, one after the other. Where one has a fault, that is looked for inside of it.
+#[cycle(follow)]
+fn follow(
+    search: &Search<'_>,
+    statements: &[Stmt],
+    context: &Context<'_, '_>,
+    mut effect: Effect,
+) -> Result<Effect, Stop> {
+    let Search { atom, .. } = search;
+    for statement in statements {
+        let before = effect.clone()?;
+        effect = match run_statement(atom.alloc, statement, context, atom.scope, effect) {
+            Ok(effect) => effect,
+            Err(RuleError::Memory) => return Err(Stop::Memory),
+            Err(RuleError::Fault(fault)) => enter(search, statement, context, before, fault)?,
+        };
+    }
+    Ok(effect)
+}
+
+// The fault of a statement that has one: that of a statement in one of its blocks, or its own.
+#[cycle(follow)]
+fn enter(
+    search: &Search<'_>,
+    statement: &Stmt,
+    context: &Context<'_, '_>,
+    mut effect: Effect,
+    fault: Fault,
+) -> Result<Effect, Stop> {
+    match statement {
+        Stmt::If {
+            condition,
+            then_block,
+            ..
+        } => match truth_at(search, condition, context, &effect) {
+            Ok(true) => follow(search, &then_block.statements, context, effect),
+            Ok(false) => Ok(effect),
+            Err(fault) => stop_at(search, statement, context, &effect, fault),
+        },
+        Stmt::IfElse {
+            condition,
+            then_block,
+            else_block,
+            ..
+        } => match truth_at(search, condition, context, &effect) {
+            Ok(true) => follow(search, &then_block.statements, context, effect),
+            Ok(false) => follow(search, &else_block.statements, context, effect),
+            Err(fault) => stop_at(search, statement, context, &effect, fault),
+        },
+        Stmt::For {
+            variable,
+            bag,
+            block,
+            ..
+        } => {
+            for value in &values_walked(search, bag.number, context, &effect)? {
+                let within = Context::Within {
+                    variable: variable.number,
+                    value: *value,
+                    outer: &*context,
+                };
+                effect = follow(search, &block.statements, &within, effect)?;
+            }
+            Ok(effect)
+        }
+        Stmt::Assign { .. } | Stmt::Command { .. } | Stmt::Send { .. } | Stmt::Change { .. } => {
+            stop_at(search, statement, context, &effect, fault)
+        }
+    }
+}
+
+// The values that a loop walks, in their order, each copy once.
+fn values_walked(
+    search: &Search<'_>,
+    name: u32,
+    context: &Context<'_, '_>,
+    effect: &Effect,
+) -> Result<Vec<i64>, AllocError> {
+    let Search { atom, .. } = search;
+    let mut values = Vec::new(atom.alloc);
+    for pair in &loop_values(atom.alloc, name, &effect.state, context, atom.scope)? {
+        push_copies(&mut values, pair.0, pair.1)?;
+    }
+    Ok(values)
+}
+
+fn push_copies(values: &mut Vec<i64>, value: i64, copies: u64) -> Result<(), AllocError> {
+    for _copy in 0..copies {
+        values.push(value)?;
+    }
+    Ok(())
+}
+
+// Whether a condition is true behind what was done before.
+fn truth_at(
+    search: &Search<'_>,
+    condition: &Expr,
+    context: &Context<'_, '_>,
+    effect: &Effect,
+) -> Result<bool, Fault> {
+    let moment = Moment {
+        state: &effect.state,
+        context,
+    };
+    match eval(condition, &moment, search.atom.scope) {
+        Ok(Value::Truth(truth)) => Ok(truth),
+        Ok(Value::Number(number)) => Ok(number != 0),
+        Err(fault) => Err(fault),
+    }
+}
+
+// Ends at a statement that has a fault itself.
+fn stop_at(
+    search: &Search<'_>,
+    statement: &Stmt,
+    context: &Context<'_, '_>,
+    effect: &Effect,
+    fault: Fault,
+) -> Result<Effect, Stop> {
+    let moment = Moment {
+        state: &effect.state,
+        context,
+    };
+    let sentences = sentences_on_statement(search.atom, &moment, statement, fault)?;
+    Err(Stop::Fault(Found {
+        fault,
+        site: search.site,
+        place: place_of(statement),
+        sentences,
+    }))
+}

@@ -1,0 +1,194 @@
+//! What is told of the faults.
+
+use crate::atom::Atom;
+use crate::component::Component;
+use crate::reaction::{Instant, kind_at, react};
+use crate::stop::{Found, Site, Stop};
+use dv_bag::Kind;
+use dv_explain::{Cause, Position, Quoted, Spot, explanation_of, pointed};
+use dv_syntax::RuleSort;
+use std::alloc::{AllocError, Global};
+
+/// The most faults that are explained.
+const SHOWN: u64 = 10;
+
+/// The text of a model: the name of its file, and its bytes.
+#[derive(Clone, Copy)]
+pub struct FileText<'a> {
+    pub name: &'a str,
+    pub bytes: &'a [u8],
+}
+
+/// A paragraph for each of the first faults, and how many there are.
+#[derive(Drop)]
+pub(crate) struct Told<'a> {
+    model: FileText<'a>,
+    text: String,
+    count: u64,
+}
+
+impl<'a> Told<'a> {
+    /// No faults of a model of this text.
+    pub(crate) fn new(alloc: Global, model: FileText<'a>) -> Self {
+        Told {
+            model,
+            text: String::new(alloc),
+            count: 0,
+        }
+    }
+
+    /// Whether no more faults are explained.
+    pub(crate) fn is_full(&self) -> bool {
+        self.count >= SHOWN
+    }
+
+    /// One fault more that is not explained.
+    pub(crate) fn count_one(&mut self) {
+        self.count = self.count.saturating_add(1);
+    }
+
+    /// Explains the fault that a component has at an instant, where it is one of the first.
+    ///
+    /// # Errors
+    ///
+    /// No memory for what is told.
+    pub(crate) fn explain(
+        &mut self,
+        atom: &Atom<'_>,
+        path: &str,
+        component: &Component,
+        instant: &Instant<'_>,
+    ) -> Result<(), AllocError> {
+        if !self.is_full() {
+            match react(atom, component, instant) {
+                Err(Stop::Fault(found)) => {
+                    self.push_paragraph(atom, path, component, instant, &found)?;
+                }
+                Err(Stop::Memory) => return Err(AllocError),
+                // The trace tells of a fault, so there is one.
+                Ok(_) => {}
+            }
+        }
+        self.count_one();
+        Ok(())
+    }
+
+    fn push_paragraph(
+        &mut self,
+        atom: &Atom<'_>,
+        path: &str,
+        component: &Component,
+        instant: &Instant<'_>,
+        found: &Found,
+    ) -> Result<(), AllocError> {
+        if !self.text.is_empty() {
+            self.text.push('\n')?;
+        }
+        let place = found.place as usize;
+        let spot = Spot {
+            name: self.model.name,
+            text: self.model.bytes,
+            line: Position::of(self.model.bytes, place).line as u64,
+            place,
+        };
+        let cause = Cause {
+            summary: summary_of(atom, path, instant, found)?,
+            sentences: sentences_of(atom, component, instant, found)?,
+        };
+        let paragraph = pointed(atom.alloc, &spot, found.fault.word(), &cause)?;
+        self.text.push_str(paragraph.as_str())
+    }
+
+    /// The paragraphs, with an empty line between two, and a line that says how many faults more there are.
+    ///
+    /// # Errors
+    ///
+    /// No memory for the line.
+    pub(crate) fn into_text(self) -> Result<String, AllocError> {
+        let Told {
+            model: _,
+            mut text,
+            count,
+        } = self;
+        let more = count.saturating_sub(SHOWN);
+        if more == 1 {
+            text.push_str("\n1 fault more is in the trace.\n")?;
+        } else if more > 1 {
+            writeln!(text, "\n{more} faults more are in the trace.")?;
+        }
+        Ok(text)
+    }
+}
+
+// When and where a fault is, and of what.
+fn summary_of(
+    atom: &Atom<'_>,
+    path: &str,
+    instant: &Instant<'_>,
+    found: &Found,
+) -> Result<String, AllocError> {
+    let model = Quoted(atom.name(atom.model.name.number));
+    let mut text = format!(in atom.alloc;
+        "at {} in `{path}` of the model {model}, ",
+        instant.time
+    )?;
+    match found.site {
+        Site::Rule { sort, phase } => {
+            let phase = Quoted(atom.name(phase));
+            write!(text, "{} rule of the phase {phase}", word_of(sort))?
+        }
+        Site::Hold { phase } => write!(text, "hold of the phase {}", Quoted(atom.name(phase)))?,
+        Site::Arrival { port } => write!(text, "input port {}", Quoted(atom.name(port)))?,
+    }
+    Ok(text)
+}
+
+fn word_of(sort: RuleSort) -> &'static str {
+    match sort {
+        RuleSort::Output => "output",
+        RuleSort::Internal => "internal",
+        RuleSort::External => "external",
+        RuleSort::Confluent => "confluent",
+    }
+}
+
+// The values at the fault, how it came to that rule where that is not plain, and what the fault means.
+fn sentences_of(
+    atom: &Atom<'_>,
+    component: &Component,
+    instant: &Instant<'_>,
+    found: &Found,
+) -> Result<String, AllocError> {
+    let mut text = String::from_str(atom.alloc, found.sentences.as_str())?;
+    let phase = atom.phase_of(&component.state);
+    let is_in_turn = kind_at(component, instant) == Kind::Confluent
+        && atom.rule(RuleSort::Confluent, phase).is_none()
+        && comes_in_turn(found.site);
+    if is_in_turn {
+        let phase = Quoted(atom.name(phase));
+        write!(
+            text,
+            "Values came as the hold of {phase} ran out, which has no confluent rule: "
+        )?;
+        text.push_str(
+            "its internal rule is first, then the external rule of the phase reached.\n",
+        )?;
+    }
+    let code = found.fault.word();
+    if let Some(explanation) = explanation_of(code) {
+        writeln!(text, "{}", explanation.words)?;
+        if explanation.example.is_some() {
+            writeln!(text, "`pdevs explain {code}` has an example.")?;
+        }
+    }
+    Ok(text)
+}
+
+// Whether what has a fault is one of the rules and holds that take the place of a confluent rule.
+fn comes_in_turn(site: Site) -> bool {
+    match site {
+        Site::Rule { sort, .. } => sort != RuleSort::Output,
+        Site::Hold { .. } => true,
+        Site::Arrival { .. } => false,
+    }
+}

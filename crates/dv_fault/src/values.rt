@@ -1,0 +1,120 @@
+//! What names stand for, as text.
+
+use crate::atom::Atom;
+use crate::reads::Read;
+use dv_bag::{DatumView, Value};
+use dv_eval::{Moment, loop_values};
+use dv_explain::Quoted;
+use std::alloc::AllocError;
+
+/// The most values that are shown of a collection.
+const SHOWN: u64 = 16;
+
+/// Adds a sentence with the values of what is read, and its line feed; nothing where nothing is read.
+///
+/// # Errors
+///
+/// No memory for the longer text.
+pub(crate) fn push_reads(
+    text: &mut String,
+    atom: &Atom<'_>,
+    moment: &Moment<'_, '_>,
+    reads: &[Read],
+) -> Result<(), AllocError> {
+    let Some((last, others)) = reads.split_last() else {
+        return Ok(());
+    };
+    for (place, read) in others.iter().enumerate() {
+        if place > 0 {
+            text.push_str(", ")?;
+        }
+        push_read(text, atom, moment, *read)?;
+    }
+    if !others.is_empty() {
+        text.push_str(" and ")?;
+    }
+    push_read(text, atom, moment, *last)?;
+    text.push_str(".\n")
+}
+
+fn push_read(
+    text: &mut String,
+    atom: &Atom<'_>,
+    moment: &Moment<'_, '_>,
+    read: Read,
+) -> Result<(), AllocError> {
+    match read {
+        Read::Elapsed => write!(text, "`elapsed` is {}", moment.context.arrivals().elapsed()),
+        Read::Name(name) => {
+            write!(text, "{} is ", Quoted(atom.name(name)))?;
+            push_value(text, atom, moment, name)
+        }
+    }
+}
+
+// What a name stands for: the variable of a loop, a variable, a flag, or the values of a collection or an input port.
+fn push_value(
+    text: &mut String,
+    atom: &Atom<'_>,
+    moment: &Moment<'_, '_>,
+    name: u32,
+) -> Result<(), AllocError> {
+    if let Some(number) = moment.context.value(name) {
+        return write!(text, "{number}");
+    }
+    let datum = match atom.scope.variable(name) {
+        Some(place) => moment.state.variables.get(place),
+        None => None,
+    };
+    match datum {
+        Some(DatumView::Number(number)) => write!(text, "{number}"),
+        Some(DatumView::Flag(flag)) => write!(text, "{flag}"),
+        Some(DatumView::Held(_)) | None => {
+            let pairs = loop_values(atom.alloc, name, moment.state, moment.context, atom.scope)?;
+            push_pairs(text, &pairs)
+        }
+    }
+}
+
+// Values with their copies, as a trace has them. Of many the first ones are shown, and how many there are.
+fn push_pairs(text: &mut String, pairs: &[(i64, u64)]) -> Result<(), AllocError> {
+    let mut count: u64 = 0;
+    text.push('[')?;
+    for pair in pairs {
+        let room = SHOWN.saturating_sub(count);
+        push_copies(text, pair.0, pair.1.min(room), count > 0)?;
+        count = count.saturating_add(pair.1);
+    }
+    if count > SHOWN {
+        write!(text, ",…] ({count} values)")
+    } else {
+        text.push(']')
+    }
+}
+
+fn push_copies(
+    text: &mut String,
+    value: i64,
+    copies: u64,
+    is_behind: bool,
+) -> Result<(), AllocError> {
+    for copy in 0..copies {
+        if is_behind || copy > 0 {
+            text.push(',')?;
+        }
+        write!(text, "{value}")?;
+    }
+    Ok(())
+}
+
+/// The text of a value of an expression.
+///
+/// # Errors
+///
+/// No memory for the longer text.
+pub(crate) fn push_result(text: &mut String, value: Value) -> Result<(), AllocError> {
+    match value {
+        Value::Number(number) => write!(text, "{number}"),
+        Value::Truth(truth) => write!(text, "{truth}"),
+    }
+}

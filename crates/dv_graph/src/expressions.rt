@@ -1,0 +1,121 @@
+//! Expressions as text, with a blank on each side of an operator.
+
+use dv_syntax::{BagCall, Expr, Operator, Prefix};
+use dv_tree::Tree;
+use std::alloc::{AllocError, Global};
+
+/// The most characters that are shown of an expression.
+const SHOWN: usize = 40;
+
+/// An expression, which is cut off where it is long.
+pub(crate) fn short_text(
+    alloc: Global,
+    tree: &Tree,
+    expression: &Expr,
+) -> Result<String, AllocError> {
+    let mut text = String::new(alloc);
+    push_expression(&mut text, tree, expression)?;
+    cut_off(alloc, text)
+}
+
+/// That an expression is false, which is cut off where it is long.
+pub(crate) fn short_negation(
+    alloc: Global,
+    tree: &Tree,
+    expression: &Expr,
+) -> Result<String, AllocError> {
+    let mut text = String::from_str(alloc, "not ")?;
+    match expression {
+        Expr::Parens { .. } | Expr::Named(_) => push_expression(&mut text, tree, expression)?,
+        _ => {
+            text.push('(')?;
+            push_expression(&mut text, tree, expression)?;
+            text.push(')')?;
+        }
+    }
+    cut_off(alloc, text)
+}
+
+fn cut_off(alloc: Global, text: String) -> Result<String, AllocError> {
+    match text.as_str().char_indices().nth(SHOWN) {
+        Some((end, _)) => {
+            let front = text.as_str().get(..end).unwrap_or("");
+            format!(in alloc; "{front}…")
+        }
+        None => Ok(text),
+    }
+}
+
+fn push_expression(text: &mut String, tree: &Tree, expression: &Expr) -> Result<(), AllocError> {
+    match expression {
+        Expr::Literal(number) => write!(text, "{}", number.value.value()),
+        Expr::TruthValue { value, .. } => write!(text, "{value}"),
+        Expr::Named(name) => text.push_str(tree.name(name.number)),
+        Expr::Elapsed { .. } => text.push_str("elapsed"),
+        Expr::Parens { inner, .. } => {
+            text.push('(')?;
+            push_expression(text, tree, inner)?;
+            text.push(')')
+        }
+        Expr::Prefixed {
+            operator,
+            operand,
+            ..
+        } => {
+            text.push_str(prefix_word(*operator))?;
+            push_expression(text, tree, operand)
+        }
+        Expr::Binary {
+            operator,
+            left,
+            right,
+        } => {
+            push_expression(text, tree, left)?;
+            write!(text, " {} ", operator_word(*operator))?;
+            push_expression(text, tree, right)
+        }
+        Expr::Call { call, bag, .. } => {
+            write!(text, "{}({})", call_word(*call), tree.name(bag.number))
+        }
+        Expr::Times { value, bag, .. } => {
+            text.push_str("times(")?;
+            push_expression(text, tree, value)?;
+            write!(text, ", {})", tree.name(bag.number))
+        }
+    }
+}
+
+fn prefix_word(operator: Prefix) -> &'static str {
+    match operator {
+        Prefix::Minus => "-",
+        Prefix::Not => "not ",
+    }
+}
+
+fn operator_word(operator: Operator) -> &'static str {
+    match operator {
+        Operator::Or => "or",
+        Operator::And => "and",
+        Operator::Add => "+",
+        Operator::Subtract => "-",
+        Operator::Multiply => "*",
+        Operator::Divide => "/",
+        Operator::Remainder => "%",
+        Operator::Equal => "=",
+        Operator::Unequal => "!=",
+        Operator::Less => "<",
+        Operator::AtMost => "<=",
+        Operator::Greater => ">",
+        Operator::AtLeast => ">=",
+    }
+}
+
+fn call_word(call: BagCall) -> &'static str {
+    match call {
+        BagCall::Size => "size",
+        BagCall::Sum => "sum",
+        BagCall::Least => "least",
+        BagCall::Most => "most",
+        BagCall::Front => "front",
+    }
+}

@@ -1,0 +1,147 @@
+//! What the rules of an atomic model do: where they go, and what they send.
+
+use crate::expressions::{short_negation, short_text};
+use dv_syntax::{Block, Command, Expr, Stmt};
+use dv_tree::Tree;
+use std::alloc::{AllocError, Global};
+
+/// What a statement of a rule does.
+#[derive(Clone, Copy)]
+pub(crate) enum Deed<'a> {
+    /// It goes to the phase with a name of this number.
+    GoTo(u32),
+    /// It sends the value of an expression by the port with a name of this number.
+    Send { port: u32, value: &'a Expr },
+}
+
+/// What a statement does, and under which conditions and in which loops.
+#[derive(Drop)]
+pub(crate) struct Step<'a> {
+    pub(crate) deed: Deed<'a>,
+    /// As words, the outermost first, each behind a separator.
+    pub(crate) conditions: String,
+}
+
+/// How the steps of a rule are read.
+#[derive(Clone, Copy)]
+pub(crate) struct Reading<'r> {
+    pub(crate) alloc: Global,
+    pub(crate) tree: &'r Tree<'r>,
+    /// What stands in front of each condition.
+    pub(crate) separator: &'static str,
+}
+
+impl Reading<'_> {
+    // Conditions, and one more.
+    fn and(self, conditions: &str, word: &str, condition: &str) -> Result<String, AllocError> {
+        let separator = self.separator;
+        format!(in self.alloc; "{conditions}{separator}{word} {condition}")
+    }
+
+    // Conditions, and that an expression is true.
+    fn and_if(self, conditions: &str, condition: &Expr) -> Result<String, AllocError> {
+        let condition = short_text(self.alloc, self.tree, condition)?;
+        self.and(conditions, "if", condition.as_str())
+    }
+
+    // Conditions, and that an expression is false.
+    fn and_if_not(self, conditions: &str, condition: &Expr) -> Result<String, AllocError> {
+        let condition = short_negation(self.alloc, self.tree, condition)?;
+        self.and(conditions, "if", condition.as_str())
+    }
+
+    // Conditions, in a loop.
+    fn and_for(self, conditions: &str, variable: u32, bag: u32) -> Result<String, AllocError> {
+        let variable = self.tree.name(variable);
+        let bag = self.tree.name(bag);
+        let head = format!(in self.alloc; "{variable} in {bag}")?;
+        self.and(conditions, "for", head.as_str())
+    }
+}
+
+/// Adds the steps of a block that goes on or sends under these conditions.
+pub(crate) fn add_steps<'a>(
+    reading: Reading<'_>,
+    block: &'a Block,
+    conditions: &str,
+    steps: &mut Vec<Step<'a>>,
+) -> Result<(), AllocError> {
+    for statement in &block.statements {
+        match statement {
+            Stmt::Command {
+                command: Command::Goto,
+                name,
+                ..
+            } => add_step(reading, Deed::GoTo(name.number), conditions, steps)?,
+            Stmt::Send { port, value, .. } => {
+                let port = port.number;
+                add_step(reading, Deed::Send { port, value }, conditions, steps)?;
+            }
+            Stmt::If {
+                condition,
+                then_block,
+                ..
+            } => {
+                let inner = reading.and_if(conditions, condition)?;
+                add_steps(reading, then_block, inner.as_str(), steps)?;
+            }
+            Stmt::IfElse {
+                condition,
+                then_block,
+                else_block,
+                ..
+            } => {
+                let inner = reading.and_if(conditions, condition)?;
+                add_steps(reading, then_block, inner.as_str(), steps)?;
+                let inner = reading.and_if_not(conditions, condition)?;
+                add_steps(reading, else_block, inner.as_str(), steps)?;
+            }
+            Stmt::For {
+                variable,
+                bag,
+                block,
+                ..
+            } => {
+                let inner = reading.and_for(conditions, variable.number, bag.number)?;
+                add_steps(reading, block, inner.as_str(), steps)?;
+            }
+            Stmt::Assign { .. } | Stmt::Command { .. } | Stmt::Change { .. } => {}
+        }
+    }
+    Ok(())
+}
+
+fn add_step<'a>(
+    reading: Reading<'_>,
+    deed: Deed<'a>,
+    conditions: &str,
+    steps: &mut Vec<Step<'a>>,
+) -> Result<(), AllocError> {
+    steps.push(Step {
+        deed,
+        conditions: String::from_str(reading.alloc, conditions)?,
+    })?;
+    Ok(())
+}
+
+/// Whether a `goto` runs wherever a block runs to its end. A loop may have nothing to run for.
+pub(crate) fn always_goes(block: &Block) -> bool {
+    for statement in &block.statements {
+        let goes = match statement {
+            Stmt::Command {
+                command: Command::Goto,
+                ..
+            } => true,
+            Stmt::IfElse {
+                then_block,
+                else_block,
+                ..
+            } => always_goes(then_block) && always_goes(else_block),
+            _ => false,
+        };
+        if goes {
+            return true;
+        }
+    }
+    false
+}

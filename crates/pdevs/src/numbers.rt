@@ -1,0 +1,108 @@
+//! Runs whose numbers are printed in the place of the trace.
+
+use crate::ACCEPTED;
+use crate::lines::Lines;
+use crate::printed::print_through;
+use crate::progress::Progress;
+use crate::runs::{Job, run_job};
+use crate::told::tell_error;
+use dv_command::StatsChoice;
+use dv_job::{JobEnded, JobError, status};
+use dv_trace::End;
+use dv_views::{Form, StatsOptions, StatsWriter, Tree, ViewError, accept, load};
+use std::sync::Wait;
+use std::thread::Threads;
+use std::time::Clock;
+
+/// A model whose runs are counted.
+#[derive(Drop)]
+struct Counted<'c> {
+    tree: Tree<'c>,
+    /// The path of the components that count, where not all do.
+    only: Option<String>,
+}
+
+/// What is counted of a trace, and how it is printed: of all components, or of those under a path.
+pub fn stats_options<'p>(
+    choice: &StatsChoice,
+    only: Option<&'p String>,
+    end: End,
+) -> StatsOptions<'p> {
+    let only = match only {
+        Some(path) => Some(path.as_str()),
+        None => None,
+    };
+    StatsOptions {
+        end,
+        form: if choice.csv { Form::Csv } else { Form::Columns },
+        from: choice.from,
+        to: choice.to,
+        only,
+        quantiles: choice.quantiles,
+    }
+}
+
+/// Runs a job, prints the numbers of its trace, and answers the status, which is that of the run where all numbers are printed.
+/// Why they are not is told.
+///
+/// # Errors
+///
+/// `Job` with `Text`, the answer to the model's text, or with `Memory`; where the model is accepted, `NoPath` where no component has
+/// the path that is asked for. Nothing was run then.
+pub fn print_numbers<R: AllocGlobal + Clock + Print + Eprint + Threads + Wait + Sync>(
+    rt: &R,
+    job: &Job<'_>,
+    choice: &StatsChoice,
+    progress: Option<Progress<'_, R>>,
+) -> Result<u8, ViewError> {
+    let alloc = rt.alloc();
+    let checked = load(alloc, job.texts.model.bytes)?;
+    let counted = Counted {
+        tree: accept(alloc, job.texts.model.bytes, &checked)?,
+        only: choice.only.clone()?,
+    };
+    count_run(rt, job, &counted, choice, progress)
+}
+
+/// Runs a job whose model has a tree, and counts and prints, as `print_numbers` does.
+fn count_run<R: AllocGlobal + Clock + Print + Eprint + Threads + Wait + Sync>(
+    rt: &R,
+    job: &Job<'_>,
+    counted: &Counted<'_>,
+    choice: &StatsChoice,
+    progress: Option<Progress<'_, R>>,
+) -> Result<u8, ViewError> {
+    let options = stats_options(choice, counted.only.as_ref(), End::Required);
+    let mut lines = Lines {
+        writer: StatsWriter::new(rt.alloc(), &counted.tree, &options)?,
+        progress,
+    };
+    let ended = run_job(rt, job, &mut lines);
+    let Lines {
+        writer,
+        progress: _,
+    } = lines;
+    Ok(print_counted(rt, job, writer, &ended))
+}
+
+/// Prints what was counted of a run, and answers the status.
+fn print_counted<R: AllocGlobal + Print + Eprint>(
+    rt: &R,
+    job: &Job<'_>,
+    numbers: StatsWriter<'_>,
+    ended: &Result<JobEnded, JobError>,
+) -> u8 {
+    match ended {
+        // Why a line could not be counted is said where the numbers are asked for.
+        Ok(_) | Err(JobError::Write) => {}
+        Err(error) => {
+            tell_error(rt, job.texts, error, job.is_explained);
+            return status(ended);
+        }
+    }
+    let printed = print_through(rt, |writer| Ok(numbers.finish(writer)?));
+    match printed.status(rt, job.texts, job.is_explained) {
+        ACCEPTED => status(ended),
+        refused => refused,
+    }
+}
