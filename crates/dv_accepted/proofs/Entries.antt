@@ -1,11 +1,11 @@
--- The entries of a scope, each a name with what it may hold: of a name the first declaration counts, and stands at its place.
+-- The entries of a scope, each a name with what it may hold: of a name the first declaration counts, and stands at its index.
 use Rattle.std.proofs.Common.{◌≡◌, ℕ, suc, ◌+◌, ◌==◌, Bool, true, false, ◌||◌, if◌then◌else◌, List, [], ◌∷◌, ◌++◌, refl, sym, ap}
 use Rattle.std.proofs.Common.{◌∙◌, Option, Some, None, is_some, option_map, arith}
 use Rattle.std.specs.Prelude.{slice_get}
 use Rattle.std.specs.Option.{option_or}
 use Rattle.dv_syntax.specs.declared.tree.Name.{Name}
 use Rattle.dv_eval.specs.declared.scope.Domain.{Domain}
-use Rattle.dv_eval.specs.Scope.{Scope, is_declared, names_of, place_from, with_variable, with_variables}
+use Rattle.dv_eval.specs.Scope.{Scope, is_declared, names_of, index_from, with_variable, with_variables}
 use Rattle.dv_check.specs.Names.{first_of}
 use Rattle.dv_check.specs.Rules.{domain_of_state_variable, number_of_state_variable}
 use Rattle.dv_accepted.specs.Fitting.{domain_at, domain_named}
@@ -72,10 +72,10 @@ with_variables_entry q (v ∷ vs) entries =
 
 -- ---- What entries say
 
--- the place of an entry, from a number on
+-- the index of an entry, from a number on
 record HasEntry (k q : ℕ) (entries : List (ℕ × Domain)) (d : Domain) : Type 0 where
   offset : ℕ
-  found : place_from k q (names_of entries) ≡ Some (k + offset)
+  found : index_from k q (names_of entries) ≡ Some (k + offset)
   there : option_map (λ v. v.1) (slice_get entries offset) ≡ Some d
 
 has_entry_if : (b : Bool) (k q : ℕ) (e : ℕ × Domain) (entries : List (ℕ × Domain)) (d : Domain) → (e.0 == q) ≡ b

@@ -17,14 +17,14 @@ use Rattle.dv_bag.specs.declared.state.Datum.TheVariants as datum
 use Rattle.dv_eval.specs.declared.scope.VariableRange.{VariableRange}
 use Rattle.dv_eval.specs.declared.scope.Domain.{Domain}
 use Rattle.dv_eval.specs.declared.scope.Domain.TheVariants as domain
-use Rattle.dv_eval.specs.Scope.{is_declared, names_of, phases_in, place_from, place_of, range_of, scope_of, start_data}
+use Rattle.dv_eval.specs.Scope.{is_declared, names_of, phases_in, index_from, index_of, range_of, scope_of, start_data}
 use Rattle.dv_eval.specs.Scope.{start_datum, start_phase, start_state, state_variables_in, with_names, with_variable}
 use Rattle.dv_eval.specs.Scope.{with_variables}
 use Rattle.dv_check.specs.Names.{among}
 use Rattle.dv_check.specs.Rules.{atomic_refusals, collection_refusals, declaration_refusals, hold_refusals, is_capacity}
 use Rattle.dv_check.specs.Rules.{is_out_of_range, items_refusals, known_in, names_refusals, once_refusals, phase_refusals, rule_refusals}
-use Rattle.dv_check.specs.Rules.{standing_refusals, start_hold_refusals, start_places, start_refusals, variable_refusals}
-use Rattle.dv_check.specs.Rules.{holds_once_refusals, phases_places}
+use Rattle.dv_check.specs.Rules.{standing_refusals, start_hold_refusals, start_offsets, start_refusals, variable_refusals}
+use Rattle.dv_check.specs.Rules.{holds_once_refusals, phases_offsets}
 use Rattle.dv_accepted.specs.Fitting.{data_fit, datum_fits, fits}
 use Rattle.dv_check.proofs.CheckedFiles.{both_nil, not_refused, not_false}
 use Rattle.dv_check.proofs.Declared.{new_declared, stays_declared}
@@ -40,46 +40,46 @@ pub or_second : (a b : Bool) → b ≡ true → (a || b) ≡ true
 or_second true b e = refl
 or_second false b e = e
 
--- ---- Places of declared names
+-- ---- Indices of declared names
 
 -- where a declared name stands
-pub record HasPlace (name : ℕ) (names : List ℕ) : Type 0 where
-  pub place : ℕ
-  pub found : place_of name names ≡ Some place
-  pub within : place < length names
+pub record HasIndex (name : ℕ) (names : List ℕ) : Type 0 where
+  pub index : ℕ
+  pub found : index_of name names ≡ Some index
+  pub within : index < length names
 
-record HasPlaceFrom (k name : ℕ) (names : List ℕ) : Type 0 where
-  place : ℕ
-  found : place_from k name names ≡ Some place
-  within : place < k + length names
+record HasIndexFrom (k name : ℕ) (names : List ℕ) : Type 0 where
+  index : ℕ
+  found : index_from k name names ≡ Some index
+  within : index < k + length names
 
-place_if : (b : Bool) (k name n : ℕ) (names : List ℕ) → (n == name) ≡ b → (b || is_declared name names) ≡ true
-    → (is_declared name names ≡ true → HasPlaceFrom (k + 1) name names) → HasPlaceFrom k name (n ∷ names)
-place_if true k name n names test e later = record { place = k; found = rw test refl; within = omega arith }
-place_if false k name n names test e later =
+index_if : (b : Bool) (k name n : ℕ) (names : List ℕ) → (n == name) ≡ b → (b || is_declared name names) ≡ true
+    → (is_declared name names ≡ true → HasIndexFrom (k + 1) name names) → HasIndexFrom k name (n ∷ names)
+index_if true k name n names test e later = record { index = k; found = rw test refl; within = omega arith }
+index_if false k name n names test e later =
     let h = later e in
-    record { place = h.place; found = rw test h.found; within = omega (arith, h.within) }
+    record { index = h.index; found = rw test h.found; within = omega (arith, h.within) }
 
-place_from_declared : (k name : ℕ) (names : List ℕ) → is_declared name names ≡ true → HasPlaceFrom k name names
-place_from_declared k name [] e = absurd (cc)
-place_from_declared k name (n ∷ names) e = place_if (n == name) k name n names refl e (place_from_declared (k + 1) name names)
+index_from_declared : (k name : ℕ) (names : List ℕ) → is_declared name names ≡ true → HasIndexFrom k name names
+index_from_declared k name [] e = absurd (cc)
+index_from_declared k name (n ∷ names) e = index_if (n == name) k name n names refl e (index_from_declared (k + 1) name names)
 
-pub place_of_declared : (name : ℕ) (names : List ℕ) → is_declared name names ≡ true → HasPlace name names
-place_of_declared name names e =
-    let h = place_from_declared 0 name names e in
-    record { place = h.place; found = h.found; within = omega (arith, h.within) }
+pub index_of_declared : (name : ℕ) (names : List ℕ) → is_declared name names ≡ true → HasIndex name names
+index_of_declared name names e =
+    let h = index_from_declared 0 name names e in
+    record { index = h.index; found = h.found; within = omega (arith, h.within) }
 
--- a place that is found is within the names
-found_within_if : (b : Bool) (k p name n : ℕ) (names : List ℕ) → (if b then Some k else place_from (k + 1) name names) ≡ Some p
-    → (place_from (k + 1) name names ≡ Some p → p < k + 1 + length names) → p < k + length (n ∷ names)
+-- an index that is found is within the names
+found_within_if : (b : Bool) (k p name n : ℕ) (names : List ℕ) → (if b then Some k else index_from (k + 1) name names) ≡ Some p
+    → (index_from (k + 1) name names ≡ Some p → p < k + 1 + length names) → p < k + length (n ∷ names)
 found_within_if true k p name n names e later = let same : k ≡ p = cc in omega (arith, same)
 found_within_if false k p name n names e later = omega (arith, later e)
 
-found_within_from : (k p name : ℕ) (names : List ℕ) → place_from k name names ≡ Some p → p < k + length names
+found_within_from : (k p name : ℕ) (names : List ℕ) → index_from k name names ≡ Some p → p < k + length names
 found_within_from k p name [] e = absurd (cc)
 found_within_from k p name (n ∷ names) e = found_within_if (n == name) k p name n names e (found_within_from (k + 1) p name names)
 
-pub found_within : (p name : ℕ) (names : List ℕ) → place_of name names ≡ Some p → p < length names
+pub found_within : (p name : ℕ) (names : List ℕ) → index_of name names ≡ Some p → p < length names
 found_within p name names e = omega (arith, found_within_from 0 p name names e)
 
 -- ---- Data that fit
@@ -158,7 +158,7 @@ among_declared q ns e = among_declared_from q ns [] e
 -- ---- The start
 
 pub record Parts (m : AtomicTree) : Type 0 where
-  pub starts : once_refusals m.name.place (start_places m.starts) ≡ []
+  pub starts : once_refusals m.name.offset (start_offsets m.starts) ≡ []
   pub declarations : flat_map declaration_refusals m.declarations ≡ []
   pub known : flat_map (start_refusals (known_in m)) m.starts ≡ []
   pub holds : flat_map (hold_refusals (known_in m)) m.holds ≡ []
@@ -176,12 +176,12 @@ parts_of_none m e =
     let standing = both_nil (standing_refusals m) (items_refusals k m ++ start_hold_refusals k m m.starts) behind_names in
     let items = (both_nil (items_refusals k m) (start_hold_refusals k m m.starts) standing.1).0 in
     let behind_phases =
-    (both_nil (once_refusals m.name.place (phases_places m.phases))
-    (once_refusals m.name.place (start_places m.starts) ++ holds_once_refusals m) standing.0).1 in
+    (both_nil (once_refusals m.name.offset (phases_offsets m.phases))
+    (once_refusals m.name.offset (start_offsets m.starts) ++ holds_once_refusals m) standing.0).1 in
     let sorted = both_nil declarations (starts ++ (holds ++ rules)) items in
     let behind_starts = both_nil starts (holds ++ rules) sorted.1 in
     record {
-      starts = (both_nil (once_refusals m.name.place (start_places m.starts)) (holds_once_refusals m) behind_phases).0;
+      starts = (both_nil (once_refusals m.name.offset (start_offsets m.starts)) (holds_once_refusals m) behind_phases).0;
       declarations = sorted.0;
       known = behind_starts.0;
       holds = (both_nil holds rules behind_starts.1).0;
@@ -192,12 +192,12 @@ pub phase_declared : (m : AtomicTree) (phase : Name) → phase_refusals (known_i
     → is_declared phase.number (scope_of m).phases ≡ true
 phase_declared m phase e = among_declared phase.number (phases_in m.phases) (not_false _ (not_refused _ _ _ e))
 
-start_phase_within : (m : AtomicTree) (starts : List Start) → once_refusals m.name.place (start_places starts) ≡ []
+start_phase_within : (m : AtomicTree) (starts : List Start) → once_refusals m.name.offset (start_offsets starts) ≡ []
     → flat_map (start_refusals (known_in m)) starts ≡ [] → start_phase (scope_of m) starts < length (scope_of m).phases
 start_phase_within m [] once none = absurd (cc)
 start_phase_within m (s ∷ starts) once none =
     let known = (both_nil (start_refusals (known_in m) s) (flat_map (start_refusals (known_in m)) starts) none).0 in
-    let h = place_of_declared s.phase.number (scope_of m).phases (phase_declared m s.phase known) in
+    let h = index_of_declared s.phase.number (scope_of m).phases (phase_declared m s.phase known) in
     rw h.found h.within
 
 pub start_state_fits : (m : AtomicTree) → atomic_refusals m ≡ [] → fits m (start_state m) ≡ true

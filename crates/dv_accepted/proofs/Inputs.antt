@@ -11,7 +11,7 @@ use Rattle.dv_syntax.specs.Trees.{AtomicTree}
 use Rattle.dv_bag.specs.declared.collection.Collection.TheVariants as collection
 use Rattle.dv_eval.specs.declared.scope.Domain.{Domain}
 use Rattle.dv_eval.specs.declared.scope.Domain.TheVariants as domain
-use Rattle.dv_eval.specs.Scope.{inputs_in, is_declared, names_of, place_from, place_of, range_of, scope_of, state_variables_in}
+use Rattle.dv_eval.specs.Scope.{inputs_in, is_declared, names_of, index_from, index_of, range_of, scope_of, state_variables_in}
 use Rattle.dv_eval.specs.Scope.{with_name, with_names}
 use Rattle.dv_eval.specs.Meaning.{bag_received, collection_between}
 use Rattle.dv_check.specs.Names.{first_of, refusal_if, repeats, repeats_after, with_number}
@@ -20,7 +20,7 @@ use Rattle.dv_check.specs.Rules.{number_of_declaration, standing_refusals, start
 use Rattle.dv_accepted.specs.Fitting.{ReadsPort}
 use Rattle.dv_check.proofs.CheckedFiles.{both_nil, not_refused}
 use Rattle.dv_accepted.proofs.Entries.{declared_entry, declared_in, entry_in, with_variables_entry}
-use Rattle.dv_accepted.proofs.Fitting.{or_second, place_of_declared}
+use Rattle.dv_accepted.proofs.Fitting.{or_second, index_of_declared}
 
 -- ---- Names that were seen before
 
@@ -64,7 +64,7 @@ not_again q seen [] before once = refl
 not_again q seen (d ∷ ds) before once =
     let n = number_of_declaration d in
     let rest = repeats_after (with_number seen n) E6 (map name_of_declaration ds) in
-    let both = both_nil (refusal_if (seen n) E6 (name_of_declaration d).place) rest once in
+    let both = both_nil (refusal_if (seen n) E6 (name_of_declaration d).offset) rest once in
     neither_is (n == q) (declares q ds) (other_if (n == q) seen n q refl before (not_refused _ _ _ both.0))
     (not_again q (with_number seen n) ds (stays_seen seen n q before) both.1)
 
@@ -121,7 +121,7 @@ once_behind : (seen : ℕ → Bool) (d : Declaration) (ds : List Declaration) �
 once_behind seen d ds once =
     let n = number_of_declaration d in
     let rest = repeats_after (with_number seen n) E6 (map name_of_declaration ds) in
-    (both_nil (refusal_if (seen n) E6 (name_of_declaration d).place) rest once).1
+    (both_nil (refusal_if (seen n) E6 (name_of_declaration d).offset) rest once).1
 
 apart : (q : ℕ) (seen : ℕ → Bool) (ds : List Declaration) → stand_once seen ds → declares_input q ds ≡ true
     → declared_in (state_variables_in ds) q ≡ None
@@ -170,14 +170,14 @@ declared_among q (n ∷ ns) names e =
     let rest = list_any (λ (x : Name). x.number == q) ns in
     named_if (is_declared n.number names) q n names rest (declared_among q ns (with_name names n) e)
 
-no_place_if : (b : Bool) (k : ℕ) (rest : Bool) (o : Option ℕ) → (b || rest) ≡ false → (rest ≡ false → o ≡ None)
+no_index_if : (b : Bool) (k : ℕ) (rest : Bool) (o : Option ℕ) → (b || rest) ≡ false → (rest ≡ false → o ≡ None)
     → (if b then Some k else o) ≡ None
-no_place_if true k rest o e later = absurd (cc)
-no_place_if false k rest o e later = later e
+no_index_if true k rest o e later = absurd (cc)
+no_index_if false k rest o e later = later e
 
-no_place : (k q : ℕ) (names : List ℕ) → is_declared q names ≡ false → place_from k q names ≡ None
-no_place k q [] e = refl
-no_place k q (n ∷ names) e = no_place_if (n == q) k (is_declared q names) (place_from (k + 1) q names) e (no_place (k + 1) q names)
+no_index : (k q : ℕ) (names : List ℕ) → is_declared q names ≡ false → index_from k q names ≡ None
+no_index k q [] e = refl
+no_index k q (n ∷ names) e = no_index_if (n == q) k (is_declared q names) (index_from (k + 1) q names) e (no_index (k + 1) q names)
 
 -- ---- What is read at a port
 
@@ -191,25 +191,25 @@ not_entered : (m : AtomicTree) (q : ℕ) → declared_in (state_variables_in m.d
 unfolding first_of
 not_entered m q none = with_variables_entry q (state_variables_in m.declarations) [] ∙ none
 
--- the name of an input port has no place among the state variables
-pub port_placeless : (m : AtomicTree) (q : ℕ) → atomic_refusals m ≡ [] → is_declared q (scope_of m).inputs ≡ true
-    → place_of q (names_of (scope_of m).variables) ≡ None
-port_placeless m q none declared =
+-- the name of an input port has no index among the state variables
+pub port_indexless : (m : AtomicTree) (q : ℕ) → atomic_refusals m ≡ [] → is_declared q (scope_of m).inputs ≡ true
+    → index_of q (names_of (scope_of m).variables) ≡ None
+port_indexless m q none declared =
     let is = declared_among q (inputs_in m.declarations) [] declared in
     let unstored = apart q _ m.declarations (names_once m none) is in
     let entries = (scope_of m).variables in
     let undeclared = declared_entry entries q ∙ ap is_some (not_entered m q unstored) in
-    no_place 0 q (names_of entries) undeclared
+    no_index 0 q (names_of entries) undeclared
 
 pub port_read : (m : AtomicTree) (q : ℕ) → atomic_refusals m ≡ [] → is_declared q (scope_of m).inputs ≡ true → ReadsPort (scope_of m) q
 port_read m q none declared =
-    let h = place_of_declared q (scope_of m).inputs declared in
-    let placeless = port_placeless m q none declared in
+    let h = index_of_declared q (scope_of m).inputs declared in
+    let indexless = port_indexless m q none declared in
     record {
-      port = h.place;
+      port = h.index;
       found = h.found;
       within = h.within;
       read = λ moment.
-          ap (λ o. collection_between moment o (place_of q (scope_of m).inputs)) placeless
+          ap (λ o. collection_between moment o (index_of q (scope_of m).inputs)) indexless
           ∙ ap (λ o. collection.Bag (bag_received moment.context.arrivals o)) h.found;
     }

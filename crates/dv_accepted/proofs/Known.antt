@@ -15,7 +15,7 @@ use Rattle.dv_bag.specs.declared.state.Datum.{Datum}
 use Rattle.dv_bag.specs.declared.state.State.{State}
 use Rattle.dv_eval.specs.declared.scope.Domain.{Domain}
 use Rattle.dv_eval.specs.declared.scope.Domain.TheVariants as domain
-use Rattle.dv_eval.specs.Scope.{Scope, names_of, place_of, range_of, scope_of, state_variables_in}
+use Rattle.dv_eval.specs.Scope.{Scope, names_of, index_of, range_of, scope_of, state_variables_in}
 use Rattle.dv_check.specs.declared.declarations.NameSort.{NameSort}
 use Rattle.dv_check.specs.declared.declarations.NameSort.TheVariants.{Variable as ForVariable, Flag as ForFlag, Held as ForHeld}
 use Rattle.dv_check.specs.declared.declarations.NameSort.TheVariants.{Input as ForInput, Output as ForOutput}
@@ -223,92 +223,92 @@ module _ (m : AtomicTree) (q : ℕ) where
   readable_as w rule (Some ForOutput) sort e = absurd (cc)
   readable_as w rule (Some ForLoopVariable) sort e = absurd (cc)
 
--- ---- A name without refusals is of the sort that its place wants
+-- ---- A name without refusals is of the sort that its offset wants
 
-pub value_name_known : (o : Option NameSort) (place : ℕ) → value_name_refusals o place ≡ [] → is_value_sort o ≡ true
-value_name_known None place e = absurd (cc)
-value_name_known (Some ForVariable) place e = refl
-value_name_known (Some ForFlag) place e = refl
-value_name_known (Some (ForHeld d)) place e = absurd (cc)
-value_name_known (Some ForInput) place e = absurd (cc)
-value_name_known (Some ForOutput) place e = absurd (cc)
-value_name_known (Some ForLoopVariable) place e = refl
+pub value_name_known : (o : Option NameSort) (offset : ℕ) → value_name_refusals o offset ≡ [] → is_value_sort o ≡ true
+value_name_known None offset e = absurd (cc)
+value_name_known (Some ForVariable) offset e = refl
+value_name_known (Some ForFlag) offset e = refl
+value_name_known (Some (ForHeld d)) offset e = absurd (cc)
+value_name_known (Some ForInput) offset e = absurd (cc)
+value_name_known (Some ForOutput) offset e = absurd (cc)
+value_name_known (Some ForLoopVariable) offset e = refl
 
-port_known : (b seen : Bool) (place : ℕ) → (if b then refusal_if (not seen) E9 place else refusal E8 place ∷ []) ≡ []
+port_known : (b seen : Bool) (offset : ℕ) → (if b then refusal_if (not seen) E9 offset else refusal E8 offset ∷ []) ≡ []
     → (b && seen) ≡ true
-port_known true seen place e = not_false seen (not_refused _ _ _ e)
-port_known false seen place e = absurd (cc)
+port_known true seen offset e = not_false seen (not_refused _ _ _ e)
+port_known false seen offset e = absurd (cc)
 
-pub held_name_known : (w : Wanted) (rule : Option RuleSort) (o : Option NameSort) (place : ℕ)
-    → held_name_refusals w rule o place ≡ [] → is_readable_sort w rule o ≡ true
-held_name_known w rule None place e = absurd (cc)
-held_name_known w rule (Some ForVariable) place e = absurd (cc)
-held_name_known w rule (Some ForFlag) place e = absurd (cc)
-held_name_known w rule (Some (ForHeld d)) place e = not_false (suits w d) (not_refused _ _ _ e)
-held_name_known w rule (Some ForInput) place e = port_known (suits_port w) (sees_inputs rule) place e
-held_name_known w rule (Some ForOutput) place e = absurd (cc)
-held_name_known w rule (Some ForLoopVariable) place e = absurd (cc)
+pub held_name_known : (w : Wanted) (rule : Option RuleSort) (o : Option NameSort) (offset : ℕ)
+    → held_name_refusals w rule o offset ≡ [] → is_readable_sort w rule o ≡ true
+held_name_known w rule None offset e = absurd (cc)
+held_name_known w rule (Some ForVariable) offset e = absurd (cc)
+held_name_known w rule (Some ForFlag) offset e = absurd (cc)
+held_name_known w rule (Some (ForHeld d)) offset e = not_false (suits w d) (not_refused _ _ _ e)
+held_name_known w rule (Some ForInput) offset e = port_known (suits_port w) (sees_inputs rule) offset e
+held_name_known w rule (Some ForOutput) offset e = absurd (cc)
+held_name_known w rule (Some ForLoopVariable) offset e = absurd (cc)
 
 same_suits : (d other : Discipline) → same_discipline other d ≡ true → suits (wanted_of d) other ≡ true
 same_suits discipline.Bag other same = same
 same_suits discipline.Queue other same = same
 
-pub changed_known : (d : Discipline) (o : Option NameSort) (place : ℕ) → changed_refusals d o place ≡ []
+pub changed_known : (d : Discipline) (o : Option NameSort) (offset : ℕ) → changed_refusals d o offset ≡ []
     → is_held_sort (wanted_of d) o ≡ true
-changed_known d None place e = absurd (cc)
-changed_known d (Some ForVariable) place e = absurd (cc)
-changed_known d (Some ForFlag) place e = absurd (cc)
-changed_known d (Some (ForHeld other)) place e = same_suits d other (not_false (same_discipline other d) (not_refused _ _ _ e))
-changed_known d (Some ForInput) place e = absurd (cc)
-changed_known d (Some ForOutput) place e = absurd (cc)
-changed_known d (Some ForLoopVariable) place e = absurd (cc)
+changed_known d None offset e = absurd (cc)
+changed_known d (Some ForVariable) offset e = absurd (cc)
+changed_known d (Some ForFlag) offset e = absurd (cc)
+changed_known d (Some (ForHeld other)) offset e = same_suits d other (not_false (same_discipline other d) (not_refused _ _ _ e))
+changed_known d (Some ForInput) offset e = absurd (cc)
+changed_known d (Some ForOutput) offset e = absurd (cc)
+changed_known d (Some ForLoopVariable) offset e = absurd (cc)
 
-pub assigned_known : (rule : Option RuleSort) (o : Option NameSort) (place : ℕ) → assignment_refusals rule o place ≡ []
+pub assigned_known : (rule : Option RuleSort) (o : Option NameSort) (offset : ℕ) → assignment_refusals rule o offset ≡ []
     → is_variable_sort o ≡ true
-assigned_known rule None place e = absurd (cc)
-assigned_known rule (Some ForVariable) place e = refl
-assigned_known rule (Some ForFlag) place e = refl
-assigned_known rule (Some (ForHeld d)) place e = absurd (cc)
-assigned_known rule (Some ForInput) place e = absurd (cc)
-assigned_known rule (Some ForOutput) place e = absurd (cc)
-assigned_known rule (Some ForLoopVariable) place e = absurd (cc)
+assigned_known rule None offset e = absurd (cc)
+assigned_known rule (Some ForVariable) offset e = refl
+assigned_known rule (Some ForFlag) offset e = refl
+assigned_known rule (Some (ForHeld d)) offset e = absurd (cc)
+assigned_known rule (Some ForInput) offset e = absurd (cc)
+assigned_known rule (Some ForOutput) offset e = absurd (cc)
+assigned_known rule (Some ForLoopVariable) offset e = absurd (cc)
 
-pub sent_known : (o : Option NameSort) (place : ℕ) → sent_port_refusals o place ≡ [] → is_output o ≡ true
-sent_known None place e = absurd (cc)
-sent_known (Some ForVariable) place e = absurd (cc)
-sent_known (Some ForFlag) place e = absurd (cc)
-sent_known (Some (ForHeld d)) place e = absurd (cc)
-sent_known (Some ForInput) place e = absurd (cc)
-sent_known (Some ForOutput) place e = refl
-sent_known (Some ForLoopVariable) place e = absurd (cc)
+pub sent_known : (o : Option NameSort) (offset : ℕ) → sent_port_refusals o offset ≡ [] → is_output o ≡ true
+sent_known None offset e = absurd (cc)
+sent_known (Some ForVariable) offset e = absurd (cc)
+sent_known (Some ForFlag) offset e = absurd (cc)
+sent_known (Some (ForHeld d)) offset e = absurd (cc)
+sent_known (Some ForInput) offset e = absurd (cc)
+sent_known (Some ForOutput) offset e = refl
+sent_known (Some ForLoopVariable) offset e = absurd (cc)
 
 -- ---- Data of state variables
 
--- the datum at the place of an entry
-pub record FitsAt (ds : List Datum) (place : ℕ) (o : Domain) : Type 0 where
+-- the datum at the index of an entry
+pub record FitsAt (ds : List Datum) (index : ℕ) (o : Domain) : Type 0 where
   pub datum : Datum
-  pub there : slice_get ds place ≡ Some datum
+  pub there : slice_get ds index ≡ Some datum
   pub fitting : datum_fits o datum ≡ true
 
-pub fits_at : (vs : List (ℕ × Domain)) (ds : List Datum) (place : ℕ) (o : Domain) → data_fit vs ds ≡ true
-    → option_map (λ v. v.1) (slice_get vs place) ≡ Some o → FitsAt ds place o
-fits_at [] ds place o e is = absurd (cc)
-fits_at (v ∷ vs) [] place o e is = absurd (cc)
+pub fits_at : (vs : List (ℕ × Domain)) (ds : List Datum) (index : ℕ) (o : Domain) → data_fit vs ds ≡ true
+    → option_map (λ v. v.1) (slice_get vs index) ≡ Some o → FitsAt ds index o
+fits_at [] ds index o e is = absurd (cc)
+fits_at (v ∷ vs) [] index o e is = absurd (cc)
 fits_at (v ∷ vs) (d ∷ ds) zero o e is =
     let same : v.1 ≡ o = cc in
     record { datum = d; there = refl; fitting = rw (← same) (both_true (datum_fits v.1 d) (data_fit vs ds) e).0 }
-fits_at (v ∷ vs) (d ∷ ds) (suc place) o e is =
-    let h = fits_at vs ds place o (both_true (datum_fits v.1 d) (data_fit vs ds) e).1 is in
+fits_at (v ∷ vs) (d ∷ ds) (suc index) o e is =
+    let h = fits_at vs ds index o (both_true (datum_fits v.1 d) (data_fit vs ds) e).1 is in
     record { datum = h.datum; there = h.there; fitting = h.fitting }
 
 datum_held_at : (scope : Scope) (s : State) (q : ℕ) (d : Domain) (o : Option ℕ) → data_fit scope.variables s.variables ≡ true
-    → place_of q (names_of scope.variables) ≡ o → domain_at scope.variables o ≡ Some d → HoldsDatum scope s q d
+    → index_of q (names_of scope.variables) ≡ o → domain_at scope.variables o ≡ Some d → HoldsDatum scope s q d
 datum_held_at scope s q d None fit found is = absurd (cc)
-datum_held_at scope s q d (Some place) fit found is =
-    let held = fits_at scope.variables s.variables place d fit is in
-    record { place = place; found = found; datum = held.datum; there = held.there; fitting = held.fitting }
+datum_held_at scope s q d (Some index) fit found is =
+    let held = fits_at scope.variables s.variables index d fit is in
+    record { index = index; found = found; datum = held.datum; there = held.there; fitting = held.fitting }
 
 pub datum_held : (scope : Scope) (s : State) (q : ℕ) (d : Domain) → fits_in scope s ≡ true → domain_named scope q ≡ Some d
     → HoldsDatum scope s q d
 datum_held scope s q d fit is =
-    datum_held_at scope s q d (place_of q (names_of scope.variables)) (both_true _ (data_fit scope.variables s.variables) fit).1 refl is
+    datum_held_at scope s q d (index_of q (names_of scope.variables)) (both_true _ (data_fit scope.variables s.variables) fit).1 refl is

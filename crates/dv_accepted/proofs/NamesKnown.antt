@@ -19,7 +19,7 @@ use Rattle.dv_check.specs.declared.wanted.Wanted.{Wanted}
 use Rattle.dv_check.specs.declared.wanted.Wanted.TheVariants as wanted
 use Rattle.dv_bag.specs.declared.value.ValueType.{ValueType}
 use Rattle.dv_bag.specs.declared.value.ValueType.TheVariants.{Number, Truth}
-use Rattle.dv_check.specs.Types.{Known, expression_refusals, first_place, held_name_refusals, operand_refusals, place_refusals}
+use Rattle.dv_check.specs.Types.{Known, expression_refusals, first_offset, held_name_refusals, operand_refusals, offset_refusals}
 use Rattle.dv_check.specs.Types.{type_of, type_of_name, type_of_prefix, type_refusals, value_refusals, wanted_by}
 use Rattle.dv_check.specs.Types.{is_readable as is_readable_sort}
 use Rattle.dv_check.specs.Rules.{atomic_refusals, assignment_refusals, change_refusals, changed_refusals, command_name_refusals}
@@ -92,49 +92,49 @@ knows_inside m loops known v k = record {
 module _ (m : AtomicTree) (loops : List ℕ) (k : Known) (knows : Knows m loops k) where
   terms_known : (e : Expression) → expression_refusals k e ≡ [] → are_terms_known (scope_of m) k.rule loops e ≡ true
   terms_known (Literal n) none = refl
-  terms_known (TruthValue place value) none = refl
-  terms_known (Named name) none = knows.value name.number (value_name_known (k.sort name.number) name.place none)
-  terms_known (Parens place e) none = terms_known e none
-  terms_known (Prefixed o place e) none =
-      terms_known e (both_nil (expression_refusals k e) (type_refusals (type_of_prefix o) (type_of k e) (first_place e)) none).0
+  terms_known (TruthValue offset value) none = refl
+  terms_known (Named name) none = knows.value name.number (value_name_known (k.sort name.number) name.offset none)
+  terms_known (Parens offset e) none = terms_known e none
+  terms_known (Prefixed o offset e) none =
+      terms_known e (both_nil (expression_refusals k e) (type_refusals (type_of_prefix o) (type_of k e) (first_offset e)) none).0
   terms_known (Binary o a b) none =
-      let operands = operand_refusals o (type_of k a) (first_place a) (type_of k b) (first_place b) in
+      let operands = operand_refusals o (type_of k a) (first_offset a) (type_of k b) (first_offset b) in
       let left = both_nil (expression_refusals k a) (expression_refusals k b ++ operands) none in
       let right = both_nil (expression_refusals k b) operands left.1 in
       and_true _ (are_terms_known (scope_of m) k.rule loops b) (terms_known a left.0) (terms_known b right.0)
-  terms_known (Call c place b) none =
-      knows.readable (wanted_by c) b.number (held_name_known (wanted_by c) k.rule (k.sort b.number) b.place none)
-  terms_known (Elapsed place) none = not_false _ (not_refused _ _ _ none)
-  terms_known (Times place e b) none =
-      let typed = type_refusals Number (type_of k e) (first_place e) in
-      let named = held_name_refusals wanted.Bag k.rule (k.sort b.number) b.place in
+  terms_known (Call c offset b) none =
+      knows.readable (wanted_by c) b.number (held_name_known (wanted_by c) k.rule (k.sort b.number) b.offset none)
+  terms_known (Elapsed offset) none = not_false _ (not_refused _ _ _ none)
+  terms_known (Times offset e b) none =
+      let typed = type_refusals Number (type_of k e) (first_offset e) in
+      let named = held_name_refusals wanted.Bag k.rule (k.sort b.number) b.offset in
       let left = both_nil (expression_refusals k e) (typed ++ named) none in
       let right = both_nil typed named left.1 in
-      let readable = knows.readable wanted.Bag b.number (held_name_known wanted.Bag k.rule (k.sort b.number) b.place right.1) in
+      let readable = knows.readable wanted.Bag b.number (held_name_known wanted.Bag k.rule (k.sort b.number) b.offset right.1) in
       and_true _ (is_readable wanted.Bag (scope_of m) k.rule b.number) (terms_known e left.0) readable
 
-  place_known : (t : ValueType) (e : Expression) → place_refusals t k e ≡ [] → are_terms_known (scope_of m) k.rule loops e ≡ true
-  place_known t e none = terms_known e (both_nil (expression_refusals k e) (type_refusals t (type_of k e) (first_place e)) none).0
+  index_known : (t : ValueType) (e : Expression) → offset_refusals t k e ≡ [] → are_terms_known (scope_of m) k.rule loops e ≡ true
+  index_known t e none = terms_known e (both_nil (expression_refusals k e) (type_refusals t (type_of k e) (first_offset e)) none).0
 
   value_known : (t : Option ValueType) (e : Expression) → value_refusals t k e ≡ [] → are_terms_known (scope_of m) k.rule loops e ≡ true
   value_known None e none = terms_known e none
-  value_known (Some t) e none = place_known t e none
+  value_known (Some t) e none = index_known t e none
 
   command_known : (c : Command) (name : Name) → command_name_refusals k c name ≡ [] → is_command_known (scope_of m) c name.number ≡ true
   command_known command.Goto name none = knows.phase name.number (not_false _ (not_refused _ _ _ none))
   command_known command.Pop name none =
-      knows.held wanted.Queue name.number (changed_known discipline.Queue (k.sort name.number) name.place none)
+      knows.held wanted.Queue name.number (changed_known discipline.Queue (k.sort name.number) name.offset none)
 
   -- a collection is changed with a value, before what follows
-  change_known : (c : Change) (place : ℕ) (e : Expression) (x : Name) (rest : Bool) → change_refusals k c place e x ≡ [] → rest ≡ true
+  change_known : (c : Change) (offset : ℕ) (e : Expression) (x : Name) (rest : Bool) → change_refusals k c offset e x ≡ [] → rest ≡ true
       → (are_terms_known (scope_of m) k.rule loops e && (is_held (wanted_of (discipline_of_change c)) (scope_of m) x.number && rest)) ≡ true
-  change_known c place e x rest none follows =
+  change_known c offset e x rest none follows =
       let d = discipline_of_change c in
-      let value = place_refusals Number k e in
-      let target = changed_refusals d (k.sort x.number) x.place in
+      let value = offset_refusals Number k e in
+      let target = changed_refusals d (k.sort x.number) x.offset in
       let both = both_nil value target (both_nil _ (value ++ target) none).1 in
-      let there = knows.held (wanted_of d) x.number (changed_known d (k.sort x.number) x.place both.1) in
-      and_true _ _ (place_known Number e both.0) (and_true _ _ there follows)
+      let there = knows.held (wanted_of d) x.number (changed_known d (k.sort x.number) x.offset both.1) in
+      and_true _ _ (index_known Number e both.0) (and_true _ _ there follows)
 
 module _ (m : AtomicTree) where
   statements_known : (loops : List ℕ) (k : Known) (knows : Knows m loops k) (body : Statements) → statements_refusals k body ≡ []
@@ -142,52 +142,52 @@ module _ (m : AtomicTree) where
   statements_known loops k knows Done none = refl
   statements_known loops k knows (Assign variable e rest) none =
       let of_type = type_of_name (k.sort variable.number) in
-      let assigned = assignment_refusals k.rule (k.sort variable.number) variable.place in
+      let assigned = assignment_refusals k.rule (k.sort variable.number) variable.offset in
       let left = both_nil assigned (value_refusals of_type k e ++ statements_refusals k rest) none in
       let right = both_nil (value_refusals of_type k e) (statements_refusals k rest) left.1 in
-      and_true _ _ (knows.variable variable.number (assigned_known k.rule (k.sort variable.number) variable.place left.0))
+      and_true _ _ (knows.variable variable.number (assigned_known k.rule (k.sort variable.number) variable.offset left.0))
       (and_true _ _ (value_known m loops k knows of_type e right.0) (statements_known loops k knows rest right.1))
-  statements_known loops k knows (Does c place name rest) none =
+  statements_known loops k knows (Does c offset name rest) none =
       let named = command_name_refusals k c name in
       let both = both_nil named (statements_refusals k rest) (both_nil _ (named ++ statements_refusals k rest) none).1 in
       and_true _ _ (command_known m loops k knows c name both.0) (statements_known loops k knows rest both.1)
-  statements_known loops k knows (Send place port e rest) none =
-      let port_refusals = sent_port_refusals (k.sort port.number) port.place in
-      let value_refusals = place_refusals Number k e in
+  statements_known loops k knows (Send offset port e rest) none =
+      let port_refusals = sent_port_refusals (k.sort port.number) port.offset in
+      let value_refusals = offset_refusals Number k e in
       let rest_refusals = statements_refusals k rest in
       let behind = (both_nil _ (port_refusals ++ (value_refusals ++ rest_refusals)) none).1 in
       let left = both_nil port_refusals (value_refusals ++ rest_refusals) behind in
       let right = both_nil value_refusals rest_refusals left.1 in
-      and_true _ _ (knows.output port.number (sent_known (k.sort port.number) port.place left.0))
-      (and_true _ _ (place_known m loops k knows Number e right.0) (statements_known loops k knows rest right.1))
-  statements_known loops k knows (If place e block rest) none =
-      let left = both_nil (place_refusals Truth k e) (statements_refusals k block ++ statements_refusals k rest) none in
+      and_true _ _ (knows.output port.number (sent_known (k.sort port.number) port.offset left.0))
+      (and_true _ _ (index_known m loops k knows Number e right.0) (statements_known loops k knows rest right.1))
+  statements_known loops k knows (If offset e block rest) none =
+      let left = both_nil (offset_refusals Truth k e) (statements_refusals k block ++ statements_refusals k rest) none in
       let right = both_nil (statements_refusals k block) (statements_refusals k rest) left.1 in
-      and_true _ _ (place_known m loops k knows Truth e left.0)
+      and_true _ _ (index_known m loops k knows Truth e left.0)
       (and_true _ _ (statements_known loops k knows block right.0) (statements_known loops k knows rest right.1))
-  statements_known loops k knows (IfElse place e block other rest) none =
+  statements_known loops k knows (IfElse offset e block other rest) none =
       let rest_refusals = statements_refusals k rest in
       let other_refusals = statements_refusals k other in
-      let left = both_nil (place_refusals Truth k e) (statements_refusals k block ++ (other_refusals ++ rest_refusals)) none in
+      let left = both_nil (offset_refusals Truth k e) (statements_refusals k block ++ (other_refusals ++ rest_refusals)) none in
       let middle = both_nil (statements_refusals k block) (other_refusals ++ rest_refusals) left.1 in
       let right = both_nil other_refusals rest_refusals middle.1 in
-      and_true _ _ (place_known m loops k knows Truth e left.0)
+      and_true _ _ (index_known m loops k knows Truth e left.0)
       (and_true _ _ (statements_known loops k knows block middle.0)
       (and_true _ _ (statements_known loops k knows other right.0) (statements_known loops k knows rest right.1)))
-  statements_known loops k knows (For place v b block rest) none =
-      let named = held_name_refusals wanted.Values k.rule (k.sort b.number) b.place in
+  statements_known loops k knows (For offset v b block rest) none =
+      let named = held_name_refusals wanted.Values k.rule (k.sort b.number) b.offset in
       let inner = known_in_loop v k in
       let block_refusals = statements_refusals inner block in
       let rest_refusals = statements_refusals k rest in
-      let behind = (both_nil (loop_variable_refusals (k.place v.number) v.place) (named ++ (block_refusals ++ rest_refusals)) none).1 in
+      let behind = (both_nil (loop_variable_refusals (k.offset v.number) v.offset) (named ++ (block_refusals ++ rest_refusals)) none).1 in
       let left = both_nil named (block_refusals ++ rest_refusals) behind in
       let right = both_nil block_refusals rest_refusals left.1 in
-      and_true _ _ (knows.readable wanted.Values b.number (held_name_known wanted.Values k.rule (k.sort b.number) b.place left.0))
+      and_true _ _ (knows.readable wanted.Values b.number (held_name_known wanted.Values k.rule (k.sort b.number) b.offset left.0))
       (and_true _ _ (statements_known (v.number ∷ loops) inner (knows_inside m loops k v knows) block right.0)
       (statements_known loops k knows rest right.1))
-  statements_known loops k knows (Changes c place e x rest) none =
-      let both = both_nil (change_refusals k c place e x) (statements_refusals k rest) none in
-      change_known m loops k knows c place e x _ both.0 (statements_known loops k knows rest both.1)
+  statements_known loops k knows (Changes c offset e x rest) none =
+      let both = both_nil (change_refusals k c offset e x) (statements_refusals k rest) none in
+      change_known m loops k knows c offset e x _ both.0 (statements_known loops k knows rest both.1)
 
   rules_known_from : (rules : List RuleTree) → flat_map (rule_refusals (known_in m)) rules ≡ []
       → AllByRecursion (λ (r : RuleTree). are_names_known (scope_of m) (Some r.sort) [] r.body ≡ true) rules
@@ -201,7 +201,7 @@ module _ (m : AtomicTree) where
 
   ticks_of_known : (ticks : Option Expression) → ticks_refusals (known_in m) ticks ≡ [] → are_ticks_known (scope_of m) ticks ≡ true
   ticks_of_known None none = refl
-  ticks_of_known (Some e) none = place_known m [] (known_in m) (knows_outside m None) Number e none
+  ticks_of_known (Some e) none = index_known m [] (known_in m) (knows_outside m None) Number e none
 
   ticks_known : (h : HoldTree) → hold_refusals (known_in m) h ≡ [] → are_ticks_known (scope_of m) h.ticks ≡ true
   ticks_known h none = ticks_of_known h.ticks (both_nil (phase_refusals (known_in m) h.phase) (ticks_refusals (known_in m) h.ticks) none).1

@@ -9,7 +9,7 @@ use Rattle.dv_bag.specs.declared.state.State.{State}
 use Rattle.dv_bag.specs.declared.state.Effect.{Effect}
 use Rattle.dv_bag.proofs.InputBags.{nothing_are_bags}
 use Rattle.dv_bag.proofs.Pairs.{with_copies_bag}
-use Rattle.dv_eval.specs.Scope.{Scope, place_of}
+use Rattle.dv_eval.specs.Scope.{Scope, index_of}
 use Rattle.dv_eval.specs.Meaning.{effect_of, outermost, with_goto, with_value_at}
 use Rattle.dv_accepted.proofs.Keeping.{keeps_in_any_state, run_keeps}
 
@@ -17,12 +17,12 @@ abbrev pub SendsBags : Effect → Type 0
 SendsBags e = AreBags e.sent
 
 -- a bag more
-bag_put : (bags : List Counts) (place : ℕ) (b : Counts) → AreBags bags → IsBag b → AreBags (slice_set bags place b)
-bag_put [] place b are is port = tt
+bag_put : (bags : List Counts) (index : ℕ) (b : Counts) → AreBags bags → IsBag b → AreBags (slice_set bags index b)
+bag_put [] index b are is port = tt
 bag_put (x ∷ bags) zero b are is zero = is
 bag_put (x ∷ bags) zero b are is (suc port) = are (suc port)
-bag_put (x ∷ bags) (suc place) b are is zero = are zero
-bag_put (x ∷ bags) (suc place) b are is (suc port) = bag_put bags place b (λ k. are (suc k)) is port
+bag_put (x ∷ bags) (suc index) b are is zero = are zero
+bag_put (x ∷ bags) (suc index) b are is (suc port) = bag_put bags index b (λ k. are (suc k)) is port
 
 -- one value more
 value_sent : (o : Option ℕ) (n : ℤ) (e : Effect) → SendsBags e → SendsBags (with_value_at o n e)
@@ -39,6 +39,6 @@ pub effect_sends_bags : (scope : Scope) (body : Statements) (arrivals : Arrivals
 effect_sends_bags scope body arrivals s =
     let start : Effect = record { state = s; sent = replicate (length scope.outputs) []; goto = None } in
     let kept = keeps_in_any_state scope SendsBags (λ e now are. are) (λ phase. Unit {0})
-    (λ phase e anywhere are. gone (place_of phase scope.phases) e are)
-    (λ port n e are. value_sent (place_of port scope.outputs) n e are) in
+    (λ phase e anywhere are. gone (index_of phase scope.phases) e are)
+    (λ port n e are. value_sent (index_of port scope.outputs) n e are) in
     run_keeps scope SendsBags kept (outermost arrivals) body start (nothing_are_bags (length scope.outputs))

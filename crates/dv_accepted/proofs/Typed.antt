@@ -39,8 +39,8 @@ use Rattle.dv_bag.specs.declared.value.ValueType.{ValueType}
 use Rattle.dv_bag.specs.declared.value.ValueType.TheVariants.{Number, Truth}
 use Rattle.dv_check.specs.Names.{refusal_if}
 use Rattle.dv_check.specs.declared.wanted.Wanted.TheVariants as wanted
-use Rattle.dv_check.specs.Types.{Known, alike, both_of, differ, expression_refusals, first_place, held_name_refusals, is_of}
-use Rattle.dv_check.specs.Types.{is_readable, knows_elapsed, operand_refusals, operands_wanted, place_refusals, same_type, type_if}
+use Rattle.dv_check.specs.Types.{Known, alike, both_of, differ, expression_refusals, first_offset, held_name_refusals, is_of}
+use Rattle.dv_check.specs.Types.{is_readable, knows_elapsed, operand_refusals, operands_wanted, offset_refusals, same_type, type_if}
 use Rattle.dv_check.specs.Types.{type_of, type_of_name, type_of_operator, type_of_prefix, type_refusals, value_name_refusals, wanted_by}
 use Rattle.dv_check.specs.Rules.{known_in, known_in_rule, sort_in}
 use Rattle.dv_accepted.specs.Fitting.{context_within, datum_fits, fits_in, HoldsDatum, is_of_type, known_within, values_within}
@@ -98,24 +98,24 @@ operands_typed o a b p q left right e =
     let h = operator_typed o left.0 right.0 p q (sym same ∙ e) in
     (h.0, ap (λ x. type_of_operator o x b) left.1 ∙ ap (λ y. type_of_operator o (Some left.0) y) right.1 ∙ h.1)
 
-value_name_typed : (o : Option NameSort) (place : ℕ) → value_name_refusals o place ≡ [] → Typed (type_of_name o)
-value_name_typed None place e = absurd (cc)
-value_name_typed (Some ForVariable) place e = (Number, refl)
-value_name_typed (Some ForFlag) place e = (Truth, refl)
-value_name_typed (Some (ForHeld d)) place e = absurd (cc)
-value_name_typed (Some ForInput) place e = absurd (cc)
-value_name_typed (Some ForOutput) place e = absurd (cc)
-value_name_typed (Some ForLoopVariable) place e = (Number, refl)
+value_name_typed : (o : Option NameSort) (offset : ℕ) → value_name_refusals o offset ≡ [] → Typed (type_of_name o)
+value_name_typed None offset e = absurd (cc)
+value_name_typed (Some ForVariable) offset e = (Number, refl)
+value_name_typed (Some ForFlag) offset e = (Truth, refl)
+value_name_typed (Some (ForHeld d)) offset e = absurd (cc)
+value_name_typed (Some ForInput) offset e = absurd (cc)
+value_name_typed (Some ForOutput) offset e = absurd (cc)
+value_name_typed (Some ForLoopVariable) offset e = (Number, refl)
 
-wanted_type : (wanted t : ValueType) (place : ℕ) → refusal_if (not (same_type wanted t)) E8 place ≡ [] → wanted ≡ t
-wanted_type Number Number place e = refl
-wanted_type Number Truth place e = absurd (cc)
-wanted_type Truth Number place e = absurd (cc)
-wanted_type Truth Truth place e = refl
+wanted_type : (wanted t : ValueType) (offset : ℕ) → refusal_if (not (same_type wanted t)) E8 offset ≡ [] → wanted ≡ t
+wanted_type Number Number offset e = refl
+wanted_type Number Truth offset e = absurd (cc)
+wanted_type Truth Number offset e = absurd (cc)
+wanted_type Truth Truth offset e = refl
 
-type_wanted : (wanted : ValueType) (o : Option ValueType) (place : ℕ) → Typed o → type_refusals wanted o place ≡ [] → o ≡ Some wanted
-type_wanted wanted o place typed e =
-    typed.1 ∙ ap (λ t. Some t) (sym (wanted_type wanted typed.0 place (sym (ap (λ x. type_refusals wanted x place) typed.1) ∙ e)))
+type_wanted : (wanted : ValueType) (o : Option ValueType) (offset : ℕ) → Typed o → type_refusals wanted o offset ≡ [] → o ≡ Some wanted
+type_wanted wanted o offset typed e =
+    typed.1 ∙ ap (λ t. Some t) (sym (wanted_type wanted typed.0 offset (sym (ap (λ x. type_refusals wanted x offset) typed.1) ∙ e)))
 
 same_if : (t : ValueType) → type_if (same_type t t) t ≡ Some t
 same_if Number = refl
@@ -124,39 +124,39 @@ same_if Truth = refl
 module _ (known : Known) where
   expression_typed : (e : Expression) → expression_refusals known e ≡ [] → Typed (type_of known e)
   expression_typed (Literal n) none = (Number, refl)
-  expression_typed (TruthValue place value) none = (Truth, refl)
-  expression_typed (Named name) none = value_name_typed (known.sort name.number) name.place none
-  expression_typed (Parens place e) none = expression_typed e none
-  expression_typed (Prefixed operator place e) none =
+  expression_typed (TruthValue offset value) none = (Truth, refl)
+  expression_typed (Named name) none = value_name_typed (known.sort name.number) name.offset none
+  expression_typed (Parens offset e) none = expression_typed e none
+  expression_typed (Prefixed operator offset e) none =
       let wanted = type_of_prefix operator in
-      let both = both_nil (expression_refusals known e) (type_refusals wanted (type_of known e) (first_place e)) none in
-      let of_wanted = type_wanted wanted (type_of known e) (first_place e) (expression_typed e both.0) both.1 in
+      let both = both_nil (expression_refusals known e) (type_refusals wanted (type_of known e) (first_offset e)) none in
+      let of_wanted = type_wanted wanted (type_of known e) (first_offset e) (expression_typed e both.0) both.1 in
       (wanted, ap (λ o. type_if (is_of wanted o) wanted) of_wanted ∙ same_if wanted)
   expression_typed (Binary o a b) none =
-      let operands = operand_refusals o (type_of known a) (first_place a) (type_of known b) (first_place b) in
+      let operands = operand_refusals o (type_of known a) (first_offset a) (type_of known b) (first_offset b) in
       let left = both_nil (expression_refusals known a) (expression_refusals known b ++ operands) none in
       let right = both_nil (expression_refusals known b) operands left.1 in
-      operands_typed o (type_of known a) (type_of known b) (first_place a) (first_place b) (expression_typed a left.0)
+      operands_typed o (type_of known a) (type_of known b) (first_offset a) (first_offset b) (expression_typed a left.0)
       (expression_typed b right.0) right.1
-  expression_typed (Call c place x) none =
+  expression_typed (Call c offset x) none =
       let w = wanted_by c in
-      some_if (is_readable w known.rule (known.sort x.number)) Number (held_name_known w known.rule (known.sort x.number) x.place none)
-  expression_typed (Elapsed place) none = some_if (knows_elapsed known.rule) Number (not_false _ (not_refused _ _ _ none))
-  expression_typed (Times place e bag) none =
-      let typed = type_refusals Number (type_of known e) (first_place e) in
-      let named = held_name_refusals wanted.Bag known.rule (known.sort bag.number) bag.place in
+      some_if (is_readable w known.rule (known.sort x.number)) Number (held_name_known w known.rule (known.sort x.number) x.offset none)
+  expression_typed (Elapsed offset) none = some_if (knows_elapsed known.rule) Number (not_false _ (not_refused _ _ _ none))
+  expression_typed (Times offset e bag) none =
+      let typed = type_refusals Number (type_of known e) (first_offset e) in
+      let named = held_name_refusals wanted.Bag known.rule (known.sort bag.number) bag.offset in
       let left = both_nil (expression_refusals known e) (typed ++ named) none in
       let right = both_nil typed named left.1 in
-      let of_wanted = type_wanted Number (type_of known e) (first_place e) (expression_typed e left.0) right.0 in
-      let readable = held_name_known wanted.Bag known.rule (known.sort bag.number) bag.place right.1 in
+      let of_wanted = type_wanted Number (type_of known e) (first_offset e) (expression_typed e left.0) right.0 in
+      let readable = held_name_known wanted.Bag known.rule (known.sort bag.number) bag.offset right.1 in
       let is_number = ap (is_of Number) of_wanted in
       some_if _ Number
       (and_true (is_of Number (type_of known e)) (is_readable wanted.Bag known.rule (known.sort bag.number)) is_number readable)
 
-  pub place_typed : (wanted : ValueType) (e : Expression) → place_refusals wanted known e ≡ [] → type_of known e ≡ Some wanted
-  place_typed wanted e none =
-      let both = both_nil (expression_refusals known e) (type_refusals wanted (type_of known e) (first_place e)) none in
-      type_wanted wanted (type_of known e) (first_place e) (expression_typed e both.0) both.1
+  pub index_typed : (wanted : ValueType) (e : Expression) → offset_refusals wanted known e ≡ [] → type_of known e ≡ Some wanted
+  index_typed wanted e none =
+      let both = both_nil (expression_refusals known e) (type_refusals wanted (type_of known e) (first_offset e)) none in
+      type_wanted wanted (type_of known e) (first_offset e) (expression_typed e both.0) both.1
 
 -- ---- Its values are of this type
 
@@ -305,18 +305,18 @@ module _ (m : AtomicTree) (rule : Option RuleSort) (arrivals : Arrivals) (bound 
 
   pub value_typed : (e : Expression) (t : ValueType) → type_of known e ≡ Some t → IfOk (given e) (OfType t)
   value_typed (Literal n) t typed = let same : Number ≡ t = cc in rw (← same) refl
-  value_typed (TruthValue place b) t typed = let same : Truth ≡ t = cc in rw (← same) refl
+  value_typed (TruthValue offset b) t typed = let same : Truth ≡ t = cc in rw (← same) refl
   value_typed (Named name) t typed = name_typed m s fit rule arrivals bound name.number t typed
-  value_typed (Parens place e) t typed = value_typed e t typed
-  value_typed (Prefixed o place e) t typed =
+  value_typed (Parens offset e) t typed = value_typed e t typed
+  value_typed (Prefixed o offset e) t typed =
       if_ok_after (given e) (prefix_result o) (OfType t) (λ x. prefix_typed o _ t x typed)
   value_typed (Binary o a b) t typed =
       if_ok_after (given a) _ (OfType t) (λ x.
       asked_typed (is_decided o x) o (type_of known a) (type_of known b) t x (given b) refl typed)
-  value_typed (Call c place b) t typed =
+  value_typed (Call c offset b) t typed =
       let asked = collection_of_name (scope_of m) (moment_in (context_within arrivals bound) s) b.number in
       of_type_if _ Number t (call_result c asked) typed (call_typed c asked)
-  value_typed (Elapsed place) t typed =
+  value_typed (Elapsed offset) t typed =
       of_type_if _ Number t (number_or_overflow (pos arrivals.elapsed)) typed (kept_number (pos arrivals.elapsed))
-  value_typed (Times place e b) t typed =
-      of_type_if _ Number t (given (Times place e b)) typed (if_ok_after (given e) _ (OfType Number) (λ x. refl))
+  value_typed (Times offset e b) t typed =
+      of_type_if _ Number t (given (Times offset e b)) typed (if_ok_after (given e) _ (OfType Number) (λ x. refl))

@@ -35,12 +35,12 @@ heap capacity ticks value = record {
   declarations =
       Out (named 1 18)
       ∷ (Var digit
-      ∷ (Held (record { discipline = discipline.Bag; name = named 3 41; capacity = record { value = capacity; place = 43 } })
+      ∷ (Held (record { discipline = discipline.Bag; name = named 3 41; capacity = record { value = capacity; offset = 43 } })
       ∷ (Flag (record { name = named 4 53; start = false })
       ∷ [])));
-  phases = record { place = 65; names = named 5 72 ∷ [] } ∷ [];
-  starts = record { place = 75; phase = named 5 81 } ∷ [];
-  holds = record { place = 84; phase = named 5 89; ticks = Some ticks } ∷ [];
+  phases = record { offset = 65; names = named 5 72 ∷ [] } ∷ [];
+  starts = record { offset = 75; phase = named 5 81 } ∷ [];
+  holds = record { offset = 84; phase = named 5 89; ticks = Some ticks } ∷ [];
   rules =
       record { sort = rule.Output; phase = named 5 136; body = sending_all }
       ∷ (record { sort = rule.Internal; phase = named 5 196; body = changing value }
@@ -66,9 +66,9 @@ with_bag capacity ticks value = record {
 
 -- size(NAME)
 abbrev pub size_at : ℕ → ℕ → Expression
-size_at place name = Call Size place (named name (place + 5))
+size_at offset name = Call Size offset (named name (offset + 5))
 
--- the file whose bag has 8 places, and whose hold is as many ticks as the bag has values
+-- the file whose bag has 8 indices, and whose hold is as many ticks as the bag has values
 abbrev pub assigning : Expression → FileTree
 assigning value = with_bag 8 (size_at 92 3) value
 

@@ -16,9 +16,9 @@ abbrev pub twice_wrong : AtomicTree
 twice_wrong = record {
   name = named 0 7;
   declarations = Var empty_range ∷ (Out (named 3 67) ∷ []);
-  phases = record { place = 11; names = named 1 18 ∷ [] } ∷ [];
-  starts = record { place = 21; phase = named 1 27 } ∷ [];
-  holds = record { place = 30; phase = named 1 35; ticks = Some (Named (named 2 38)) } ∷ [];
+  phases = record { offset = 11; names = named 1 18 ∷ [] } ∷ [];
+  starts = record { offset = 21; phase = named 1 27 } ∷ [];
+  holds = record { offset = 30; phase = named 1 35; ticks = Some (Named (named 2 38)) } ∷ [];
   rules = [];
 }
 
@@ -43,7 +43,7 @@ on_one_line = record {
 abbrev pub unknown_source : Link
 unknown_source =
     record {
-      place = 21;
+      offset = 21;
       from = record { part = Some (named 2 26); port = named 3 28 };
       to = record { part = None; port = named 1 38 };
     }
@@ -51,7 +51,7 @@ unknown_source =
 abbrev pub unknown_source_again : Link
 unknown_source_again =
     record {
-      place = 41;
+      offset = 41;
       from = record { part = Some (named 2 46); port = named 3 48 };
       to = record { part = None; port = named 1 58 };
     }

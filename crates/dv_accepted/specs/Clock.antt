@@ -11,15 +11,15 @@ use Rattle.dv_syntax.specs.declared.tree.RuleSort.TheVariants as rule
 use Rattle.dv_syntax.specs.Trees.{Expression, Literal, Named, Binary, Statements, Done, Assign, Does, Send, IfElse, AtomicTree}
 use Rattle.dv_syntax.specs.Trees.{AtomicModel, CoupledModel, CoupledTree, FileTree}
 
--- a name, a bound and a number at a place
+-- a name, a bound and a number at an offset
 abbrev pub named : ℕ → ℕ → Name
-named number place = record { number = number; place = place }
+named number offset = record { number = number; offset = offset }
 
 abbrev pub bound : ℕ → ℕ → Bound
-bound n place = record { minus = None; magnitude = record { value = n; place = place } }
+bound n offset = record { minus = None; magnitude = record { value = n; offset = offset } }
 
 abbrev pub literal : ℕ → ℕ → Expression
-literal n place = Literal (record { value = n; place = place })
+literal n offset = Literal (record { value = n; offset = offset })
 
 -- the names: 0 Tick, 1 beat, 2 n, 3 run, 4 stop, 5 Top, 6 o, 7 t
 -- var n: 0..3 = 0;
@@ -36,11 +36,11 @@ abbrev pub tick : AtomicTree
 tick = record {
   name = named 0 7;
   declarations = Out (named 1 18) ∷ (Var count ∷ []);
-  phases = record { place = 50; names = named 3 57 ∷ (named 4 62 ∷ []) } ∷ [];
-  starts = record { place = 70; phase = named 3 76 } ∷ [];
+  phases = record { offset = 50; names = named 3 57 ∷ (named 4 62 ∷ []) } ∷ [];
+  starts = record { offset = 70; phase = named 3 76 } ∷ [];
   holds =
-      record { place = 90; phase = named 3 95; ticks = Some (literal 5 100) }
-      ∷ (record { place = 110; phase = named 4 115; ticks = None } ∷ []);
+      record { offset = 90; phase = named 3 95; ticks = Some (literal 5 100) }
+      ∷ (record { offset = 110; phase = named 4 115; ticks = None } ∷ []);
   rules =
       record { sort = rule.Output; phase = named 3 140; body = Send 146 (named 1 151) (Named (named 2 156)) Done }
       ∷ (record { sort = rule.Internal; phase = named 3 190; body = counting }
@@ -49,11 +49,11 @@ tick = record {
 
 -- link t.beat -> self.o;
 abbrev pub link_at : ℕ → Link
-link_at place =
+link_at offset =
     record {
-      place = place;
-      from = record { part = Some (named 7 (place + 5)); port = named 1 (place + 7) };
-      to = record { part = None; port = named 6 (place + 20) };
+      offset = offset;
+      from = record { part = Some (named 7 (offset + 5)); port = named 1 (offset + 7) };
+      to = record { part = None; port = named 6 (offset + 20) };
     }
 
 -- coupled Top { out o; part t: Tick; LINKS }

@@ -21,7 +21,7 @@ use Rattle.dv_bag.specs.declared.state.Datum.TheVariants as datum
 use Rattle.dv_bag.specs.declared.state.State.{State}
 use Rattle.dv_eval.specs.declared.scope.Domain.{Domain}
 use Rattle.dv_eval.specs.declared.scope.Domain.TheVariants as domain
-use Rattle.dv_eval.specs.Scope.{Scope, is_declared, names_of, place_of, scope_of}
+use Rattle.dv_eval.specs.Scope.{Scope, is_declared, names_of, index_of, scope_of}
 use Rattle.dv_bag.specs.Arrivals.{Arrivals}
 use Rattle.dv_bag.specs.Effects.{is_within}
 use Rattle.dv_eval.specs.Meaning.{Context, Moment, collection_of_name}
@@ -63,20 +63,20 @@ fits m s = fits_in (scope_of m) s
 
 -- the state in another phase
 abbrev pub in_phase : State → ℕ → State
-in_phase s place = record { phase = place; variables = s.variables }
+in_phase s index = record { phase = index; variables = s.variables }
 
 -- a goto, if there is one, that leads to a phase of the model
 abbrev pub LeadsToPhase : Scope → Option ℕ → Type 0
 LeadsToPhase scope None = Unit {0}
-LeadsToPhase scope (Some place) = place < length scope.phases
+LeadsToPhase scope (Some index) = index < length scope.phases
 
 -- what the variable, flag, bag or queue of a name may hold
 abbrev pub domain_at : List (ℕ × Domain) → Option ℕ → Option Domain
 domain_at variables None = None
-domain_at variables (Some place) = option_map (λ v. v.1) (slice_get variables place)
+domain_at variables (Some index) = option_map (λ v. v.1) (slice_get variables index)
 
 abbrev pub domain_named : Scope → ℕ → Option Domain
-domain_named scope name = domain_at scope.variables (place_of name (names_of scope.variables))
+domain_named scope name = domain_at scope.variables (index_of name (names_of scope.variables))
 
 abbrev pub has_value : Option Domain → Bool
 has_value None = false
@@ -125,14 +125,14 @@ is_assignable scope loops name = is_variable scope name && not (is_declared name
 -- bags or queues that can be read, as the call wants; `elapsed` is known in external rules alone
 abbrev pub are_terms_known : Scope → Option RuleSort → List ℕ → Expression → Bool
 are_terms_known scope rule loops (Literal n) = true
-are_terms_known scope rule loops (TruthValue place value) = true
+are_terms_known scope rule loops (TruthValue offset value) = true
 are_terms_known scope rule loops (Named name) = is_value scope loops name.number
-are_terms_known scope rule loops (Parens place e) = are_terms_known scope rule loops e
-are_terms_known scope rule loops (Prefixed operator place e) = are_terms_known scope rule loops e
+are_terms_known scope rule loops (Parens offset e) = are_terms_known scope rule loops e
+are_terms_known scope rule loops (Prefixed operator offset e) = are_terms_known scope rule loops e
 are_terms_known scope rule loops (Binary operator a b) = are_terms_known scope rule loops a && are_terms_known scope rule loops b
-are_terms_known scope rule loops (Call call place b) = is_readable (wanted_by call) scope rule b.number
-are_terms_known scope rule loops (Elapsed place) = knows_elapsed rule
-are_terms_known scope rule loops (Times place e b) = are_terms_known scope rule loops e && is_readable wanted.Bag scope rule b.number
+are_terms_known scope rule loops (Call call offset b) = is_readable (wanted_by call) scope rule b.number
+are_terms_known scope rule loops (Elapsed offset) = knows_elapsed rule
+are_terms_known scope rule loops (Times offset e b) = are_terms_known scope rule loops e && is_readable wanted.Bag scope rule b.number
 
 -- those of a hold, which stands in no rule
 abbrev pub are_ticks_known : Scope → Option Expression → Bool
@@ -145,18 +145,18 @@ abbrev pub are_names_known : Scope → Option RuleSort → List ℕ → Statemen
 are_names_known scope rule loops Done = true
 are_names_known scope rule loops (Assign variable e rest) =
     is_assignable scope loops variable.number && (are_terms_known scope rule loops e && are_names_known scope rule loops rest)
-are_names_known scope rule loops (Does c place name rest) = is_command_known scope c name.number && are_names_known scope rule loops rest
-are_names_known scope rule loops (Send place port e rest) =
+are_names_known scope rule loops (Does c offset name rest) = is_command_known scope c name.number && are_names_known scope rule loops rest
+are_names_known scope rule loops (Send offset port e rest) =
     is_declared port.number scope.outputs && (are_terms_known scope rule loops e && are_names_known scope rule loops rest)
-are_names_known scope rule loops (If place e block rest) =
+are_names_known scope rule loops (If offset e block rest) =
     are_terms_known scope rule loops e && (are_names_known scope rule loops block && are_names_known scope rule loops rest)
-are_names_known scope rule loops (IfElse place e block other rest) =
+are_names_known scope rule loops (IfElse offset e block other rest) =
     are_terms_known scope rule loops e
     && (are_names_known scope rule loops block && (are_names_known scope rule loops other && are_names_known scope rule loops rest))
-are_names_known scope rule loops (For place v b block rest) =
+are_names_known scope rule loops (For offset v b block rest) =
     is_readable wanted.Values scope rule b.number
     && (are_names_known scope rule (v.number ∷ loops) block && are_names_known scope rule loops rest)
-are_names_known scope rule loops (Changes c place e x rest) =
+are_names_known scope rule loops (Changes c offset e x rest) =
     are_terms_known scope rule loops e
     && (is_held (wanted_of (discipline_of_change c)) scope x.number && are_names_known scope rule loops rest)
 
@@ -181,17 +181,17 @@ values_within (v ∷ bound) = (v.0.number, v.1) ∷ values_within bound
 abbrev pub context_within : Arrivals → List (Name × ℤ) → Context
 context_within arrivals bound = record { arrivals = arrivals; loops = values_within bound }
 
--- the state has a datum of this domain at the place of the name
+-- the state has a datum of this domain at the index of the name
 pub record HoldsDatum (scope : Scope) (s : State) (name : ℕ) (d : Domain) : Type 0 where
-  pub place : ℕ
-  pub found : place_of name (names_of scope.variables) ≡ Some place
+  pub index : ℕ
+  pub found : index_of name (names_of scope.variables) ≡ Some index
   pub datum : Datum
-  pub there : slice_get s.variables place ≡ Some datum
+  pub there : slice_get s.variables index ≡ Some datum
   pub fitting : datum_fits d datum ≡ true
 
 -- the name is that of an input port, and stands for the bag that has arrived there
 pub record ReadsPort (scope : Scope) (name : ℕ) : Type 0 where
   pub port : ℕ
-  pub found : place_of name scope.inputs ≡ Some port
+  pub found : index_of name scope.inputs ≡ Some port
   pub within : port < length scope.inputs
   pub read : (m : Moment) → collection_of_name scope m name ≡ collection.Bag (bag_at m.context.arrivals.received port)

@@ -11,9 +11,9 @@ abbrev pub lamp : Expression → AtomicTree
 lamp value = record {
   name = named 0 7;
   declarations = Flag (record { name = named 1 19; start = false }) ∷ [];
-  phases = record { place = 31; names = named 2 38 ∷ [] } ∷ [];
-  starts = record { place = 41; phase = named 2 47 } ∷ [];
-  holds = record { place = 50; phase = named 2 55; ticks = None } ∷ [];
+  phases = record { offset = 31; names = named 2 38 ∷ [] } ∷ [];
+  starts = record { offset = 41; phase = named 2 47 } ∷ [];
+  holds = record { offset = 50; phase = named 2 55; ticks = None } ∷ [];
   rules = record { sort = rule.Internal; phase = named 2 76; body = Assign (named 1 80) value Done } ∷ [];
 }
 

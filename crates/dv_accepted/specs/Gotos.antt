@@ -14,9 +14,9 @@ goto_of command.Pop name = []
 abbrev pub gotos_in : Statements → List ℕ
 gotos_in Done = []
 gotos_in (Assign variable e rest) = gotos_in rest
-gotos_in (Does c place name rest) = goto_of c name ++ gotos_in rest
-gotos_in (Send place port e rest) = gotos_in rest
-gotos_in (If place e block rest) = gotos_in block ++ gotos_in rest
-gotos_in (IfElse place e block other rest) = gotos_in block ++ (gotos_in other ++ gotos_in rest)
-gotos_in (For place v b block rest) = gotos_in block ++ gotos_in rest
-gotos_in (Changes c place e x rest) = gotos_in rest
+gotos_in (Does c offset name rest) = goto_of c name ++ gotos_in rest
+gotos_in (Send offset port e rest) = gotos_in rest
+gotos_in (If offset e block rest) = gotos_in block ++ gotos_in rest
+gotos_in (IfElse offset e block other rest) = gotos_in block ++ (gotos_in other ++ gotos_in rest)
+gotos_in (For offset v b block rest) = gotos_in block ++ gotos_in rest
+gotos_in (Changes c offset e x rest) = gotos_in rest

@@ -17,12 +17,12 @@ line body = record {
   name = named 0 7;
   declarations =
       Var digit
-      ∷ (Held (record { discipline = discipline.Queue; name = named 3 43; capacity = record { value = 8; place = 45 } })
-      ∷ (Held (record { discipline = discipline.Bag; name = named 4 52; capacity = record { value = 8; place = 54 } })
+      ∷ (Held (record { discipline = discipline.Queue; name = named 3 43; capacity = record { value = 8; offset = 45 } })
+      ∷ (Held (record { discipline = discipline.Bag; name = named 4 52; capacity = record { value = 8; offset = 54 } })
       ∷ []));
-  phases = record { place = 57; names = named 5 64 ∷ [] } ∷ [];
-  starts = record { place = 67; phase = named 5 73 } ∷ [];
-  holds = record { place = 76; phase = named 5 81; ticks = None } ∷ [];
+  phases = record { offset = 57; names = named 5 64 ∷ [] } ∷ [];
+  starts = record { offset = 67; phase = named 5 73 } ∷ [];
+  holds = record { offset = 76; phase = named 5 81; ticks = None } ∷ [];
   rules = record { sort = rule.Internal; phase = named 5 101; body = body } ∷ [];
 }
 

@@ -15,7 +15,7 @@ ghost use Rattle.dv_bag.specs.Arrivals.{Arrivals};
 ghost use Rattle.dv_bag.specs.BagLists.{AreBags};
 ghost use Rattle.dv_eval.specs.Meaning.{effect_of, meaning, moment_in, outermost};
 ghost use Rattle.dv_bag.specs.declared.value.ValueType.{ValueType};
-ghost use Rattle.dv_check.specs.Types.{Known, place_refusals, type_of};
+ghost use Rattle.dv_check.specs.Types.{Known, offset_refusals, type_of};
 ghost use Rattle.dv_check.specs.Rules.{atomic_refusals, known_in, known_in_rule};
 ghost use Rattle.dv_accepted.specs.Fitting.{are_names_known, are_ticks_known, context_within, domain_named, fits, HoldsDatum};
 ghost use Rattle.dv_accepted.specs.Fitting.{in_phase, is_of_type, known_within, LeadsToPhase, ReadsPort};
@@ -36,8 +36,8 @@ pub fn rules_keep_to_the_ranges()
     ensures goto { (m : AtomicTree) (body : Statements) (arrivals : Arrivals) (s : State)
         (e : Effect) → fits m s ≡ true →
         effect_of (scope_of m) body arrivals s ≡ Ok e → LeadsToPhase (scope_of m) e.goto }
-    ensures phase { (m : AtomicTree) (s : State) (place : ℕ) → fits m s ≡ true →
-        place < length (scope_of m).phases → fits m (in_phase s place) ≡ true }
+    ensures phase { (m : AtomicTree) (s : State) (index : ℕ) → fits m s ≡ true →
+        index < length (scope_of m).phases → fits m (in_phase s index) ≡ true }
 {}
 
 /// What a rule sends stands in bags, whatever has arrived.
@@ -64,12 +64,12 @@ pub fn accepted_names_are_known()
         is_declared name (scope_of m).inputs ≡ true → ReadsPort (scope_of m) name }
 {}
 
-/// An expression that is accepted in a place is of the type that the place wants. In a state that fits, its value, if it
+/// An expression that is accepted in an index is of the type that the index wants. In a state that fits, its value, if it
 /// has one, is of that type, outside of loops and in their blocks, in a hold and in rules of each sort, whatever has
 /// arrived: a truth value is never taken for a number, nor a number for a truth value.
 pub fn accepted_values_are_of_their_types()
     ensures typed { (known : Known) (wanted : ValueType) (e : Expression) →
-        place_refusals wanted known e ≡ [] → type_of known e ≡ Some wanted }
+        offset_refusals wanted known e ≡ [] → type_of known e ≡ Some wanted }
     ensures value { (m : AtomicTree) (rule : Option RuleSort) (arrivals : Arrivals) (s : State)
         (e : Expression) (t : ValueType) (v : Value) → fits m s ≡ true →
         type_of (known_in_rule rule (known_in m)) e ≡ Some t →

@@ -28,7 +28,7 @@ pub fn a_link_stands_once()
 {}
 
 /// Of several refusals on one line the first is answered, whatever its number.
-pub fn the_first_place_is_answered()
+pub fn the_first_offset_is_answered()
     ensures { refusal_of on_one_line ≡ Some (refusal number.E7 38) }
 {}
 

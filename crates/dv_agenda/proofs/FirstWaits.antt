@@ -1,16 +1,16 @@
--- The first wait of a list and the places that are due, as a walk over the list finds them.
+-- The first wait of a list and the indices that are due, as a walk over the list finds them.
 use Rattle.std.proofs.Common.{◌≡◌, inl, inr, ◌⊎◌, ℕ, zero, suc, ◌+◌, ◌-◌, ◌<◌, ◌≤◌, Bool, true, false, cond, List, [], ◌∷◌, ◌++◌, length}
 use Rattle.std.proofs.Common.{take}
 use Rattle.std.proofs.Common.{◌≢◌, set, get_or-set_same, get_or-set_other, get_or, Option, Some, None, refl, sym, ap, arith, ◌∙◌, add-zero}
 use Rattle.std.proofs.lemmas.Bool.{cases_eq}
 use Rattle.std.proofs.lemmas.Bool.Decides.{nat_tests}
 use Rattle.std.proofs.lemmas.List.{append-nil, length-append}
-use Rattle.dv_time.specs.Time.{is_before}
+use Rattle.dv_time.specs.Time.{earliest, is_before}
 use Rattle.dv_time.specs.declared.time.Time.{Time}
-use Rattle.dv_agenda.specs.Waits.{due_at, due_from, ends_at, first_of, same_time, sooner}
-use Rattle.dv_agenda.proofs.OrderOfWaits.{sooner-none, sooner_assoc, sooner_comm}
+use Rattle.dv_agenda.specs.Waits.{due_at, due_from, ends_at, first_of, same_time}
+use Rattle.dv_agenda.proofs.OrderOfWaits.{earliest-none, earliest_assoc, earliest_comm}
 
-pub either : (a b : Option Time) → (sooner a b ≡ a) ⊎ (sooner a b ≡ b)
+pub either : (a b : Option Time) → (earliest a b ≡ a) ⊎ (earliest a b ≡ b)
 either None b = inr refl
 either (Some t) None = inl refl
 either (Some t) (Some u) = by (is_before u t)
@@ -19,44 +19,44 @@ either (Some t) (Some u) = by (is_before u t)
     by true = inr refl
     by false = inl refl
 
-pub twice : (a : Option Time) → sooner a a ≡ a
+pub twice : (a : Option Time) → earliest a a ≡ a
 twice a = same (either a a)
   where
-    same : (sooner a a ≡ a) ⊎ (sooner a a ≡ a) → sooner a a ≡ a
+    same : (earliest a a ≡ a) ⊎ (earliest a a ≡ a) → earliest a a ≡ a
     same (inl e) = e
     same (inr e) = e
 
--- what does not end before two waits does not end before the sooner of them, and what ends no later than one ends no later than it
-pub sooner_above : (f a w : Option Time) → sooner f a ≡ f → sooner f w ≡ f → sooner f (sooner a w) ≡ f
-sooner_above f a w h k = sooner_assoc f a w ∙ ap (λ (v : Option Time). sooner v w) h ∙ k
+-- what does not end before two waits does not end before the earliest of them, and what ends no later than one ends no later than it
+pub earliest_above : (f a w : Option Time) → earliest f a ≡ f → earliest f w ≡ f → earliest f (earliest a w) ≡ f
+earliest_above f a w h k = earliest_assoc f a w ∙ ap (λ (v : Option Time). earliest v w) h ∙ k
 
-pub sooner_keeps : (a w v : Option Time) → sooner a v ≡ a → sooner (sooner a w) v ≡ sooner a w
-sooner_keeps a w v h =
-    sym (sooner_assoc a w v) ∙ ap (sooner a) (sooner_comm w v) ∙ sooner_assoc a v w ∙ ap (λ (x : Option Time). sooner x w) h
+pub earliest_keeps : (a w v : Option Time) → earliest a v ≡ a → earliest (earliest a w) v ≡ earliest a w
+earliest_keeps a w v h =
+    sym (earliest_assoc a w v) ∙ ap (earliest a) (earliest_comm w v) ∙ earliest_assoc a v w ∙ ap (λ (x : Option Time). earliest x w) h
 
-pub sooner_second : (a w : Option Time) → sooner (sooner a w) w ≡ sooner a w
-sooner_second a w = sym (sooner_assoc a w w) ∙ ap (sooner a) (twice w)
+pub earliest_second : (a w : Option Time) → earliest (earliest a w) w ≡ earliest a w
+earliest_second a w = sym (earliest_assoc a w w) ∙ ap (earliest a) (twice w)
 
--- a walk over a list, one place further
-pub first_more : (ws : List (Option Time)) (c : ℕ) → first_of (take (c + 1) ws) ≡ sooner (first_of (take c ws)) (get_or ws c None)
+-- a walk over a list, one index further
+pub first_more : (ws : List (Option Time)) (c : ℕ) → first_of (take (c + 1) ws) ≡ earliest (first_of (take c ws)) (get_or ws c None)
 first_more [] zero = refl
 first_more [] (suc c) =
     let e : suc c + 1 ≡ suc (c + 1) = omega arith in
     ap (λ (n : ℕ). first_of (take {A = Option Time} n [])) e
-first_more (w ∷ ws) zero = sooner-none w
+first_more (w ∷ ws) zero = earliest-none w
 first_more (w ∷ ws) (suc c) =
     let e : suc c + 1 ≡ suc (c + 1) = omega arith in
     ap (λ (n : ℕ). first_of (take n (w ∷ ws))) e
-    ∙ ap (sooner w) (first_more ws c)
-    ∙ sooner_assoc w (first_of (take c ws)) (get_or ws c None)
+    ∙ ap (earliest w) (first_more ws c)
+    ∙ earliest_assoc w (first_of (take c ws)) (get_or ws c None)
 
 -- no wait of the list ends before the first
-pub first_least : (ws : List (Option Time)) (p : ℕ) → sooner (first_of ws) (get_or ws p None) ≡ first_of ws
+pub first_least : (ws : List (Option Time)) (p : ℕ) → earliest (first_of ws) (get_or ws p None) ≡ first_of ws
 first_least [] p = refl
 first_least (w ∷ ws) zero =
-    sooner_comm (sooner w (first_of ws)) w ∙ sooner_assoc w w (first_of ws) ∙ ap (λ (v : Option Time). sooner v (first_of ws)) (twice w)
+    earliest_comm (earliest w (first_of ws)) w ∙ earliest_assoc w w (first_of ws) ∙ ap (λ (v : Option Time). earliest v (first_of ws)) (twice w)
 first_least (w ∷ ws) (suc p) =
-    sym (sooner_assoc w (first_of ws) (get_or ws p None)) ∙ ap (sooner w) (first_least ws p)
+    sym (earliest_assoc w (first_of ws) (get_or ws p None)) ∙ ap (earliest w) (first_least ws p)
 
 pub first_there : (ws : List (Option Time)) (t : Time) → first_of ws ≡ Some t → (p : ℕ) × (get_or ws p None ≡ Some t)
 first_there [] t e = absurd (cc)
@@ -65,20 +65,20 @@ first_there (w ∷ ws) t e = elim (either w (first_of ws)) [
   | inr d ↦ let q = first_there ws t (sym d ∙ e) in (suc q.0, q.1)
 ]
 
-all_later : (ws : List (Option Time)) (a : Option Time) → ((q : ℕ) → sooner a (get_or ws q None) ≡ a) → sooner a (first_of ws) ≡ a
-all_later [] a h = sooner-none a
+all_later : (ws : List (Option Time)) (a : Option Time) → ((q : ℕ) → earliest a (get_or ws q None) ≡ a) → earliest a (first_of ws) ≡ a
+all_later [] a h = earliest-none a
 all_later (w ∷ ws) a h =
-    sooner_assoc a w (first_of ws)
-    ∙ ap (λ (v : Option Time). sooner v (first_of ws)) (h 0)
+    earliest_assoc a w (first_of ws)
+    ∙ ap (λ (v : Option Time). earliest v (first_of ws)) (h 0)
     ∙ all_later ws a (λ q. h (suc q))
 
 -- a wait of the list before which none ends is the first
-pub first_is : (ws : List (Option Time)) (p : ℕ) (a : Option Time) → get_or ws p None ≡ a → ((q : ℕ) → sooner a (get_or ws q None) ≡ a)
+pub first_is : (ws : List (Option Time)) (p : ℕ) (a : Option Time) → get_or ws p None ≡ a → ((q : ℕ) → earliest a (get_or ws q None) ≡ a)
     → a ≡ first_of ws
 first_is ws p a e h =
     sym (all_later ws a h)
-    ∙ sooner_comm a (first_of ws)
-    ∙ ap (sooner (first_of ws)) (sym e)
+    ∙ earliest_comm a (first_of ws)
+    ∙ ap (earliest (first_of ws)) (sym e)
     ∙ first_least ws p
 
 pub nothing_first : (ws : List (Option Time)) → ((q : ℕ) → get_or ws q None ≡ None) → None ≡ first_of ws
@@ -86,18 +86,18 @@ nothing_first ws h = first_is ws 0 None (h 0) (λ q. h q)
 
 -- where the first is nothing, all are
 pub none_of : (ws : List (Option Time)) → None ≡ first_of ws → (q : ℕ) → get_or ws q None ≡ None
-none_of ws e q = ap (λ (v : Option Time). sooner v (get_or ws q None)) e ∙ first_least ws q ∙ sym e
+none_of ws e q = ap (λ (v : Option Time). earliest v (get_or ws q None)) e ∙ first_least ws q ∙ sym e
 
 pub earlier : (t u : Time) → t.tick < u.tick → is_before u t ≡ false
 earlier t u lt = grind (arith, nat_tests)
 
-pub earlier_first : (t u : Time) → t.tick < u.tick → sooner (Some t) (Some u) ≡ Some t
+pub earlier_first : (t u : Time) → t.tick < u.tick → earliest (Some t) (Some u) ≡ Some t
 earlier_first t u lt = ap (λ (b : Bool). cond b (Some u) (Some t)) (earlier t u lt)
 
 pub same_tick : (t u : Time) → same_time u t ≡ true → u.tick ≡ t.tick
 same_tick t u e = grind (arith, nat_tests)
 
--- the same for the places that are due
+-- the same for the indices that are due
 abbrev pub one_due : Bool → ℕ → List ℕ
 one_due b p = cond b (p ∷ []) []
 
@@ -173,7 +173,7 @@ fewer_due k t (w ∷ ws) (suc c) =
     both true ps qs h = omega arith
     both false ps qs h = h
 
--- where the place at hand is due, there is another besides those before it
+-- where the index at hand is due, there is another besides those before it
 pub one_more_due : (t : Time) (ws : List (Option Time)) (c : ℕ) → ends_at t (get_or ws c None) ≡ true
     → length (due_at t (take c ws)) < length (due_at t ws)
 one_more_due t ws c e =
@@ -183,7 +183,7 @@ one_more_due t ws c e =
     ∙ length-append (due_at t (take c ws)) (c ∷ []) in
     omega arith
 
--- no more are due than there are places
+-- no more are due than there are indices
 pub few_due : (t : Time) (ws : List (Option Time)) (k : ℕ) → length (due_from k t ws) ≤ length ws
 few_due t [] k = omega arith
 few_due t (w ∷ ws) k = few (ends_at t w) (due_from (k + 1) t ws) (few_due t ws (k + 1))
@@ -192,44 +192,44 @@ few_due t (w ∷ ws) k = few (ends_at t w) (due_from (k + 1) t ws) (few_due t ws
     few true ps h = omega arith
     few false ps h = omega arith
 
--- what is the first wait where a place waits for another time: that one, where none of the others ends before
-pub first_after : (ws : List (Option Time)) (place : ℕ) (f w : Option Time) → place < length ws → f ≡ first_of ws → sooner w f ≡ w
-    → w ≡ first_of (set ws place w)
-first_after ws place f w lt e h =
-    first_is (set ws place w) place w (get_or-set_same ws place w None lt) (λ q. elim (cases_eq q place) [
+-- what is the first wait where an index waits for another time: that one, where none of the others ends before
+pub first_after : (ws : List (Option Time)) (index : ℕ) (f w : Option Time) → index < length ws → f ≡ first_of ws → earliest w f ≡ w
+    → w ≡ first_of (set ws index w)
+first_after ws index f w lt e h =
+    first_is (set ws index w) index w (get_or-set_same ws index w None lt) (λ q. elim (cases_eq q index) [
       | inl d ↦
-          ap (sooner w) (ap (λ (i : ℕ). get_or (set ws place w) i None) d ∙ get_or-set_same ws place w None lt) ∙ twice w
+          ap (earliest w) (ap (λ (i : ℕ). get_or (set ws index w) i None) d ∙ get_or-set_same ws index w None lt) ∙ twice w
       | inr ne ↦
-          ap (sooner w) (get_or-set_other ws place q w None ne)
-          ∙ ap (λ (v : Option Time). sooner v (get_or ws q None)) (sym h)
-          ∙ sym (sooner_assoc w f (get_or ws q None))
-          ∙ ap (sooner w) (ap (λ (v : Option Time). sooner v (get_or ws q None)) e ∙ first_least ws q ∙ sym e)
+          ap (earliest w) (get_or-set_other ws index q w None ne)
+          ∙ ap (λ (v : Option Time). earliest v (get_or ws q None)) (sym h)
+          ∙ sym (earliest_assoc w f (get_or ws q None))
+          ∙ ap (earliest w) (ap (λ (v : Option Time). earliest v (get_or ws q None)) e ∙ first_least ws q ∙ sym e)
           ∙ h
     ])
 
--- or the same as before, where another place waits for it
-pub first_stays : (ws : List (Option Time)) (place : ℕ) (f w : Option Time) → place < length ws → f ≡ first_of ws
-    → (get_or ws place None ≡ f → ⊥) → (sooner w f ≡ w → ⊥) → f ≡ first_of (set ws place w)
-first_stays ws place None w lt e other later = absurd (other (none_of ws e place))
-first_stays ws place (Some t) w lt e other later =
+-- or the same as before, where another index waits for it
+pub first_stays : (ws : List (Option Time)) (index : ℕ) (f w : Option Time) → index < length ws → f ≡ first_of ws
+    → (get_or ws index None ≡ f → ⊥) → (earliest w f ≡ w → ⊥) → f ≡ first_of (set ws index w)
+first_stays ws index None w lt e other later = absurd (other (none_of ws e index))
+first_stays ws index (Some t) w lt e other later =
     let there = first_there ws t (sym e) in
-    let apart : there.0 ≢ place = λ d. other (ap (λ (i : ℕ). get_or ws i None) (sym d) ∙ there.1) in
-    let sooner_one : sooner w (Some t) ≡ Some t = by (either w (Some t)) in
-    first_is (set ws place w) there.0 (Some t) (get_or-set_other ws place there.0 w None apart ∙ there.1)
-    (λ q. elim (cases_eq q place) [
+    let apart : there.0 ≢ index = λ d. other (ap (λ (i : ℕ). get_or ws i None) (sym d) ∙ there.1) in
+    let earliest_one : earliest w (Some t) ≡ Some t = by (either w (Some t)) in
+    first_is (set ws index w) there.0 (Some t) (get_or-set_other ws index there.0 w None apart ∙ there.1)
+    (λ q. elim (cases_eq q index) [
       | inl d ↦
-          ap (sooner (Some t)) (ap (λ (i : ℕ). get_or (set ws place w) i None) d ∙ get_or-set_same ws place w None lt)
-          ∙ sooner_comm (Some t) w ∙ sooner_one
+          ap (earliest (Some t)) (ap (λ (i : ℕ). get_or (set ws index w) i None) d ∙ get_or-set_same ws index w None lt)
+          ∙ earliest_comm (Some t) w ∙ earliest_one
       | inr ne ↦
-          ap (sooner (Some t)) (get_or-set_other ws place q w None ne)
-          ∙ ap (λ (v : Option Time). sooner v (get_or ws q None)) e ∙ first_least ws q ∙ sym e
+          ap (earliest (Some t)) (get_or-set_other ws index q w None ne)
+          ∙ ap (λ (v : Option Time). earliest v (get_or ws q None)) e ∙ first_least ws q ∙ sym e
     ])
   where
-    by : (sooner w (Some t) ≡ w) ⊎ (sooner w (Some t) ≡ Some t) → sooner w (Some t) ≡ Some t
+    by : (earliest w (Some t) ≡ w) ⊎ (earliest w (Some t) ≡ Some t) → earliest w (Some t) ≡ Some t
     by (inl h) = absurd (later h)
     by (inr h) = h
 
--- a place that waits for a time is one of the list
+-- an index that waits for a time is one of the list
 pub within_due : (ws : List (Option Time)) (p : ℕ) (t : Time) → ends_at t (get_or ws p None) ≡ true → p < length ws
 within_due [] p t e = absurd (cc)
 within_due (w ∷ ws) zero t e = omega arith

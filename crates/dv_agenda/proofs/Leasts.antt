@@ -1,13 +1,13 @@
--- What is known of the least waits in the slots when a place has another wait.
+-- What is known of the least waits in the slots when an index has another wait.
 use Rattle.std.proofs.Common.{◌≡◌, ◌≢◌, inl, inr, ◌⊎◌, ℕ, zero, suc, ◌<◌, List, length, replicate, set, get_or-set_same, get_or-set_other}
 use Rattle.std.proofs.Common.{get_or, Option, Some, None, refl, sym, ap, subst, ◌∙◌}
 use Rattle.std.proofs.lemmas.Bool.{cases_eq}
 use Rattle.dv_time.specs.declared.time.Time.{Time}
-use Rattle.dv_agenda.specs.Waits.{sooner}
+use Rattle.dv_time.specs.Time.{earliest}
 use Rattle.dv_agenda.specs.Wheel.{IsHeld, IsLow, IsOfSlot, least_at, slot}
 use Rattle.dv_agenda.specs.declared.least.Least.{Least}
 use Rattle.dv_agenda.specs.declared.least.Least.TheVariants.{Known, Unknown}
-use Rattle.dv_agenda.proofs.FirstWaits.{either, sooner_keeps}
+use Rattle.dv_agenda.proofs.FirstWaits.{either, earliest_keeps}
 
 -- what is known of a slot, where that of a slot is written
 pub elsewhere : (leasts : List Least) (s q : ℕ) (l : Least) → q ≢ s → least_at (set leasts s l) q ≡ least_at leasts q
@@ -16,36 +16,36 @@ elsewhere leasts s q l ne = get_or-set_other leasts s q l Unknown ne
 pub written : (leasts : List Least) (s q : ℕ) (l : Least) → s < length leasts → q ≡ s → least_at (set leasts s l) q ≡ l
 written leasts s q l lt e = ap (least_at (set leasts s l)) e ∙ get_or-set_same leasts s l Unknown lt
 
--- one more place of a slot has a time
+-- one more index of a slot has a time
 pub low_entered : (leasts : List Least) (at s : ℕ) (least w : Option Time) (t : Time) → at < length leasts
     → least_at leasts at ≡ Known least
-    → IsLow (least_at leasts s) w → IsLow (least_at (set leasts at (Known (sooner least (Some t)))) s) w
+    → IsLow (least_at leasts s) w → IsLow (least_at (set leasts at (Known (earliest least (Some t)))) s) w
 low_entered leasts at s least w t lt e h = elim (cases_eq s at) [
   | inl d ↦
       let was : IsLow (Known least) w = subst (λ (l : Least). IsLow l w) (ap (least_at leasts) d ∙ e) h in
-      subst (λ (l : Least). IsLow l w) (sym (written leasts at s (Known (sooner least (Some t))) lt d))
-      (sooner_keeps least (Some t) w was)
-  | inr ne ↦ subst (λ (l : Least). IsLow l w) (sym (elsewhere leasts at s (Known (sooner least (Some t))) ne)) h
+      subst (λ (l : Least). IsLow l w) (sym (written leasts at s (Known (earliest least (Some t))) lt d))
+      (earliest_keeps least (Some t) w was)
+  | inr ne ↦ subst (λ (l : Least). IsLow l w) (sym (elsewhere leasts at s (Known (earliest least (Some t))) ne)) h
 ]
 
-of_slot_entered : (ws : List (Option Time)) (now at place : ℕ) (least : Option Time) (t : Time) → get_or ws place None ≡ Some t
-    → slot t.tick now ≡ at → IsOfSlot ws now at least → IsOfSlot ws now at (sooner least (Some t))
-of_slot_entered ws now at place least t e is h = by (either least (Some t))
+of_slot_entered : (ws : List (Option Time)) (now at index : ℕ) (least : Option Time) (t : Time) → get_or ws index None ≡ Some t
+    → slot t.tick now ≡ at → IsOfSlot ws now at least → IsOfSlot ws now at (earliest least (Some t))
+of_slot_entered ws now at index least t e is h = by (either least (Some t))
   where
-    by : (sooner least (Some t) ≡ least) ⊎ (sooner least (Some t) ≡ Some t) → IsOfSlot ws now at (sooner least (Some t))
+    by : (earliest least (Some t) ≡ least) ⊎ (earliest least (Some t) ≡ Some t) → IsOfSlot ws now at (earliest least (Some t))
     by (inl d) = subst (IsOfSlot ws now at) (sym d) h
-    by (inr d) = subst (IsOfSlot ws now at) (sym d) (is, (place, e))
+    by (inr d) = subst (IsOfSlot ws now at) (sym d) (is, (index, e))
 
-pub held_entered : (leasts : List Least) (ws : List (Option Time)) (now at place s : ℕ) (least : Option Time) (t : Time)
-    → at < length leasts → least_at leasts at ≡ Known least → get_or ws place None ≡ Some t → slot t.tick now ≡ at
+pub held_entered : (leasts : List Least) (ws : List (Option Time)) (now at index s : ℕ) (least : Option Time) (t : Time)
+    → at < length leasts → least_at leasts at ≡ Known least → get_or ws index None ≡ Some t → slot t.tick now ≡ at
     → ((r : ℕ) → IsHeld ws now r (least_at leasts r))
-    → IsHeld ws now s (least_at (set leasts at (Known (sooner least (Some t)))) s)
-held_entered leasts ws now at place s least t lt e here is h = elim (cases_eq s at) [
+    → IsHeld ws now s (least_at (set leasts at (Known (earliest least (Some t)))) s)
+held_entered leasts ws now at index s least t lt e here is h = elim (cases_eq s at) [
   | inl d ↦
       let was : IsOfSlot ws now at least = subst (IsHeld ws now at) e (h at) in
-      subst (IsHeld ws now s) (sym (written leasts at s (Known (sooner least (Some t))) lt d))
-      (subst (λ (r : ℕ). IsOfSlot ws now r (sooner least (Some t))) (sym d) (of_slot_entered ws now at place least t here is was))
-  | inr ne ↦ subst (IsHeld ws now s) (sym (elsewhere leasts at s (Known (sooner least (Some t))) ne)) (h s)
+      subst (IsHeld ws now s) (sym (written leasts at s (Known (earliest least (Some t))) lt d))
+      (subst (λ (r : ℕ). IsOfSlot ws now r (earliest least (Some t))) (sym d) (of_slot_entered ws now at index least t here is was))
+  | inr ne ↦ subst (IsHeld ws now s) (sym (elsewhere leasts at s (Known (earliest least (Some t))) ne)) (h s)
 ]
 
 -- nothing is known of a slot any more
@@ -56,26 +56,26 @@ low_forgotten leasts at s w lt h = elim (cases_eq s at) [
   | inr ne ↦ subst (λ (l : Least). IsLow l w) (sym (elsewhere leasts at s Unknown ne)) h
 ]
 
--- a wait of a slot is one still when a place has another wait, unless the place had it
-of_slot_still : (ws : List (Option Time)) (now s place : ℕ) (w f : Option Time) → place < length ws
-    → ((t : Time) → f ≡ Some t → slot t.tick now ≡ s → get_or ws place None ≢ Some t)
-    → IsOfSlot ws now s f → IsOfSlot (set ws place w) now s f
-of_slot_still ws now s place w None lt other h = tt
-of_slot_still ws now s place w (Some t) lt other h =
-    let ne : h.1.0 ≢ place = λ d. other t refl h.0 (ap (λ (i : ℕ). get_or ws i None) (sym d) ∙ h.1.1) in
-    (h.0, (h.1.0, get_or-set_other ws place h.1.0 w None ne ∙ h.1.1))
+-- a wait of a slot is one still when an index has another wait, unless the index had it
+of_slot_still : (ws : List (Option Time)) (now s index : ℕ) (w f : Option Time) → index < length ws
+    → ((t : Time) → f ≡ Some t → slot t.tick now ≡ s → get_or ws index None ≢ Some t)
+    → IsOfSlot ws now s f → IsOfSlot (set ws index w) now s f
+of_slot_still ws now s index w None lt other h = tt
+of_slot_still ws now s index w (Some t) lt other h =
+    let ne : h.1.0 ≢ index = λ d. other t refl h.0 (ap (λ (i : ℕ). get_or ws i None) (sym d) ∙ h.1.1) in
+    (h.0, (h.1.0, get_or-set_other ws index h.1.0 w None ne ∙ h.1.1))
 
--- a place of another slot, or of none
-pub held_by : (ws : List (Option Time)) (now s place : ℕ) (w : Option Time) (l : Least) → place < length ws
-    → ((t : Time) → slot t.tick now ≡ s → get_or ws place None ≢ Some t)
-    → IsHeld ws now s l → IsHeld (set ws place w) now s l
-held_by ws now s place w Unknown lt other h = tt
-held_by ws now s place w (Known f) lt other h = of_slot_still ws now s place w f lt (λ t e is. other t is) h
+-- an index of another slot, or of none
+pub held_by : (ws : List (Option Time)) (now s index : ℕ) (w : Option Time) (l : Least) → index < length ws
+    → ((t : Time) → slot t.tick now ≡ s → get_or ws index None ≢ Some t)
+    → IsHeld ws now s l → IsHeld (set ws index w) now s l
+held_by ws now s index w Unknown lt other h = tt
+held_by ws now s index w (Known f) lt other h = of_slot_still ws now s index w f lt (λ t e is. other t is) h
 
-pub held_none : (ws : List (Option Time)) (now s place : ℕ) (w : Option Time) (l : Least) → place < length ws
-    → get_or ws place None ≡ None → IsHeld ws now s l → IsHeld (set ws place w) now s l
-held_none ws now s place w l lt e h =
-    held_by ws now s place w l lt (λ t is d. let no : None ≡ Some t = sym e ∙ d in absurd (cc)) h
+pub held_none : (ws : List (Option Time)) (now s index : ℕ) (w : Option Time) (l : Least) → index < length ws
+    → get_or ws index None ≡ None → IsHeld ws now s l → IsHeld (set ws index w) now s l
+held_none ws now s index w l lt e h =
+    held_by ws now s index w l lt (λ t is d. let no : None ≡ Some t = sym e ∙ d in absurd (cc)) h
 
 same_slot : (now at : ℕ) (v : Option Time) (t u : Time) → v ≡ Some t → v ≡ Some u → slot t.tick now ≡ at → slot u.tick now ≡ at
 same_slot now at v t u e d is =
@@ -83,38 +83,38 @@ same_slot now at v t u e d is =
     let one : u ≡ t = cc in
     ap (λ (x : Time). slot x.tick now) one ∙ is
 
-held_other : (ws : List (Option Time)) (now at place s : ℕ) (w : Option Time) (t : Time) (l : Least) → place < length ws
-    → get_or ws place None ≡ Some t → slot t.tick now ≡ at → s ≢ at → IsHeld ws now s l → IsHeld (set ws place w) now s l
-held_other ws now at place s w t l fits e is ne h =
-    held_by ws now s place w l fits (λ u of_s d. ne (sym of_s ∙ same_slot now at (get_or ws place None) t u e d is)) h
+held_other : (ws : List (Option Time)) (now at index s : ℕ) (w : Option Time) (t : Time) (l : Least) → index < length ws
+    → get_or ws index None ≡ Some t → slot t.tick now ≡ at → s ≢ at → IsHeld ws now s l → IsHeld (set ws index w) now s l
+held_other ws now at index s w t l fits e is ne h =
+    held_by ws now s index w l fits (λ u of_s d. ne (sym of_s ∙ same_slot now at (get_or ws index None) t u e d is)) h
 
--- what is known of slots, where that of the slot of the time that a place had is right when it has another wait
-pub held_after : (ws : List (Option Time)) (now at place s : ℕ) (w : Option Time) (t : Time) (l : Least) (leasts : List Least)
-    → at < length leasts → place < length ws → get_or ws place None ≡ Some t → slot t.tick now ≡ at
-    → IsHeld (set ws place w) now at l → ((r : ℕ) → IsHeld ws now r (least_at leasts r))
-    → IsHeld (set ws place w) now s (least_at (set leasts at l) s)
-held_after ws now at place s w t l leasts lt fits e is here h = elim (cases_eq s at) [
+-- what is known of slots, where that of the slot of the time that an index had is right when it has another wait
+pub held_after : (ws : List (Option Time)) (now at index s : ℕ) (w : Option Time) (t : Time) (l : Least) (leasts : List Least)
+    → at < length leasts → index < length ws → get_or ws index None ≡ Some t → slot t.tick now ≡ at
+    → IsHeld (set ws index w) now at l → ((r : ℕ) → IsHeld ws now r (least_at leasts r))
+    → IsHeld (set ws index w) now s (least_at (set leasts at l) s)
+held_after ws now at index s w t l leasts lt fits e is here h = elim (cases_eq s at) [
   | inl d ↦
-      subst (IsHeld (set ws place w) now s) (sym (written leasts at s l lt d))
-      (subst (λ (r : ℕ). IsHeld (set ws place w) now r l) (sym d) here)
+      subst (IsHeld (set ws index w) now s) (sym (written leasts at s l lt d))
+      (subst (λ (r : ℕ). IsHeld (set ws index w) now r l) (sym d) here)
   | inr ne ↦
-      subst (IsHeld (set ws place w) now s) (sym (elsewhere leasts at s l ne))
-      (held_other ws now at place s w t (least_at leasts s) fits e is ne (h s))
+      subst (IsHeld (set ws index w) now s) (sym (elsewhere leasts at s l ne))
+      (held_other ws now at index s w t (least_at leasts s) fits e is ne (h s))
 ]
 
-held_still : (ws : List (Option Time)) (now s place : ℕ) (w : Option Time) (t : Time) (l : Least) → place < length ws
-    → get_or ws place None ≡ Some t → l ≢ Known (Some t) → IsHeld ws now s l → IsHeld (set ws place w) now s l
-held_still ws now s place w t Unknown fits at other h = tt
-held_still ws now s place w t (Known f) fits at other h =
-    of_slot_still ws now s place w f fits (λ u e is x. other (ap Known (e ∙ sym x ∙ at))) h
+held_still : (ws : List (Option Time)) (now s index : ℕ) (w : Option Time) (t : Time) (l : Least) → index < length ws
+    → get_or ws index None ≡ Some t → l ≢ Known (Some t) → IsHeld ws now s l → IsHeld (set ws index w) now s l
+held_still ws now s index w t Unknown fits at other h = tt
+held_still ws now s index w t (Known f) fits at other h =
+    of_slot_still ws now s index w f fits (λ u e is x. other (ap Known (e ∙ sym x ∙ at))) h
 
--- the same where the place had not the least of its slot
-pub held_left : (leasts : List Least) (ws : List (Option Time)) (now at place s : ℕ) (w : Option Time) (t : Time) → place < length ws
-    → get_or ws place None ≡ Some t → slot t.tick now ≡ at → least_at leasts at ≢ Known (Some t)
-    → ((r : ℕ) → IsHeld ws now r (least_at leasts r)) → IsHeld (set ws place w) now s (least_at leasts s)
-held_left leasts ws now at place s w t fits e is other h = elim (cases_eq s at) [
-  | inl d ↦ held_still ws now s place w t (least_at leasts s) fits e (λ x. other (ap (least_at leasts) (sym d) ∙ x)) (h s)
-  | inr ne ↦ held_other ws now at place s w t (least_at leasts s) fits e is ne (h s)
+-- the same where the index had not the least of its slot
+pub held_left : (leasts : List Least) (ws : List (Option Time)) (now at index s : ℕ) (w : Option Time) (t : Time) → index < length ws
+    → get_or ws index None ≡ Some t → slot t.tick now ≡ at → least_at leasts at ≢ Known (Some t)
+    → ((r : ℕ) → IsHeld ws now r (least_at leasts r)) → IsHeld (set ws index w) now s (least_at leasts s)
+held_left leasts ws now at index s w t fits e is other h = elim (cases_eq s at) [
+  | inl d ↦ held_still ws now s index w t (least_at leasts s) fits e (λ x. other (ap (least_at leasts) (sym d) ∙ x)) (h s)
+  | inr ne ↦ held_other ws now at index s w t (least_at leasts s) fits e is ne (h s)
 ]
 
 none_in : (ws : List (Option Time)) (now s n q : ℕ) → IsHeld ws now s (get_or (replicate n (Known None)) q Unknown)

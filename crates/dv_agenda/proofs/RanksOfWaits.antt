@@ -3,16 +3,16 @@ use Rattle.std.proofs.Common.{◌≡◌, inl, inr, ℕ, ◌+◌, ◌*◌, min, n
 use Rattle.std.proofs.lemmas.Bool.{cases_eq, cases_lt}
 use Rattle.std.proofs.lemmas.Bool.Decides.{nat_tests}
 use Rattle.dv_time.proofs.Ranks.{micro_of-rank, tick_of-rank}
-use Rattle.dv_time.specs.Time.{IsOfRun, micro_of, rank, tick_of, time_of}
+use Rattle.dv_time.specs.Time.{earliest, IsOfRun, micro_of, rank, tick_of, time_of}
 use Rattle.dv_time.specs.declared.time.Time.{Time}
 use Rattle.dv_devs.specs.Behaviour.{Component, is_at}
 use Rattle.dv_devs.specs.NextTimes.{earlier, least_next}
 use Rattle.dv_agenda.specs.NextWaits.{AreNextTimes, IsWaitOfRun, rank_if}
-use Rattle.dv_agenda.specs.Waits.{ends_at, first_of, same_time, sooner}
+use Rattle.dv_agenda.specs.Waits.{ends_at, first_of, same_time}
 use Rattle.dv_agenda.proofs.OrderOfWaits.{before, not_after}
 
 earlier_times : (limit : ℕ) (t u : Time) → IsOfRun limit t → IsOfRun limit u
-    → rank_if limit (sooner (Some t) (Some u)) ≡ Some (min (rank limit t) (rank limit u))
+    → rank_if limit (earliest (Some t) (Some u)) ≡ Some (min (rank limit t) (rank limit u))
 earlier_times limit t u h k = elim (cases_lt (rank limit u) (rank limit t)) [
   | inl lt ↦
       let e : rank limit u ≡ min (rank limit t) (rank limit u) = omega arith in
@@ -22,13 +22,13 @@ earlier_times limit t u h k = elim (cases_lt (rank limit u) (rank limit t)) [
       ap (rank_if limit) (not_after limit t u h k le) ∙ ap Some e
 ]
 
-rank-sooner : (limit : ℕ) (a b : Option Time) → IsWaitOfRun limit a → IsWaitOfRun limit b
-    → rank_if limit (sooner a b) ≡ earlier (rank_if limit a) (rank_if limit b)
-rank-sooner limit None b h k = refl
-rank-sooner limit (Some t) None h k = refl
-rank-sooner limit (Some t) (Some u) h k = earlier_times limit t u h k
+rank-earliest : (limit : ℕ) (a b : Option Time) → IsWaitOfRun limit a → IsWaitOfRun limit b
+    → rank_if limit (earliest a b) ≡ earlier (rank_if limit a) (rank_if limit b)
+rank-earliest limit None b h k = refl
+rank-earliest limit (Some t) None h k = refl
+rank-earliest limit (Some t) (Some u) h k = earlier_times limit t u h k
 
-of_run : (limit : ℕ) (a b : Option Time) → IsWaitOfRun limit a → IsWaitOfRun limit b → IsWaitOfRun limit (sooner a b)
+of_run : (limit : ℕ) (a b : Option Time) → IsWaitOfRun limit a → IsWaitOfRun limit b → IsWaitOfRun limit (earliest a b)
 of_run limit None b h k = k
 of_run limit (Some t) None h k = h
 of_run limit (Some t) (Some u) h k = elim (cases_lt (rank limit u) (rank limit t)) [
@@ -48,7 +48,7 @@ rank-first limit [] [] h = refl
 rank-first limit [] (c ∷ cs) h = absurd h
 rank-first limit (w ∷ ws) [] h = absurd h
 rank-first limit (w ∷ ws) (c ∷ cs) h =
-    rank-sooner limit w (first_of ws) h.0 (first_of_run limit ws cs h.2)
+    rank-earliest limit w (first_of ws) h.0 (first_of_run limit ws cs h.2)
     ∙ ap (earlier (rank_if limit w)) (rank-first limit ws cs h.2)
     ∙ ap (λ (next : Option ℕ). earlier next (least_next cs)) (sym h.1)
 

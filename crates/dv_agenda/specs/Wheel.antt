@@ -3,7 +3,7 @@ use Rattle.std.specs.Prelude.{◌≡◌, ℕ, zero, suc, ◌+◌, ◌*◌, ◌/�
 use Rattle.std.specs.Prelude.{Some, None, slice_index_or}
 use Rattle.std.specs.Int.{bit_at}
 use Rattle.dv_time.specs.declared.time.Time.{Time}
-use Rattle.dv_agenda.specs.Waits.{sooner}
+use Rattle.dv_time.specs.Time.{earliest}
 use Rattle.dv_agenda.specs.declared.least.Least.{Least}
 use Rattle.dv_agenda.specs.declared.least.Least.TheVariants.{Known, Unknown}
 
@@ -33,19 +33,19 @@ least_at leasts s = slice_index_or leasts s Unknown
 -- a wait does not end before the least one, where that is known
 abbrev pub IsLow : Least → Option Time → Type 0
 IsLow Unknown w = Unit {0}
-IsLow (Known least) w = sooner least w ≡ least
+IsLow (Known least) w = earliest least w ≡ least
 
--- The place of a wait is in the set of its slot, which is among the slots that are in use, and of which no lesser wait is known.
+-- The index of a wait is in the set of its slot, which is among the slots that are in use, and of which no lesser wait is known.
 abbrev pub IsIn : ℕ → List ℕ → List ℕ → List Least → ℕ → ℕ → Option Time → Type 0
-IsIn now used places leasts span place None = Unit {0}
-IsIn now used places leasts span place (Some t) =
-    (has used (slot t.tick now) ≡ 1) × (has places (slot t.tick now * span + place) ≡ 1)
+IsIn now used indices leasts span index None = Unit {0}
+IsIn now used indices leasts span index (Some t) =
+    (has used (slot t.tick now) ≡ 1) × (has indices (slot t.tick now * span + index) ≡ 1)
     × IsLow (least_at leasts (slot t.tick now)) (Some t)
 
--- a place of a slot has a wait, if it is one
+-- an index of a slot has a wait, if it is one
 abbrev pub IsOfSlot : List (Option Time) → ℕ → ℕ → Option Time → Type 0
 IsOfSlot waits now s None = Unit {0}
-IsOfSlot waits now s (Some t) = (slot t.tick now ≡ s) × ((place : ℕ) × (slice_index_or waits place None ≡ Some t))
+IsOfSlot waits now s (Some t) = (slot t.tick now ≡ s) × ((index : ℕ) × (slice_index_or waits index None ≡ Some t))
 
 -- the least wait in a slot, where it is known, is one of the slot
 abbrev pub IsHeld : List (Option Time) → ℕ → ℕ → Least → Type 0
@@ -57,7 +57,7 @@ abbrev pub in_slot : ℕ → ℕ → Option Time → Bool
 in_slot now s None = false
 in_slot now s (Some t) = nat_eq (slot t.tick now) s
 
--- for each word that has a number the heads have its place
+-- for each word that has a number the heads have its index
 pub record IsHeaded (heads words : List ℕ) : Type 0 where
   pub room : length words ≤ 64 * length heads
   pub few : length words ≤ 2 ^ 50

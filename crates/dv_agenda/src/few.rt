@@ -1,28 +1,28 @@
-//! An agenda of few places: each is looked at.
+//! An agenda of few indices: each is looked at.
 
 ghost use Rattle.std.specs.Prelude.{◌≡◌, ◌+◌, ◌^◌, ◌<◌, ◌≤◌, ◌++◌, OnErr, OnOk, length};
 ghost use Rattle.std.specs.Vec.{vec_capacity, vec_len};
 ghost use Rattle.dv_agenda.specs.Waits.{due_at, first_of};
 
-use crate::wait::{is_due, push_due, sooner};
-use dv_time::Time;
+use crate::wait::{is_due, push_due};
+use dv_time::{Time, earliest};
 use std::alloc::AllocError;
 
-/// So many places at most are few: to look at each takes less time than to keep them in slots.
+/// So many indices at most are few: to look at each takes less time than to keep them in slots.
 pub(crate) const FEW: usize = 16;
 
-/// The first time that a place waits for.
+/// The first time that an index waits for.
 pub(crate) fn first_of_few(waits: &[Option<Time>]) -> Option<Time>
     ensures { result ≡ first_of waits.now }
 {
     let mut first = None;
     for wait in waits {
-        first = sooner(first, *wait);
+        first = earliest(first, *wait);
     }
     first
 }
 
-/// Adds the places that wait for a time to a list, in ascending order.
+/// Adds the indices that wait for a time to a list, in ascending order.
 pub(crate) fn gather_few(
     waits: &[Option<Time>],
     time: Time,
@@ -34,11 +34,11 @@ pub(crate) fn gather_few(
     ensures full { OnErr result (vec_capacity into.old < vec_len into.old + length
         (due_at time waits.now)) }
 {
-    for place in 0..waits.len() {
-        if !is_due(waits, place, time) {
+    for index in 0..waits.len() {
+        if !is_due(waits, index, time) {
             continue;
         }
-        push_due(waits, place, time, into)?;
+        push_due(waits, index, time, into)?;
     }
     Ok(())
 }

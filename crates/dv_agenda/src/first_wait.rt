@@ -5,15 +5,15 @@ ghost use Rattle.dv_time.specs.declared.time.Time.{Time};
 ghost use Rattle.dv_agenda.specs.Agendas.{IsKnown};
 ghost use Rattle.dv_agenda.specs.Waits.{first_of};
 
-use crate::wait::{is_same, sooner};
-use dv_time::Time;
+use crate::wait::is_same;
+use dv_time::{Time, earliest};
 
 /// The first wait, or what it was when it was last known.
 #[derive(Clone, Copy)]
 pub(crate) struct FirstWait {
     pub(crate) wait: Option<Time>,
     pub(crate) known: bool,
-    /// How many of the places that were due last wait as they did then: when none is left the next first wait is looked for, and
+    /// How many of the indices that were due last wait as they did then: when none is left the next first wait is looked for, and
     /// not each time that one of the first waits ends.
     pub(crate) left: usize,
 }
@@ -30,14 +30,14 @@ pub(crate) fn found(wait: Option<Time>) -> FirstWait
     }
 }
 
-/// Keeps what is known when a place waits for another time than before.
+/// Keeps what is known when an index waits for another time than before.
 #[inline]
 pub(crate) fn change(first: &mut FirstWait, before: Option<Time>, wait: Option<Time>)
-    ensures { (ws : List (Option Time)) (place : ℕ) → place < length ws
-        → before ≡ slice_index_or ws place None → IsKnown first.old ws
-        → IsKnown first.new (slice_set ws place wait) }
+    ensures { (ws : List (Option Time)) (index : ℕ) → index < length ws
+        → before ≡ slice_index_or ws index None → IsKnown first.old ws
+        → IsKnown first.new (slice_set ws index wait) }
 {
-    if is_same(sooner(wait, first.wait), wait) {
+    if is_same(earliest(wait, first.wait), wait) {
         first.wait = wait;
         return;
     }

@@ -1,96 +1,97 @@
-//! A wheel of times: each place stands in the set of the slot that its wait has at the present tick.
+//! A wheel of times: each index stands in the set of the slot that its wait has at the present tick.
 
 ghost use Rattle.std.specs.Prelude.{◌≡◌, ◌≢◌, ℕ, None, Some, false, ◌+◌, ◌*◌, ◌/◌, ◌^◌, ◌<◌, ◌≤◌, ◌++◌, IsTrue, Option, OnErr, OnOk, List};
 ghost use Rattle.std.specs.Prelude.{length, slice_index_or, slice_set, take};
 ghost use Rattle.std.specs.Int.{bit_at};
 ghost use Rattle.std.specs.Vec.{vec_capacity, vec_len};
 ghost use Rattle.dv_time.specs.declared.time.Time.{Time};
+ghost use Rattle.dv_time.specs.Time.{earliest};
 ghost use Rattle.dv_agenda.specs.declared.least.Least.{Least};
 ghost use Rattle.dv_agenda.specs.declared.least.Least.TheVariants.{Known};
 ghost use Rattle.dv_agenda.specs.Agendas.{HasRoom, IsKept};
-ghost use Rattle.dv_agenda.specs.Waits.{due_at, ends_at, first_of, sooner};
+ghost use Rattle.dv_agenda.specs.Waits.{due_at, ends_at, first_of};
 ghost use Rattle.dv_agenda.specs.Wheel.{IsFrom, IsHeld, IsIn, IsLow, has, in_slot, least_at, slot};
 
 use crate::bits;
 use crate::least::{Least, entered, left};
 use crate::set::Set;
 use crate::slot::slot_of;
-use crate::wait::{push_due, sooner, wait_at};
-use dv_time::Time;
+use crate::wait::{push_due, wait_at};
+use dv_time::{Time, earliest};
 use std::alloc::AllocError;
 
-/// Puts a place into the set of the slot of its wait.
+/// Puts an index into the set of the slot of its wait.
 #[inline(always)]
 pub(crate) fn put(
     used: &mut Set,
-    places: &mut Set,
+    indices: &mut Set,
     leasts: &mut [Least],
     span: usize,
     now: u64,
-    place: usize,
+    index: usize,
     wait: Option<Time>,
 )
-    requires room { HasRoom used.old places.old leasts.old span }
-    requires place { place < span }
-    ensures room { HasRoom used.new places.new leasts.new span }
-    ensures there { IsIn now used.new places.new leasts.new span place wait }
+    requires room { HasRoom used.old indices.old leasts.old span }
+    requires index { index < span }
+    ensures room { HasRoom used.new indices.new leasts.new span }
+    ensures there { IsIn now used.new indices.new leasts.new span index wait }
     ensures used { (p : ℕ) → has used.old p ≡ 1 → has used.new p ≡ 1 }
-    ensures others { (p : ℕ) → has places.old p ≡ 1 → has places.new p ≡ 1 }
+    ensures others { (p : ℕ) → has indices.old p ≡ 1 → has indices.new p ≡ 1 }
     ensures low { (s : ℕ) (w : Option Time) → IsLow (least_at leasts.old s) w
         → IsLow (least_at leasts.new s) w }
-    ensures held { (ws : List (Option Time)) → slice_index_or ws place None ≡ wait
+    ensures held { (ws : List (Option Time)) → slice_index_or ws index None ≡ wait
         → ((s : ℕ) → IsHeld ws now s (least_at leasts.old s)) → (s : ℕ)
         → IsHeld ws now s (least_at leasts.new s) }
 {
     if let Some(time) = wait {
         let slot = slot_of(time.tick, now);
         used.insert(slot);
-        places.insert(slot * span + place);
+        indices.insert(slot * span + index);
         entered(leasts, slot, time);
     }
 }
 
-/// Puts each place into the set of the slot of its wait.
+/// Puts each index into the set of the slot of its wait.
 fn put_all(
     waits: &[Option<Time>],
     used: &mut Set,
-    places: &mut Set,
+    indices: &mut Set,
     leasts: &mut [Least],
     span: usize,
     now: u64,
 )
-    requires room { HasRoom used.old places.old leasts.old span }
+    requires room { HasRoom used.old indices.old leasts.old span }
     requires fits { length waits.now ≤ span }
     requires held { (s : ℕ) → IsHeld waits.now now s (least_at leasts.old s) }
-    ensures room { HasRoom used.new places.new leasts.new span }
-    ensures there { (p : ℕ) → IsIn now used.new places.new leasts.new span p
+    ensures room { HasRoom used.new indices.new leasts.new span }
+    ensures there { (p : ℕ) → IsIn now used.new indices.new leasts.new span p
         (slice_index_or waits.now p None) }
     ensures held { (s : ℕ) → IsHeld waits.now now s (least_at leasts.new s) }
 {
-    for (place, wait) in waits.iter().enumerate() {
-        put(used, places, leasts, span, now, place, *wait);
+    for (index, wait) in waits.iter().enumerate() {
+        put(used, indices, leasts, span, now, index, *wait);
     }
 }
 
-/// Takes each place out of the set of the slot of its wait, and the slot out of use.
-fn take_all(waits: &[Option<Time>], used: &mut Set, places: &mut Set, span: usize, now: u64)
+/// Takes each index out of the set of the slot of its wait, and the slot out of use.
+fn take_all(waits: &[Option<Time>], used: &mut Set, indices: &mut Set, span: usize, now: u64)
     requires slots { 641 ≤ 64 * length used.old }
-    requires room { 641 * span ≤ 64 * length places.old }
+    requires room { 641 * span ≤ 64 * length indices.old }
     requires fits { length waits.now ≤ span }
     requires narrow { span ≤ 2 ^ 33 }
     ensures used { length used.new ≡ length used.old }
-    ensures places { length places.new ≡ length places.old }
+    ensures indices { length indices.new ≡ length indices.old }
 {
-    for (place, wait) in waits.iter().enumerate() {
+    for (index, wait) in waits.iter().enumerate() {
         if let Some(time) = *wait {
             let slot = slot_of(time.tick, now);
             used.remove(slot);
-            places.remove(slot * span + place);
+            indices.remove(slot * span + index);
         }
     }
 }
 
-/// The sooner of a wait and the least one among the places of a word.
+/// The sooner of a wait and the least one among the indices of a word.
 #[inline]
 fn least_of_word(
     waits: &[Option<Time>],
@@ -99,40 +100,40 @@ fn least_of_word(
     least: Option<Time>,
 ) -> Option<Time>
     requires small { base ≤ 2 ^ 40 }
-    requires above { sooner (first_of waits.now) least ≡ first_of waits.now }
-    ensures above { sooner (first_of waits.now) result ≡ first_of waits.now }
+    requires above { earliest (first_of waits.now) least ≡ first_of waits.now }
+    ensures above { earliest (first_of waits.now) result ≡ first_of waits.now }
     ensures below { (p : ℕ) → p < 64 → bit_at word p ≡ 1
-        → sooner result (slice_index_or waits.now (base + p) None) ≡ result }
-    ensures before { (w : Option Time) → sooner least w ≡ least → sooner result w ≡ result }
+        → earliest result (slice_index_or waits.now (base + p) None) ≡ result }
+    ensures before { (w : Option Time) → earliest least w ≡ least → earliest result w ≡ result }
 {
     let mut rest = word;
     let mut found = least;
     while rest != 0 {
-        let place = base + bits::take_least(&mut rest);
-        found = sooner(found, wait_at(waits, place));
+        let index = base + bits::take_least(&mut rest);
+        found = earliest(found, wait_at(waits, index));
     }
     found
 }
 
-/// The least wait of the places in a slot, if there is one.
+/// The least wait of the indices in a slot, if there is one.
 #[inline]
-fn least_in(waits: &[Option<Time>], places: &Set, span: usize, slot: usize) -> Option<Time>
-    requires room { 641 * span ≤ 64 * length places.now }
+fn least_in(waits: &[Option<Time>], indices: &Set, span: usize, slot: usize) -> Option<Time>
+    requires room { 641 * span ≤ 64 * length indices.now }
     requires whole { span ≡ 64 * (span / 64) }
     requires fits { length waits.now ≤ span }
     requires narrow { span ≤ 2 ^ 33 }
     requires slot { slot < 641 }
-    ensures above { sooner (first_of waits.now) result ≡ first_of waits.now }
-    ensures below { (p : ℕ) → p < span → has places.now (slot * span + p) ≡ 1
-        → sooner result (slice_index_or waits.now p None) ≡ result }
+    ensures above { earliest (first_of waits.now) result ≡ first_of waits.now }
+    ensures below { (p : ℕ) → p < span → has indices.now (slot * span + p) ≡ 1
+        → earliest result (slice_index_or waits.now p None) ≡ result }
 {
     let base = slot * (span / 64);
     let end = base + span / 64;
     let mut least = None;
-    let mut at = places.next_word(base, end);
+    let mut at = indices.next_word(base, end);
     while at < end {
-        least = least_of_word(waits, places.word(at), 64 * (at - base), least);
-        at = places.next_word(at + 1, end);
+        least = least_of_word(waits, indices.word(at), 64 * (at - base), least);
+        at = indices.next_word(at + 1, end);
     }
     least
 }
@@ -141,23 +142,23 @@ fn least_in(waits: &[Option<Time>], places: &Set, span: usize, slot: usize) -> O
 #[inline]
 fn least_of(
     waits: &[Option<Time>],
-    places: &Set,
+    indices: &Set,
     leasts: &[Least],
     span: usize,
     at: usize,
 ) -> Option<Time>
     requires kept { (now : ℕ) × ((used : List ℕ)
-        × IsKept waits.now now used places.now leasts.now span) }
+        × IsKept waits.now now used indices.now leasts.now span) }
     requires high { at < 641 }
-    ensures above { sooner (first_of waits.now) result ≡ first_of waits.now }
+    ensures above { earliest (first_of waits.now) result ≡ first_of waits.now }
     ensures below { (now : ℕ) (used : List ℕ) (p : ℕ) (t : Time)
-        → IsKept waits.now now used places.now leasts.now span
+        → IsKept waits.now now used indices.now leasts.now span
         → slice_index_or waits.now p None ≡ Some t → slot t.tick now ≡ at
-        → sooner result (Some t) ≡ result }
+        → earliest result (Some t) ≡ result }
 {
     match leasts[at] {
         Least::Known(least) => least,
-        Least::Unknown => least_in(waits, places, span, at),
+        Least::Unknown => least_in(waits, indices, span, at),
     }
 }
 
@@ -172,21 +173,21 @@ fn in_slot(wait: Option<Time>, slot: usize, now: u64) -> bool
     }
 }
 
-/// The first time that a place waits for.
+/// The first time that an index waits for.
 pub(crate) fn first(
     waits: &[Option<Time>],
     used: &Set,
-    places: &Set,
+    indices: &Set,
     leasts: &[Least],
     span: usize,
     now: u64,
 ) -> Option<Time>
-    requires { IsKept waits.now now used.now places.now leasts.now span }
+    requires { IsKept waits.now now used.now indices.now leasts.now span }
     ensures { result ≡ first_of waits.now }
 {
     let mut slot = used.next(0, 641);
     while slot < 641 {
-        let least = least_of(waits, places, leasts, span, slot);
+        let least = least_of(waits, indices, leasts, span, slot);
         if in_slot(least, slot, now) {
             return least;
         }
@@ -195,13 +196,13 @@ pub(crate) fn first(
     None
 }
 
-/// The first time that a place waits for, where no slot has to be looked through for it.
+/// The first time that an index waits for, where no slot has to be looked through for it.
 #[inline]
 pub(crate) fn at_hand(used: &Set, leasts: &[Least]) -> Least
     requires slots { 641 ≤ 64 * length used.now }
     requires known { 641 ≤ length leasts.now }
-    ensures { (waits : List (Option Time)) (now : ℕ) (places : List ℕ) (span : ℕ)
-        (first : Option Time) → IsKept waits now used.now places leasts.now span
+    ensures { (waits : List (Option Time)) (now : ℕ) (indices : List ℕ) (span : ℕ)
+        (first : Option Time) → IsKept waits now used.now indices leasts.now span
         → result ≡ Known first → first ≡ first_of waits }
 {
     let at = used.next(0, 641);
@@ -217,20 +218,20 @@ pub(crate) fn at_hand(used: &Set, leasts: &[Least]) -> Least
     }
 }
 
-/// Keeps the first time that a place waits for as the least wait of its slot.
+/// Keeps the first time that an index waits for as the least wait of its slot.
 #[inline]
 pub(crate) fn keep(leasts: &mut [Least], now: u64, first: Option<Time>)
     requires { 641 ≤ length leasts.old }
-    ensures { (waits : List (Option Time)) (used places : List ℕ) (span : ℕ)
-        → first ≡ first_of waits → IsKept waits now used places leasts.old span
-        → IsKept waits now used places leasts.new span }
+    ensures { (waits : List (Option Time)) (used indices : List ℕ) (span : ℕ)
+        → first ≡ first_of waits → IsKept waits now used indices leasts.old span
+        → IsKept waits now used indices leasts.new span }
 {
     if let Some(time) = first {
         leasts[slot_of(time.tick, now)] = Least::Known(first);
     }
 }
 
-/// Adds the places of a word that wait for a time to a list, in ascending order.
+/// Adds the indices of a word that wait for a time to a list, in ascending order.
 #[inline]
 fn gather_word(
     waits: &[Option<Time>],
@@ -253,23 +254,23 @@ fn gather_word(
 {
     let mut rest = word;
     while rest != 0 {
-        let place = base + bits::take_least(&mut rest);
-        push_due(waits, place, time, into)?;
+        let index = base + bits::take_least(&mut rest);
+        push_due(waits, index, time, into)?;
     }
     Ok(())
 }
 
-/// Adds the places that wait for a time to a list, in ascending order.
+/// Adds the indices that wait for a time to a list, in ascending order.
 pub(crate) fn gather(
     waits: &[Option<Time>],
     used: &Set,
-    places: &Set,
+    indices: &Set,
     span: usize,
     now: u64,
     time: Time,
     into: &mut Vec<u32>,
 ) -> Result<(), AllocError>
-    requires kept { (leasts : List Least) × IsKept waits.now now used.now places.now leasts span }
+    requires kept { (leasts : List Least) × IsKept waits.now now used.now indices.now leasts span }
     requires few { length waits.now ≤ 2 ^ 32 }
     ensures due { OnOk result (into.new.items ≡ into.old.items ++ due_at time waits.now) }
     ensures capacity { vec_capacity into.old ≤ vec_capacity into.new }
@@ -281,155 +282,155 @@ pub(crate) fn gather(
     }
     let base = slot_of(time.tick, now) * (span / 64);
     let end = base + span / 64;
-    let mut at = places.next_word(base, end);
+    let mut at = indices.next_word(base, end);
     while at < end {
-        gather_word(waits, places.word(at), 64 * (at - base), time, into)?;
-        at = places.next_word(at + 1, end);
+        gather_word(waits, indices.word(at), 64 * (at - base), time, into)?;
+        at = indices.next_word(at + 1, end);
     }
     Ok(())
 }
 
-/// Puts each place of a word into the set of the slot of its wait.
+/// Puts each index of a word into the set of the slot of its wait.
 #[inline]
 fn spread_word(
     waits: &[Option<Time>],
     used: &mut Set,
-    places: &mut Set,
+    indices: &mut Set,
     leasts: &mut [Least],
     span: usize,
     now: u64,
     word: u64,
     base: usize,
 )
-    requires room { HasRoom used.old places.old leasts.old span }
+    requires room { HasRoom used.old indices.old leasts.old span }
     requires within { base + 64 ≤ span }
     requires held { (s : ℕ) → IsHeld waits.now now s (least_at leasts.old s) }
-    ensures room { HasRoom used.new places.new leasts.new span }
+    ensures room { HasRoom used.new indices.new leasts.new span }
     ensures there { (p : ℕ) → p < 64 → bit_at word p ≡ 1
-        → IsIn now used.new places.new leasts.new span (base + p)
+        → IsIn now used.new indices.new leasts.new span (base + p)
         (slice_index_or waits.now (base + p) None) }
     ensures used { (p : ℕ) → has used.old p ≡ 1 → has used.new p ≡ 1 }
-    ensures others { (p : ℕ) → has places.old p ≡ 1 → has places.new p ≡ 1 }
+    ensures others { (p : ℕ) → has indices.old p ≡ 1 → has indices.new p ≡ 1 }
     ensures low { (s : ℕ) (w : Option Time) → IsLow (least_at leasts.old s) w
         → IsLow (least_at leasts.new s) w }
     ensures held { (s : ℕ) → IsHeld waits.now now s (least_at leasts.new s) }
 {
     let mut rest = word;
     while rest != 0 {
-        let place = base + bits::take_least(&mut rest);
+        let index = base + bits::take_least(&mut rest);
         put(
             used,
-            places,
+            indices,
             leasts,
             span,
             now,
-            place,
-            wait_at(waits, place),
+            index,
+            wait_at(waits, index),
         );
     }
 }
 
-/// Puts each place in a slot of the tick before into the set of its slot now.
+/// Puts each index in a slot of the tick before into the set of its slot now.
 fn spread(
     waits: &[Option<Time>],
     used: &mut Set,
-    places: &mut Set,
+    indices: &mut Set,
     leasts: &mut [Least],
     span: usize,
     before: u64,
     now: u64,
 )
-    requires kept { IsKept waits.now before used.old places.old leasts.old span }
+    requires kept { IsKept waits.now before used.old indices.old leasts.old span }
     requires on { before ≤ now }
     requires from { (p : ℕ) → IsFrom now (slice_index_or waits.now p None) }
-    ensures kept { IsKept waits.now now used.new places.new leasts.new span }
+    ensures kept { IsKept waits.now now used.new indices.new leasts.new span }
 {
     let slot = slot_of(now, before);
     used.remove(slot);
     leasts[slot] = Least::Known(None);
     let base = slot * (span / 64);
     let end = base + span / 64;
-    let mut at = places.next_word(base, end);
+    let mut at = indices.next_word(base, end);
     while at < end {
-        let word = places.take_word(at);
+        let word = indices.take_word(at);
         spread_word(
             waits,
             used,
-            places,
+            indices,
             leasts,
             span,
             now,
             word,
             64 * (at - base),
         );
-        at = places.next_word(at + 1, end);
+        at = indices.next_word(at + 1, end);
     }
 }
 
-/// Lets time go on to a tick before which no place waits for one.
+/// Lets time go on to a tick before which no index waits for one.
 pub(crate) fn go_on(
     waits: &[Option<Time>],
     used: &mut Set,
-    places: &mut Set,
+    indices: &mut Set,
     leasts: &mut [Least],
     span: usize,
     now: u64,
     tick: u64,
 )
-    requires kept { IsKept waits.now now used.old places.old leasts.old span }
+    requires kept { IsKept waits.now now used.old indices.old leasts.old span }
     requires on { now ≤ tick }
     requires from { (p : ℕ) → IsFrom tick (slice_index_or waits.now p None) }
-    ensures { IsKept waits.now tick used.new places.new leasts.new span }
+    ensures { IsKept waits.now tick used.new indices.new leasts.new span }
 {
     if slot_of(tick, now) >= 64 {
-        spread(waits, used, places, leasts, span, now, tick);
+        spread(waits, used, indices, leasts, span, now, tick);
     }
 }
 
-/// Whether a slot has no place. Its word of a place is looked at first, since it mostly has others.
+/// Whether a slot has no index. Its word of an index is looked at first, since it mostly has others.
 #[inline]
-fn is_empty(places: &Set, span: usize, slot: usize, place: usize) -> bool
-    requires room { 641 * span ≤ 64 * length places.now }
+fn is_empty(indices: &Set, span: usize, slot: usize, index: usize) -> bool
+    requires room { 641 * span ≤ 64 * length indices.now }
     requires whole { span ≡ 64 * (span / 64) }
     requires narrow { span ≤ 2 ^ 33 }
     requires slot { slot < 641 }
-    requires place { place < span }
-    ensures { IsTrue result → (p : ℕ) → p < span → has places.now (slot * span + p) ≡ 0 }
+    requires index { index < span }
+    ensures { IsTrue result → (p : ℕ) → p < span → has indices.now (slot * span + p) ≡ 0 }
 {
-    if places.word((slot * span + place) / 64) != 0 {
+    if indices.word((slot * span + index) / 64) != 0 {
         return false;
     }
     let base = slot * (span / 64);
     let end = base + span / 64;
-    places.next_word(base, end) == end
+    indices.next_word(base, end) == end
 }
 
-/// Takes a place out of the set of the slot of its wait, and the slot out of use where no place is left in it.
+/// Takes an index out of the set of the slot of its wait, and the slot out of use where no index is left in it.
 #[inline]
 fn leave(
     used: &mut Set,
-    places: &mut Set,
+    indices: &mut Set,
     leasts: &mut [Least],
     span: usize,
     now: u64,
-    place: usize,
+    index: usize,
     wait: Option<Time>,
 )
-    requires room { HasRoom used.old places.old leasts.old span }
-    requires place { place < span }
-    ensures room { HasRoom used.new places.new leasts.new span }
-    ensures others { (p : ℕ) (w : Option Time) → p < span → p ≢ place
-        → IsIn now used.old places.old leasts.old span p w
-        → IsIn now used.new places.new leasts.new span p w }
-    ensures held { (ws : List (Option Time)) (w : Option Time) → place < length ws
-        → slice_index_or ws place None ≡ wait
+    requires room { HasRoom used.old indices.old leasts.old span }
+    requires index { index < span }
+    ensures room { HasRoom used.new indices.new leasts.new span }
+    ensures others { (p : ℕ) (w : Option Time) → p < span → p ≢ index
+        → IsIn now used.old indices.old leasts.old span p w
+        → IsIn now used.new indices.new leasts.new span p w }
+    ensures held { (ws : List (Option Time)) (w : Option Time) → index < length ws
+        → slice_index_or ws index None ≡ wait
         → ((s : ℕ) → IsHeld ws now s (least_at leasts.old s)) → (s : ℕ)
-        → IsHeld (slice_set ws place w) now s (least_at leasts.new s) }
+        → IsHeld (slice_set ws index w) now s (least_at leasts.new s) }
 {
     if let Some(time) = wait {
         let slot = slot_of(time.tick, now);
-        places.remove(slot * span + place);
-        if is_empty(places, span, slot, place) {
+        indices.remove(slot * span + index);
+        if is_empty(indices, span, slot, index) {
             used.remove(slot);
             leasts[slot] = Least::Known(None);
         } else {
@@ -461,54 +462,54 @@ fn is_from(wait: Option<Time>, tick: u64) -> bool
     }
 }
 
-/// Puts all places into the sets of their slots anew, and gives the present tick, which is that of a wait where it ends before.
+/// Puts all indices into the sets of their slots anew, and gives the present tick, which is that of a wait where it ends before.
 fn put_anew(
     waits: &[Option<Time>],
     used: &mut Set,
-    places: &mut Set,
+    indices: &mut Set,
     leasts: &mut [Least],
     span: usize,
     now: u64,
     wait: Option<Time>,
 ) -> u64
-    requires room { HasRoom used.old places.old leasts.old span }
+    requires room { HasRoom used.old indices.old leasts.old span }
     requires fits { length waits.now ≤ span }
     ensures low { result ≤ now }
     ensures from { IsFrom result wait }
-    ensures room { HasRoom used.new places.new leasts.new span }
-    ensures there { (p : ℕ) → IsIn result used.new places.new leasts.new span p
+    ensures room { HasRoom used.new indices.new leasts.new span }
+    ensures there { (p : ℕ) → IsIn result used.new indices.new leasts.new span p
         (slice_index_or waits.now p None) }
     ensures held { (s : ℕ) → IsHeld waits.now result s (least_at leasts.new s) }
 {
-    take_all(waits, used, places, span, now);
+    take_all(waits, used, indices, span, now);
     leasts.fill(Least::Known(None));
     let present = earlier(now, wait);
-    put_all(waits, used, places, leasts, span, present);
+    put_all(waits, used, indices, leasts, span, present);
     present
 }
 
-/// Lets a place wait for another time, or for none, and gives the present tick, which is earlier where the time is.
+/// Lets an index wait for another time, or for none, and gives the present tick, which is earlier where the time is.
 #[inline]
 pub(crate) fn replace(
     waits: &mut [Option<Time>],
     used: &mut Set,
-    places: &mut Set,
+    indices: &mut Set,
     leasts: &mut [Least],
     span: usize,
     now: u64,
-    place: usize,
+    index: usize,
     wait: Option<Time>,
 ) -> u64
-    requires kept { IsKept waits.old now used.old places.old leasts.old span }
-    requires place { place < length waits.old }
-    ensures kept { IsKept waits.new result used.new places.new leasts.new span }
-    ensures waits { waits.new ≡ slice_set waits.old place wait }
+    requires kept { IsKept waits.old now used.old indices.old leasts.old span }
+    requires index { index < length waits.old }
+    ensures kept { IsKept waits.new result used.new indices.new leasts.new span }
+    ensures waits { waits.new ≡ slice_set waits.old index wait }
 {
-    leave(used, places, leasts, span, now, place, waits[place]);
-    waits[place] = wait;
+    leave(used, indices, leasts, span, now, index, waits[index]);
+    waits[index] = wait;
     if is_from(wait, now) {
-        put(used, places, leasts, span, now, place, wait);
+        put(used, indices, leasts, span, now, index, wait);
         return now;
     }
-    put_anew(waits, used, places, leasts, span, now, wait)
+    put_anew(waits, used, indices, leasts, span, now, wait)
 }

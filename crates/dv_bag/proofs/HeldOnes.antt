@@ -15,7 +15,7 @@ use Rattle.dv_bag.specs.declared.state.Datum.TheVariants as datum
 use Rattle.dv_bag.proofs.Monoid.{total_with, total_without}
 use Rattle.dv_bag.proofs.Pairs.{refill-set}
 
--- what stands at the place of a collection is that collection, and an edit of it is an edit at that place
+-- what stands at the index of a collection is that collection, and an edit of it is an edit at that index
 module _ (contents items read : List Datum) (i : ℕ) (d : Datum) (view : items ≡ contents) (seen : read ≡ items)
     (there : HasHeldAt i contents) where
   stands : get_or read i d ≡ datum.Held (held_at contents i)

@@ -118,7 +118,7 @@ in_front low t (i ∷ inputs) h le =
 pub one_more : (n : ℕ) → 1 + n ≡ suc n
 one_more n = omega arith
 
--- the inputs of a time stand together, from its place on
+-- the inputs of a time stand together, from its index on
 pub together : (limit : ℕ) (low t : Time) (inputs : List Input) → IsFrom low inputs → IsOfRun limit t
     → take_while (is_at t) (drop (inputs_before limit inputs t) inputs) ≡ filter (is_at t) inputs
 together limit low t [] h run = refl
@@ -137,16 +137,16 @@ together limit low t (i ∷ inputs) h run = step (together limit i.time t inputs
 pub before_within : (limit : ℕ) (t : Time) (inputs : List Input) → inputs_before limit inputs t ≤ length inputs
 before_within limit t inputs = prefix_len-le-length (is_passed limit t) inputs
 
--- as many are passed by from a place on as there are from it to the place of a time
-pub passed_from : {X : Type 0} (p : X → Bool) (xs : List X) (place : ℕ) → place ≤ prefix_len p xs
-    → place + prefix_len p (drop place xs) ≡ prefix_len p xs
+-- as many are passed by from an index on as there are from it to the index of a time
+pub passed_from : {X : Type 0} (p : X → Bool) (xs : List X) (index : ℕ) → index ≤ prefix_len p xs
+    → index + prefix_len p (drop index xs) ≡ prefix_len p xs
 passed_from p xs zero h = omega arith
-passed_from p [] (suc place) h = absurd (omega arith)
-passed_from p (x ∷ xs) (suc place) h = step (passed_from p xs place) (p x) h
+passed_from p [] (suc index) h = absurd (omega arith)
+passed_from p (x ∷ xs) (suc index) h = step (passed_from p xs index) (p x) h
   where
-    step : (place ≤ prefix_len p xs → place + prefix_len p (drop place xs) ≡ prefix_len p xs) → (b : Bool)
-        → suc place ≤ cond b (1 + prefix_len p xs) 0
-        → suc place + prefix_len p (drop place xs) ≡ cond b (1 + prefix_len p xs) 0
+    step : (index ≤ prefix_len p xs → index + prefix_len p (drop index xs) ≡ prefix_len p xs) → (b : Bool)
+        → suc index ≤ cond b (1 + prefix_len p xs) 0
+        → suc index + prefix_len p (drop index xs) ≡ cond b (1 + prefix_len p xs) 0
     step rest true le = let more = rest (omega (arith, le)) in omega (arith, more)
     step rest false le = absurd (omega (arith, le))
 
@@ -227,13 +227,13 @@ pub above_brings_nothing : (limit ports : ℕ) (t : Time) (i : Input) (front bac
     → bags_at ports (front ++ i ∷ back) t ≡ bags_at ports (front ++ back) t
 above_brings_nothing limit ports t i front back run lt = put_without ports t i front back (at_none_above t i (omega (arith, run, lt)))
 
--- what a walk finds from the place of a time on
-pub arriving : (limit : ℕ) (t : Time) (place : ℕ) (now items read front : List Input) → IsByTime items → items ≡ now → read ≡ items
-    → IsOfRun limit t → place ≡ inputs_before limit now t → front ≡ take_while (is_at t) (drop place read)
+-- what a walk finds from the index of a time on
+pub arriving : (limit : ℕ) (t : Time) (index : ℕ) (now items read front : List Input) → IsByTime items → items ≡ now → read ≡ items
+    → IsOfRun limit t → index ≡ inputs_before limit now t → front ≡ take_while (is_at t) (drop index read)
     → front ≡ filter (is_at t) now
-arriving limit t place now items read front h view same run at taken =
+arriving limit t index now items read front h view same run at taken =
     taken
-    ∙ ap (λ (xs : List Input). take_while (is_at t) (drop place xs)) (same ∙ view)
+    ∙ ap (λ (xs : List Input). take_while (is_at t) (drop index xs)) (same ∙ view)
     ∙ ap (λ (n : ℕ). take_while (is_at t) (drop n now)) at
     ∙ together limit (start_of 0) t now (subst IsByTime view h) run
 

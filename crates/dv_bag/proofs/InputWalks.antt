@@ -1,4 +1,4 @@
--- How a run walks over inputs: from the place of a rank to that of the next.
+-- How a run walks over inputs: from the index of a rank to that of the next.
 use Rattle.std.proofs.Common.{◌≡◌, ℕ, ◌+◌, ◌<◌, ◌≤◌, Bool, true, false, cond, List, [], ◌∷◌, replicate, filter, Option, Some, None}
 use Rattle.std.proofs.Common.{IfSome, refl, sym, ap, ◌∙◌, arith}
 use Rattle.std.proofs.lemmas.Bool.{false≢true, le-ltb, lt-ltb, ltb-false}
@@ -11,10 +11,10 @@ use Rattle.dv_bag.specs.declared.inputs.Input.{Input}
 use Rattle.dv_bag.proofs.InputLists.{at_none_earlier, none_at, not_passed, nothing_put, one_more}
 use Rattle.dv_bag.proofs.InputLists.{passed_not_at}
 
--- the input at the place of a time
-pub next_at_place : (limit : ℕ) (t : Time) (inputs : List Input) → time_at inputs (inputs_before limit inputs t) ≡ next_from limit inputs t
-next_at_place limit t [] = refl
-next_at_place limit t (i ∷ inputs) = step (next_at_place limit t inputs) (is_passed limit t i)
+-- the input at the index of a time
+pub next_at_index : (limit : ℕ) (t : Time) (inputs : List Input) → time_at inputs (inputs_before limit inputs t) ≡ next_from limit inputs t
+next_at_index limit t [] = refl
+next_at_index limit t (i ∷ inputs) = step (next_at_index limit t inputs) (is_passed limit t i)
   where
     step : time_at inputs (inputs_before limit inputs t) ≡ next_from limit inputs t → (b : Bool)
         → time_at (i ∷ inputs) (cond b (1 + inputs_before limit inputs t) 0) ≡ cond b (next_from limit inputs t) (Some i.time)
@@ -41,10 +41,10 @@ not_passed_yet : (limit : ℕ) (t u : Time) (i : Input) → is_passed limit t i 
     → is_passed limit u i ≡ false
 not_passed_yet limit t u i e le = grind (arith, nat_tests)
 
-pub places_rise : (limit : ℕ) (t u : Time) (inputs : List Input) → is_before u t ≡ false
+pub indices_rise : (limit : ℕ) (t u : Time) (inputs : List Input) → is_before u t ≡ false
     → inputs_before limit inputs t ≤ inputs_before limit inputs u
-places_rise limit t u [] le = omega arith
-places_rise limit t u (i ∷ inputs) le = step (places_rise limit t u inputs le) (is_passed limit t i) (is_passed limit u i) refl refl
+indices_rise limit t u [] le = omega arith
+indices_rise limit t u (i ∷ inputs) le = step (indices_rise limit t u inputs le) (is_passed limit t i) (is_passed limit u i) refl refl
   where
     step : inputs_before limit inputs t ≤ inputs_before limit inputs u → (a b : Bool) → is_passed limit t i ≡ a
         → is_passed limit u i ≡ b → cond a (1 + inputs_before limit inputs t) 0 ≤ cond b (1 + inputs_before limit inputs u) 0
@@ -52,10 +52,10 @@ places_rise limit t u (i ∷ inputs) le = step (places_rise limit t u inputs le)
     step rest true false ea eb = absurd (false≢true (sym eb ∙ passed_on limit t u i le ea))
     step rest false b ea eb = omega arith
 
-pub same_place : (limit : ℕ) (t u : Time) (inputs : List Input) → is_before u t ≡ false
+pub same_index : (limit : ℕ) (t u : Time) (inputs : List Input) → is_before u t ≡ false
     → IfSome (next_from limit inputs t) (λ v. is_before v u ≡ false) → inputs_before limit inputs u ≡ inputs_before limit inputs t
-same_place limit t u [] le next = refl
-same_place limit t u (i ∷ inputs) le next = step (same_place limit t u inputs le) (is_passed limit t i) (is_passed limit u i) refl refl next
+same_index limit t u [] le next = refl
+same_index limit t u (i ∷ inputs) le next = step (same_index limit t u inputs le) (is_passed limit t i) (is_passed limit u i) refl refl next
   where
     step : (IfSome (next_from limit inputs t) (λ v. is_before v u ≡ false) → inputs_before limit inputs u ≡ inputs_before limit inputs t)
         → (a b : Bool) → is_passed limit t i ≡ a → is_passed limit u i ≡ b
@@ -126,12 +126,12 @@ next_not_before limit n inputs =
 
 pub ranks_rise : (limit n m : ℕ) (inputs : List Input) → n ≤ m
     → inputs_before limit inputs (time_of limit n) ≤ inputs_before limit inputs (time_of limit m)
-ranks_rise limit n m inputs le = places_rise limit (time_of limit n) (time_of limit m) inputs (times_rise limit n m le)
+ranks_rise limit n m inputs le = indices_rise limit (time_of limit n) (time_of limit m) inputs (times_rise limit n m le)
 
 pub same_rank : (limit n m : ℕ) (inputs : List Input) → n ≤ m → IfSome (next_from limit inputs (time_of limit n)) (λ t. m ≤ rank limit t)
     → inputs_before limit inputs (time_of limit m) ≡ inputs_before limit inputs (time_of limit n)
 same_rank limit n m inputs le next =
-    same_place limit (time_of limit n) (time_of limit m) inputs (times_rise limit n m le)
+    same_index limit (time_of limit n) (time_of limit m) inputs (times_rise limit n m le)
     (coming_with (next_from limit inputs (time_of limit n)) _ _ _ (λ t run far. at_or_past limit m t run far)
     (next_of_run limit (time_of limit n) inputs) next)
 

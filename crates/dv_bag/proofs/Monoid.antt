@@ -8,7 +8,7 @@ use Rattle.std.proofs.lemmas.Int.{ints}
 use Rattle.dv_bag.specs.Bag.{Counts, IsAbove, IsBag, capped, count_of, with_copies, with_some, without_one, union, total, size}
 use Rattle.dv_bag.proofs.Pairs.{cmp_less, cmp_equal, cmp_greater, bag_from_above, by_copies, some_copies, with_copies_bag}
 
--- the three places of a number beside another
+-- the three indices of a number beside another
 pub by_order : {G : Type 0} (v w : ℤ) → (v <ℤ w → G) → (v ≡ w → G) → (w <ℤ v → G) → G
 by_order v w less equal greater = by_ranked _ _ _ (int_cmp v w) (int_ranked v w _ refl) (λ e p. less p) (λ e p. equal p) (λ e p. greater p)
 

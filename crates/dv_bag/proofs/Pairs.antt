@@ -13,21 +13,21 @@ use Rattle.std.proofs.lemmas.Bool.{cases_lt}
 use Rattle.std.proofs.lemmas.Bool.Decides.{nat_tests}
 use Rattle.std.proofs.lemmas.List.{drop_all, take_all}
 use Rattle.std.proofs.lemmas.List.Sorted.{IsNonDecreasingBy-from_default}
-use Rattle.dv_bag.specs.Bag.{Counts, IsAbove, IsBag, capped, count_of, most, place_of, with_copies, with_some, without_one}
+use Rattle.dv_bag.specs.Bag.{Counts, IsAbove, IsBag, capped, count_of, most, index_of, with_copies, with_some, without_one}
 
--- the place of a value that a bag has, or of the gap for it
+-- the index of a value that a bag has, or of the gap for it
 abbrev pub IsPresent : ℤ → Counts → ℕ → Type 0
-IsPresent v b place = (place ≡ place_of v b) × (place < length b) × (0 < count_of v b)
+IsPresent v b index = (index ≡ index_of v b) × (index < length b) × (0 < count_of v b)
 
 abbrev pub IsAbsent : ℤ → Counts → ℕ → Type 0
-IsAbsent v b place = (place ≡ place_of v b) × (place ≤ length b) × (count_of v b ≡ 0)
+IsAbsent v b index = (index ≡ index_of v b) × (index ≤ length b) × (count_of v b ≡ 0)
 
--- what the order of a value to the first pair's gives: the value's count and place, some copies more, and one less
+-- what the order of a value to the first pair's gives: the value's count and index, some copies more, and one less
 abbrev count_by : Ordering → ℤ → ℤ × ℕ → Counts → ℕ
 count_by o v p ps = match_ordering o 0 p.1 (count_of v ps)
 
-abbrev place_by : Ordering → ℤ → Counts → ℕ
-place_by o v ps = match_ordering o 0 0 (suc (place_of v ps))
+abbrev index_by : Ordering → ℤ → Counts → ℕ
+index_by o v ps = match_ordering o 0 0 (suc (index_of v ps))
 
 abbrev more_by : Ordering → ℤ → ℕ → ℤ × ℕ → Counts → Counts
 more_by o v n p ps = match_ordering o ((v, capped n) ∷ p ∷ ps) ((p.0, capped (p.1 + n)) ∷ ps) (p ∷ with_some v n ps)
@@ -35,9 +35,9 @@ more_by o v n p ps = match_ordering o ((v, capped n) ∷ p ∷ ps) ((p.0, capped
 abbrev less_by : Ordering → Bool → ℤ → ℤ × ℕ → Counts → Counts
 less_by o alone v p ps = match_ordering o (p ∷ ps) (cond alone ps ((p.0, p.1 - 1) ∷ ps)) (p ∷ without_one v ps)
 
--- one copy less of a value of which so many stand at a place
+-- one copy less of a value of which so many stand at an index
 abbrev one_less_at : ℤ → Counts → ℕ → ℕ → Counts
-one_less_at v b place copies = cond (nat_eq copies 1) (remove b place) (set b place (v, copies - 1))
+one_less_at v b index copies = cond (nat_eq copies 1) (remove b index) (set b index (v, copies - 1))
 
 -- the comparison of two numbers, from their order
 pub cmp_less : (v w : ℤ) → v <ℤ w → int_cmp v w ≡ Less
@@ -84,24 +84,24 @@ values_rise (p ∷ ps) h i zero lt within = absurd (omega arith)
 values_rise (p ∷ ps) h zero (suc j) lt within = above_first p.0 ps j h.2 (omega arith)
 values_rise (p ∷ ps) h (suc i) (suc j) lt within = values_rise ps (bag_from_above p.0 ps h.2) i j (omega arith) (omega arith)
 
--- the place of a value that is there
-pub place_present : (v : ℤ) (b : Counts) → IsBag b → (i : ℕ) → i < length b → value_at b i ≡ v
-    → (i ≡ place_of v b) × (0 < count_of v b)
-place_present v [] h i within e = absurd (omega arith)
-place_present v (p ∷ ps) h zero within e = rw (cmp_equal v p.0 (sym e)) (refl, h.0)
-place_present v (p ∷ ps) h (suc i) within e =
+-- the index of a value that is there
+pub index_present : (v : ℤ) (b : Counts) → IsBag b → (i : ℕ) → i < length b → value_at b i ≡ v
+    → (i ≡ index_of v b) × (0 < count_of v b)
+index_present v [] h i within e = absurd (omega arith)
+index_present v (p ∷ ps) h zero within e = rw (cmp_equal v p.0 (sym e)) (refl, h.0)
+index_present v (p ∷ ps) h (suc i) within e =
     let above : p.0 <ℤ value_at ps i = above_first p.0 ps i h.2 (omega arith) in
-    let rest = place_present v ps (bag_from_above p.0 ps h.2) i (omega arith) e in
+    let rest = index_present v ps (bag_from_above p.0 ps h.2) i (omega arith) e in
     rw (cmp_greater v p.0 (subst (λ w. p.0 <ℤ w) e above)) (ap suc rest.0, rest.1)
 
--- the place of a value that is not there
-pub place_absent : (v : ℤ) (b : Counts) → (i : ℕ) → i ≤ length b → ((j : ℕ) → j < i → value_at b j <ℤ v)
-    → ((j : ℕ) → i ≤ j → j < length b → v <ℤ value_at b j) → (i ≡ place_of v b) × (count_of v b ≡ 0)
-place_absent v [] i within below above = (omega arith, refl)
-place_absent v (p ∷ ps) zero within below above = rw (cmp_less v p.0 (above 0 (omega arith) (omega arith))) (refl, refl)
-place_absent v (p ∷ ps) (suc i) within below above =
+-- the index of a value that is not there
+pub index_absent : (v : ℤ) (b : Counts) → (i : ℕ) → i ≤ length b → ((j : ℕ) → j < i → value_at b j <ℤ v)
+    → ((j : ℕ) → i ≤ j → j < length b → v <ℤ value_at b j) → (i ≡ index_of v b) × (count_of v b ≡ 0)
+index_absent v [] i within below above = (omega arith, refl)
+index_absent v (p ∷ ps) zero within below above = rw (cmp_less v p.0 (above 0 (omega arith) (omega arith))) (refl, refl)
+index_absent v (p ∷ ps) (suc i) within below above =
     let rest =
-    place_absent v ps i (omega arith) (λ j lt. below (suc j) (omega arith))
+    index_absent v ps i (omega arith) (λ j lt. below (suc j) (omega arith))
     (λ j le lt. above (suc j) (omega arith) (omega arith)) in
     rw (cmp_greater v p.0 (below 0 (omega arith))) (ap suc rest.0, rest.1)
 
@@ -132,12 +132,12 @@ module _ (b : Counts) (bag : IsBag b) (v : ℤ) where
   pub searched : (r : Result ℕ ℕ) → IsSearchInRange r (length b) → IsBinarySearchResult (λ pair. int_cmp pair.0 v) b r
       → record { found : IfOk r (IsPresent v b); absent : IfErr r (IsAbsent v b) }
   searched (Ok at) within equal =
-      let here = place_present v b bag at within (int_ranked _ v _ (sym (equal (pos 0, 0)))) in
+      let here = index_present v b bag at within (int_ranked _ v _ (sym (equal (pos 0, 0)))) in
       record { found = (here.0, within, here.1); absent = tt }
   searched (Err at) within parted =
       let apart = parted comparisons_rise in
       let gap =
-      place_absent v b at within (λ j lt. int_ranked _ v _ (sym (apart.0 j (pos 0, 0) (omega arith) lt)))
+      index_absent v b at within (λ j lt. int_ranked _ v _ (sym (apart.0 j (pos 0, 0) (omega arith) lt)))
       (λ j le lt. int_ranked _ v _ (sym (apart.1 j (pos 0, 0) le lt))) in
       record { found = tt; absent = (gap.0, within, gap.1) }
 
@@ -147,7 +147,7 @@ above_last v b bag some order =
     let last = length b - 1 in
     let less : value_at b last <ℤ v = int_ranked (value_at b last) v Less (sym order) in
     let gap =
-    place_absent v b (length b) (omega arith)
+    index_absent v b (length b) (omega arith)
     (λ j lt.
     elim (at_most b bag j last (omega (arith, lt, some)) (omega (arith, some))) [
       | inl before ↦ omega (arith, ints, before, less)
@@ -159,42 +159,42 @@ above_last v b bag some order =
 pub at_last : (v : ℤ) (b : Counts) → IsBag b → 1 ≤ length b → int_cmp (value_at b (length b - 1)) v ≡ Equal → IsPresent v b (length b - 1)
 at_last v b bag some order =
     let same : value_at b (length b - 1) ≡ v = int_ranked (value_at b (length b - 1)) v Equal (sym order) in
-    let here = place_present v b bag (length b - 1) (omega (arith, some)) same in
+    let here = index_present v b bag (length b - 1) (omega (arith, some)) same in
     (here.0, omega (arith, some), here.1)
 
--- the pair at the place of a value that is there
-pub copies_at_place : (v : ℤ) (b : Counts) → 0 < count_of v b → copies_at b (place_of v b) ≡ count_of v b
-copies_at_place v [] h = absurd (omega arith)
-copies_at_place v (p ∷ ps) h = step (int_cmp v p.0) h (copies_at_place v ps)
+-- the pair at the index of a value that is there
+pub copies_at_index : (v : ℤ) (b : Counts) → 0 < count_of v b → copies_at b (index_of v b) ≡ count_of v b
+copies_at_index v [] h = absurd (omega arith)
+copies_at_index v (p ∷ ps) h = step (int_cmp v p.0) h (copies_at_index v ps)
   where
-    step : (o : Ordering) → 0 < count_by o v p ps → (0 < count_of v ps → copies_at ps (place_of v ps) ≡ count_of v ps)
-        → copies_at (p ∷ ps) (place_by o v ps) ≡ count_by o v p ps
+    step : (o : Ordering) → 0 < count_by o v p ps → (0 < count_of v ps → copies_at ps (index_of v ps) ≡ count_of v ps)
+        → copies_at (p ∷ ps) (index_by o v ps) ≡ count_by o v p ps
     step Less h rest = absurd (omega arith)
     step Equal h rest = refl
     step Greater h rest = rest h
 
 -- more copies of a value that is there
 pub with_some_present : (v : ℤ) (n : ℕ) (b : Counts) → 0 < count_of v b
-    → with_some v n b ≡ set b (place_of v b) (v, capped (count_of v b + n))
+    → with_some v n b ≡ set b (index_of v b) (v, capped (count_of v b + n))
 with_some_present v n [] h = absurd (omega arith)
 with_some_present v n (p ∷ ps) h = step (int_cmp v p.0) (int_ranked v p.0 _ refl) h (with_some_present v n ps)
   where
     step : (o : Ordering) → MatchOrdering o (v <ℤ p.0) (v ≡ p.0) (p.0 <ℤ v) → 0 < count_by o v p ps
-        → (0 < count_of v ps → with_some v n ps ≡ set ps (place_of v ps) (v, capped (count_of v ps + n)))
-        → more_by o v n p ps ≡ set (p ∷ ps) (place_by o v ps) (v, capped (count_by o v p ps + n))
+        → (0 < count_of v ps → with_some v n ps ≡ set ps (index_of v ps) (v, capped (count_of v ps + n)))
+        → more_by o v n p ps ≡ set (p ∷ ps) (index_by o v ps) (v, capped (count_by o v p ps + n))
     step Less m h rest = absurd (omega arith)
     step Equal m h rest = ap (λ (w : ℤ). (w, capped (p.1 + n)) ∷ ps) (sym m)
     step Greater m h rest = ap (λ qs. p ∷ qs) (rest h)
 
 -- copies of a value that is not there
 pub with_some_absent : (v : ℤ) (n : ℕ) (b : Counts) → IsBag b → count_of v b ≡ 0
-    → with_some v n b ≡ insert b (place_of v b) (v, capped n)
+    → with_some v n b ≡ insert b (index_of v b) (v, capped n)
 with_some_absent v n [] bag h = refl
 with_some_absent v n (p ∷ ps) bag h = step (int_cmp v p.0) h (with_some_absent v n ps (bag_from_above p.0 ps bag.2))
   where
     step : (o : Ordering) → count_by o v p ps ≡ 0
-        → (count_of v ps ≡ 0 → with_some v n ps ≡ insert ps (place_of v ps) (v, capped n))
-        → more_by o v n p ps ≡ insert (p ∷ ps) (place_by o v ps) (v, capped n)
+        → (count_of v ps ≡ 0 → with_some v n ps ≡ insert ps (index_of v ps) (v, capped n))
+        → more_by o v n p ps ≡ insert (p ∷ ps) (index_by o v ps) (v, capped n)
     step Less h rest = refl
     step Equal h rest = absurd (omega (arith, bag.0))
     step Greater h rest = ap (λ qs. p ∷ qs) (rest h)
@@ -205,18 +205,18 @@ cons_cond false p a b = refl
 
 -- one copy less of a value that is there
 pub without_one_present : (v : ℤ) (b : Counts) → 0 < count_of v b
-    → without_one v b ≡ one_less_at v b (place_of v b) (count_of v b)
+    → without_one v b ≡ one_less_at v b (index_of v b) (count_of v b)
 without_one_present v [] h = absurd (omega arith)
 without_one_present v (p ∷ ps) h = step (int_cmp v p.0) (int_ranked v p.0 _ refl) h (without_one_present v ps)
   where
     step : (o : Ordering) → MatchOrdering o (v <ℤ p.0) (v ≡ p.0) (p.0 <ℤ v) → 0 < count_by o v p ps
-        → (0 < count_of v ps → without_one v ps ≡ one_less_at v ps (place_of v ps) (count_of v ps))
-        → less_by o (nat_eq p.1 1) v p ps ≡ one_less_at v (p ∷ ps) (place_by o v ps) (count_by o v p ps)
+        → (0 < count_of v ps → without_one v ps ≡ one_less_at v ps (index_of v ps) (count_of v ps))
+        → less_by o (nat_eq p.1 1) v p ps ≡ one_less_at v (p ∷ ps) (index_by o v ps) (count_by o v p ps)
     step Less m h rest = absurd (omega arith)
     step Equal m h rest = ap (λ (w : ℤ). cond (nat_eq p.1 1) ps ((w, p.1 - 1) ∷ ps)) (sym m)
     step Greater m h rest =
         ap (λ qs. p ∷ qs) (rest h)
-        ∙ cons_cond (nat_eq (count_of v ps) 1) p (remove ps (place_of v ps)) (set ps (place_of v ps) (v, count_of v ps - 1))
+        ∙ cons_cond (nat_eq (count_of v ps) 1) p (remove ps (index_of v ps)) (set ps (index_of v ps) (v, count_of v ps - 1))
 
 -- of a value that is not there, nothing
 pub without_one_absent : (v : ℤ) (b : Counts) → IsBag b → count_of v b ≡ 0 → without_one v b ≡ b
@@ -292,33 +292,33 @@ pub with_copies_bag : (v : ℤ) (n : ℕ) (b : Counts) → IsBag b → IsBag (wi
 with_copies_bag v n b h = by_copies IsBag v n b (λ e. h) (λ more. with_some_bag v n b more h)
 
 -- what the code of the edits leaves
-module _ (v w : ℤ) (b items slice read : Counts) (place : ℕ) (number : w ≡ v) (view : items ≡ b) (wrote : slice ≡ items)
+module _ (v w : ℤ) (b items slice read : Counts) (index : ℕ) (number : w ≡ v) (view : items ≡ b) (wrote : slice ≡ items)
     (seen : read ≡ items) where
-  pub copies_read : IsPresent w b place → copies_at read place ≡ count_of v b
+  pub copies_read : IsPresent w b index → copies_at read index ≡ count_of v b
   copies_read found =
       let there = subst (λ (v : ℤ). 0 < count_of v b) number found.2 in
-      let at = copies_at_place v b there in
+      let at = copies_at_index v b there in
       let same = found.0 in
       cc
 
-  pub some_read : IsPresent w b place → 1 ≤ copies_at read place
+  pub some_read : IsPresent w b index → 1 ≤ copies_at read index
   some_read found =
       let there = subst (λ (v : ℤ). 0 < count_of v b) number found.2 in
       let at = copies_read found in
       omega arith
 
-  pub more_copies : (n sum : ℕ) → IsPresent w b place
-      → sum ≡ capped (copies_at read place + n) → refill (length items) items (set slice place (w, sum)) ≡ with_some v n b
+  pub more_copies : (n sum : ℕ) → IsPresent w b index
+      → sum ≡ capped (copies_at read index + n) → refill (length items) items (set slice index (w, sum)) ≡ with_some v n b
   more_copies n sum found e =
       let there = subst (λ (v : ℤ). 0 < count_of v b) number found.2 in
       let at = copies_read found in
       let meant = with_some_present v n b there in
       let same = found.0 in
-      let filled = refill-set items place (w, sum) in
+      let filled = refill-set items index (w, sum) in
       cc
 
   pub first_copies : (n : ℕ) (new : Counts) → IsBag b → n < 2 ^ 64
-      → IsAbsent w b place → new ≡ insert items place (w, n) → new ≡ with_some v n b
+      → IsAbsent w b index → new ≡ insert items index (w, n) → new ≡ with_some v n b
   first_copies n new bag small absent e =
       let none = subst (λ (v : ℤ). count_of v b ≡ 0) number absent.2 in
       let meant = with_some_absent v n b bag none in
@@ -326,8 +326,8 @@ module _ (v w : ℤ) (b items slice read : Counts) (place : ℕ) (number : w ≡
       let kept : capped n ≡ n = omega arith in
       e ∙ rw (view, same, number) (sym (rw kept at meant))
 
-  pub last_copy : (new : Counts) → IsPresent w b place → copies_at read place ≡ 1
-      → new ≡ remove items place → new ≡ without_one v b
+  pub last_copy : (new : Counts) → IsPresent w b index → copies_at read index ≡ 1
+      → new ≡ remove items index → new ≡ without_one v b
   last_copy new found one e =
       let there = subst (λ (v : ℤ). 0 < count_of v b) number found.2 in
       let at = copies_read found in
@@ -336,14 +336,14 @@ module _ (v w : ℤ) (b items slice read : Counts) (place : ℕ) (number : w ≡
       let last : nat_eq (count_of v b) 1 ≡ true = rw (← at, one) refl in
       e ∙ rw (view, same, number) (sym (rw last at meant))
 
-  pub one_copy_less : IsPresent w b place → (copies_at read place ≡ 1 → ⊥)
-      → refill (length items) items (set slice place (w, copies_at read place - 1)) ≡ without_one v b
+  pub one_copy_less : IsPresent w b index → (copies_at read index ≡ 1 → ⊥)
+      → refill (length items) items (set slice index (w, copies_at read index - 1)) ≡ without_one v b
   one_copy_less found several =
       let there = subst (λ (v : ℤ). 0 < count_of v b) number found.2 in
       let at = copies_read found in
       let meant = without_one_present v b there in
       let same = found.0 in
-      let filled = refill-set items place (w, copies_at read place - 1) in
+      let filled = refill-set items index (w, copies_at read index - 1) in
       let more : nat_eq (count_of v b) 1 ≡ false = grind (arith, nat_tests) in
       let plain = rw more at meant in
       cc

@@ -111,7 +111,7 @@ index_rises p q r lt = grind (arith, ranked p r _ refl, ranked q r _ refl)
 
 pub searched : (p : ℕ) (hs : List PortBag) (r : Result ℕ ℕ) → RiseFrom 0 hs → IsSearchInRange r (length hs) →
     IsBinarySearchResult (λ (h : PortBag). nat_cmp h.port p) hs r →
-    record { found : IfOk r (λ place. StandsAt p place hs); absent : IfErr r (λ place. GoesInAt p place hs) }
+    record { found : IfOk r (λ index. StandsAt p index hs); absent : IfErr r (λ index. GoesInAt p index hs) }
 searched p hs (Ok at) rise within equal = record {
   found = (within, λ d. ranked (get_or hs at d).port p _ (sym (equal d)));
   absent = tt;
@@ -154,7 +154,7 @@ behind_last p hs d rise some order =
       λ k e le lt. absurd (omega (arith, le, lt)),
     )
 
--- the bag that stands at a place, or that of a port for which none stands
+-- the bag that stands at an index, or that of a port for which none stands
 pub standing_bag : (low p i : ℕ) (hs : List PortBag) (d : PortBag) → RiseFrom low hs → StandsAt p i hs →
     bag_in p hs ≡ (get_or hs i d).bag
 standing_bag low p i [] d rise at = absurd (omega (arith, at.0))
@@ -189,7 +189,7 @@ absent_bag p (suc i) (h ∷ hs) at =
     let rest = behind p i h hs at in
     later_bag p h hs (λ e. absurd (omega (arith, e, rest.0))) ∙ absent_bag p i hs rest.1
 
--- another bag at the place of a port
+-- another bag at the index of a port
 module _ (p : ℕ) (b : Counts) where
   set_here : (low i : ℕ) (hs : List PortBag) → RiseFrom low hs → StandsAt p i hs → bag_in p (set hs i (port_bag p b)) ≡ b
   set_here low i [] rise at = absurd (omega (arith, at.0))
@@ -247,64 +247,64 @@ module _ (p : ℕ) (b : Counts) where
 
 -- what the code of an edit leaves
 module _ (ports port : ℕ) (hs : List PortBag) (within : AreWithin ports hs) (rise : RiseFrom 0 hs) (lt : port < ports) where
-  -- the bag that stands at a place, read from a copy of the list
-  module _ (place : ℕ) (xs : List PortBag) (d : PortBag) (seen : xs ≡ hs) (at : StandsAt port place hs) where
+  -- the bag that stands at an index, read from a copy of the list
+  module _ (index : ℕ) (xs : List PortBag) (d : PortBag) (seen : xs ≡ hs) (at : StandsAt port index hs) where
     abbrev with_bag : Counts → List PortBag
-    with_bag b = refill (length hs) hs (set xs place (port_bag (get_or xs place d).port b))
+    with_bag b = refill (length hs) hs (set xs index (port_bag (get_or xs index d).port b))
 
-    plain : (b : Counts) → with_bag b ≡ set hs place (port_bag port b)
+    plain : (b : Counts) → with_bag b ≡ set hs index (port_bag port b)
     plain b =
-        ap (λ (ys : List PortBag). refill (length hs) hs (set ys place (port_bag (get_or ys place d).port b))) seen
-        ∙ ap (λ (p : ℕ). refill (length hs) hs (set hs place (port_bag p b))) (at.1 d)
-        ∙ refill-set hs place (port_bag port b)
+        ap (λ (ys : List PortBag). refill (length hs) hs (set ys index (port_bag (get_or ys index d).port b))) seen
+        ∙ ap (λ (p : ℕ). refill (length hs) hs (set hs index (port_bag p b))) (at.1 d)
+        ∙ refill-set hs index (port_bag port b)
 
-    pub old_bag : (get_or xs place d).bag ≡ bag_at (by_port ports hs) port
+    pub old_bag : (get_or xs index d).bag ≡ bag_at (by_port ports hs) port
     old_bag =
-        ap (λ (ys : List PortBag). (get_or ys place d).bag) seen ∙ sym (standing_bag 0 port place hs d rise at)
+        ap (λ (ys : List PortBag). (get_or ys index d).bag) seen ∙ sym (standing_bag 0 port index hs d rise at)
         ∙ sym (bag_of_port ports port hs within)
 
     pub changed : (b : Counts) → by_port ports (with_bag b) ≡ set (by_port ports hs) port b
     changed b =
         ap (by_port ports) (plain b)
-        ∙ edited ports port hs (set hs place (port_bag port b)) b lt (set_here port b 0 place hs rise at)
-        (λ p apart. set_elsewhere port b p place hs apart at)
+        ∙ edited ports port hs (set hs index (port_bag port b)) b lt (set_here port b 0 index hs rise at)
+        (λ p apart. set_elsewhere port b p index hs apart at)
 
     pub changed_well : (b : Counts) → 0 < total b → AreWithin ports (with_bag b) × RiseFrom 0 (with_bag b)
     changed_well b some =
         subst (λ (ys : List PortBag). AreWithin ports ys × RiseFrom 0 ys) (sym (plain b)) (
-          set_within port b ports place hs within lt some,
-          set_rises port b 0 place hs rise at,
+          set_within port b ports index hs within lt some,
+          set_rises port b 0 index hs rise at,
         )
 
     -- also where an edit failed, which leaves the bag
     pub kept_well : {E : Type 0} (b : Counts) (edit : Counts → Counts) → ((c : Counts) → 0 < total c → 0 < total (edit c)) →
-        (r : Result (Unit {0}) E) → OnOk r (b ≡ edit (get_or xs place d).bag) → OnErr r (b ≡ (get_or xs place d).bag) →
+        (r : Result (Unit {0}) E) → OnOk r (b ≡ edit (get_or xs index d).bag) → OnErr r (b ≡ (get_or xs index d).bag) →
         AreWithin ports (with_bag b) × RiseFrom 0 (with_bag b)
     kept_well b edit more r ok err = changed_well b (by_result r ok err)
       where
-        there : 0 < total (get_or xs place d).bag
-        there = subst (λ (ys : List PortBag). 0 < total (get_or ys place d).bag) (sym seen) (values_held ports place hs d within at.0)
+        there : 0 < total (get_or xs index d).bag
+        there = subst (λ (ys : List PortBag). 0 < total (get_or ys index d).bag) (sym seen) (values_held ports index hs d within at.0)
 
-        by_result : {E : Type 0} (r : Result (Unit {0}) E) → OnOk r (b ≡ edit (get_or xs place d).bag) →
-            OnErr r (b ≡ (get_or xs place d).bag) → 0 < total b
-        by_result (Ok x) ok err = subst (λ (c : Counts). 0 < total c) (sym ok) (more (get_or xs place d).bag there)
+        by_result : {E : Type 0} (r : Result (Unit {0}) E) → OnOk r (b ≡ edit (get_or xs index d).bag) →
+            OnErr r (b ≡ (get_or xs index d).bag) → 0 < total b
+        by_result (Ok x) ok err = subst (λ (c : Counts). 0 < total c) (sym ok) (more (get_or xs index d).bag there)
         by_result (Err e) ok err = subst (λ (c : Counts). 0 < total c) (sym err) there
 
-  module _ (place : ℕ) (new : List PortBag) (b : Counts) (at : GoesInAt port place hs) (is : new ≡ insert hs place (port_bag port b)) where
+  module _ (index : ℕ) (new : List PortBag) (b : Counts) (at : GoesInAt port index hs) (is : new ≡ insert hs index (port_bag port b)) where
     pub none_before : bag_at (by_port ports hs) port ≡ []
-    none_before = bag_of_port ports port hs within ∙ absent_bag port place hs at
+    none_before = bag_of_port ports port hs within ∙ absent_bag port index hs at
 
     pub added : by_port ports new ≡ set (by_port ports hs) port b
     added =
         ap (by_port ports) is
-        ∙ edited ports port hs (insert hs place (port_bag port b)) b lt (put_here port b place hs at)
-        (λ p apart. put_elsewhere port b p place hs apart at.0)
+        ∙ edited ports port hs (insert hs index (port_bag port b)) b lt (put_here port b index hs at)
+        (λ p apart. put_elsewhere port b p index hs apart at.0)
 
     pub added_well : 0 < total b → AreWithin ports new × RiseFrom 0 new
     added_well some =
         subst (λ (ys : List PortBag). AreWithin ports ys × RiseFrom 0 ys) (sym is) (
-          put_within port b ports place hs within lt some,
-          put_rises port b 0 place hs rise (omega arith) at,
+          put_within port b ports index hs within lt some,
+          put_rises port b 0 index hs rise (omega arith) at,
         )
 
 -- a bag that got values has some

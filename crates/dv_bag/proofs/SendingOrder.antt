@@ -17,7 +17,7 @@ use Rattle.std.proofs.lemmas.List.Sorted.{IsNonDecreasingBy-from_default}
 use Rattle.std.proofs.lemmas.Slice.Eq.{slice_eq-Decides}
 use Rattle.dv_bag.specs.Bag.{Counts, IsAbove, IsBag, bag_at, capped, union, with_copies}
 use Rattle.dv_bag.specs.Same.{same_bags, same_bags-decides}
-use Rattle.dv_bag.specs.Sent.{AreAfter, AreInOrder, AreWithin, ComesBefore, HasCopiesAt, IsPlaceOf, RiseFrom, by_port}
+use Rattle.dv_bag.specs.Sent.{AreAfter, AreInOrder, AreWithin, ComesBefore, HasCopiesAt, IsIndexOf, RiseFrom, by_port}
 use Rattle.dv_bag.specs.Sent.{pairs_at, sending_cmp, sent_at, sent_into}
 use Rattle.dv_bag.specs.declared.sent.Sending.{Sending}
 use Rattle.dv_bag.proofs.Monoid.{union_unit}
@@ -120,7 +120,7 @@ ports_rise (s ∷ ss) h = (omega arith, rise_after s.port s.value ss h)
 -- a binary search ends at the value at its port, or at the gap for it
 pub searched_sendings : (p : ℕ) (v : ℤ) (ss : List Sending) (r : Result ℕ ℕ) → AreInOrder ss → IsSearchInRange r (length ss) →
     IsBinarySearchResult (λ (s : Sending). sending_cmp s.port s.value p v) ss r →
-    record { found : IfOk r (λ place. HasCopiesAt p v place ss); absent : IfErr r (λ place. IsPlaceOf p v place ss) }
+    record { found : IfOk r (λ index. HasCopiesAt p v index ss); absent : IfErr r (λ index. IsIndexOf p v index ss) }
 searched_sendings p v ss (Ok at) h within equal = record {
   found = (within, λ d. let s = get_or ss at d in sending_ranked s.port p s.value v _ (sym (equal d)));
   absent = tt;
@@ -139,7 +139,7 @@ searched_sendings p v ss (Err at) h within parted =
 
 -- what comes after the last sending goes in behind it
 pub behind_last : (p : ℕ) (v : ℤ) (ss : List Sending) (d : Sending) → AreInOrder ss → 1 ≤ length ss →
-    sending_cmp (get_or ss (length ss - 1) d).port (get_or ss (length ss - 1) d).value p v ≡ Less → IsPlaceOf p v (length ss) ss
+    sending_cmp (get_or ss (length ss - 1) d).port (get_or ss (length ss - 1) d).value p v ≡ Less → IsIndexOf p v (length ss) ss
 behind_last p v ss d h some less =
     let last = get_or ss (length ss - 1) d in
     let before = sending_ranked last.port p last.value v Less (sym less) in (
@@ -158,10 +158,10 @@ behind_last p v ss d h some less =
       λ k e le lt. absurd (omega (arith, le, lt)),
     )
 
--- a place behind the first is a place in the rest
-place_behind : (p : ℕ) (v : ℤ) (i : ℕ) (s : Sending) (ss : List Sending) → IsPlaceOf p v (suc i) (s ∷ ss) →
-    ComesBefore s.port s.value p v × IsPlaceOf p v i ss
-place_behind p v i s ss at = (
+-- an index behind the first is an index in the rest
+index_behind : (p : ℕ) (v : ℤ) (i : ℕ) (s : Sending) (ss : List Sending) → IsIndexOf p v (suc i) (s ∷ ss) →
+    ComesBefore s.port s.value p v × IsIndexOf p v i ss
+index_behind p v i s ss at = (
   at.1 0 s (omega arith) (omega arith),
   (
     omega (arith, at.0),
@@ -170,23 +170,23 @@ place_behind p v i s ss at = (
   ),
 )
 
--- an edit at its place keeps the order
+-- an edit at its index keeps the order
 put_after : (p : ℕ) (v : ℤ) (ss : List Sending) (i : ℕ) (s : Sending) → AreAfter p v ss → ComesBefore p v s.port s.value →
-    IsPlaceOf s.port s.value i ss → AreAfter p v (insert ss i s)
+    IsIndexOf s.port s.value i ss → AreAfter p v (insert ss i s)
 put_after p v [] zero s h before at = (before, tt)
 put_after p v (x ∷ xs) zero s h before at = (before, (at.2 0 x (omega arith) (omega arith), h.1))
 put_after p v [] (suc i) s h before at = absurd (omega (arith, at.0))
 put_after p v (x ∷ xs) (suc i) s h before at =
-    let behind = place_behind s.port s.value i x xs at in
+    let behind = index_behind s.port s.value i x xs at in
     (h.0, put_after x.port x.value xs i s h.1 behind.0 behind.1)
 
-put_in_order : (ss : List Sending) (i : ℕ) (s : Sending) → AreInOrder ss → IsPlaceOf s.port s.value i ss →
+put_in_order : (ss : List Sending) (i : ℕ) (s : Sending) → AreInOrder ss → IsIndexOf s.port s.value i ss →
     AreInOrder (insert ss i s)
 put_in_order [] zero s h at = tt
 put_in_order (x ∷ xs) zero s h at = (at.2 0 x (omega arith) (omega arith), h)
 put_in_order [] (suc i) s h at = absurd (omega (arith, at.0))
 put_in_order (x ∷ xs) (suc i) s h at =
-    let behind = place_behind s.port s.value i x xs at in
+    let behind = index_behind s.port s.value i x xs at in
     put_after x.port x.value xs i s h behind.0 behind.1
 
 set_after : (p : ℕ) (v : ℤ) (ss : List Sending) (i : ℕ) (s : Sending) → AreAfter p v ss → HasCopiesAt s.port s.value i ss →
@@ -209,49 +209,49 @@ set_in_order (x ∷ xs) (suc i) s h at = set_after x.port x.value xs i s h (omeg
 
 -- what the code of an insertion leaves
 module _ (ports port : ℕ) (v w : ℤ) (items : List Sending) (number : w ≡ v) (h : AreWithin ports items) (lt : port < ports) where
-  found_sum : (place c : ℕ) → HasCopiesAt port w place items → c ≡ capped ((get_or items place no_sending).copies + 1) →
-      by_port ports (set items place (sending port w c))
+  found_sum : (index c : ℕ) → HasCopiesAt port w index items → c ≡ capped ((get_or items index no_sending).copies + 1) →
+      by_port ports (set items index (sending port w c))
       ≡ set (by_port ports items) port (with_copies w 1 (bag_at (by_port ports items) port))
-  found_sum place c at sum =
-      edited items (set items place (sending port w c)) ports port w 1 h lt (set_same port w c items place [] at sum)
-      (λ p apart. set_other port p w c items place [] apart at)
+  found_sum index c at sum =
+      edited items (set items index (sending port w c)) ports port w 1 h lt (set_same port w c items index [] at sum)
+      (λ p apart. set_other port p w c items index [] apart at)
 
-  pub found : (slice read : List Sending) (place c : ℕ) → slice ≡ items → read ≡ items → HasCopiesAt port w place items →
-      c ≡ capped ((get_or read place no_sending).copies + 1) →
-      by_port ports (refill (length items) items (set slice place (sending port w c)))
+  pub found : (slice read : List Sending) (index c : ℕ) → slice ≡ items → read ≡ items → HasCopiesAt port w index items →
+      c ≡ capped ((get_or read index no_sending).copies + 1) →
+      by_port ports (refill (length items) items (set slice index (sending port w c)))
       ≡ set (by_port ports items) port (with_copies v 1 (bag_at (by_port ports items) port))
-  found slice read place c wrote seen at sum =
-      ap (λ (xs : List Sending). by_port ports (refill (length items) items (set xs place (sending port w c)))) wrote
-      ∙ ap (by_port ports) (refill-set items place (sending port w c))
-      ∙ found_sum place c at (subst (λ (xs : List Sending). c ≡ capped ((get_or xs place no_sending).copies + 1)) seen sum)
+  found slice read index c wrote seen at sum =
+      ap (λ (xs : List Sending). by_port ports (refill (length items) items (set xs index (sending port w c)))) wrote
+      ∙ ap (by_port ports) (refill-set items index (sending port w c))
+      ∙ found_sum index c at (subst (λ (xs : List Sending). c ≡ capped ((get_or xs index no_sending).copies + 1)) seen sum)
       ∙ ap (λ (z : ℤ). set (by_port ports items) port (with_copies z 1 (bag_at (by_port ports items) port))) number
 
-  pub found_within : (slice : List Sending) (place c : ℕ) → slice ≡ items → 0 < c → c < 2 ^ 64 → AreInOrder items →
-      HasCopiesAt port w place items →
-      AreWithin ports (refill (length items) items (set slice place (sending port w c)))
-      × AreInOrder (refill (length items) items (set slice place (sending port w c)))
-  found_within slice place c wrote some kept order at =
+  pub found_within : (slice : List Sending) (index c : ℕ) → slice ≡ items → 0 < c → c < 2 ^ 64 → AreInOrder items →
+      HasCopiesAt port w index items →
+      AreWithin ports (refill (length items) items (set slice index (sending port w c)))
+      × AreInOrder (refill (length items) items (set slice index (sending port w c)))
+  found_within slice index c wrote some kept order at =
       let s = sending port w c in
-      let new = ap (λ (xs : List Sending). refill (length items) items (set xs place s)) wrote ∙ refill-set items place s in
+      let new = ap (λ (xs : List Sending). refill (length items) items (set xs index s)) wrote ∙ refill-set items index s in
       subst (λ (xs : List Sending). AreWithin ports xs × AreInOrder xs) (sym new) (
-        within_set ports items place s h lt some kept,
-        set_in_order items place s order at,
+        within_set ports items index s h lt some kept,
+        set_in_order items index s order at,
       )
 
-  pub put : (place : ℕ) (new : List Sending) → new ≡ insert items place (sending port w 1) →
+  pub put : (index : ℕ) (new : List Sending) → new ≡ insert items index (sending port w 1) →
       by_port ports new ≡ set (by_port ports items) port (with_copies v 1 (bag_at (by_port ports items) port))
-  put place new e =
+  put index new e =
       ap (by_port ports) e
-      ∙ edited items (insert items place (sending port w 1)) ports port w 1 h lt (put_same (sending port w 1) items place)
-      (λ p apart. put_other p (sending port w 1) items place apart)
+      ∙ edited items (insert items index (sending port w 1)) ports port w 1 h lt (put_same (sending port w 1) items index)
+      (λ p apart. put_other p (sending port w 1) items index apart)
       ∙ ap (λ (z : ℤ). set (by_port ports items) port (with_copies z 1 (bag_at (by_port ports items) port))) number
 
-  pub put_within : (place : ℕ) (new : List Sending) → new ≡ insert items place (sending port w 1) → AreInOrder items →
-      IsPlaceOf port w place items → AreWithin ports new × AreInOrder new
-  put_within place new e order at =
+  pub put_within : (index : ℕ) (new : List Sending) → new ≡ insert items index (sending port w 1) → AreInOrder items →
+      IsIndexOf port w index items → AreWithin ports new × AreInOrder new
+  put_within index new e order at =
       subst (λ (xs : List Sending). AreWithin ports xs × AreInOrder xs) (sym e) (
-        within_put ports items place (sending port w 1) h lt (omega arith) (omega arith),
-        put_in_order items place (sending port w 1) order at,
+        within_put ports items index (sending port w 1) h lt (omega arith) (omega arith),
+        put_in_order items index (sending port w 1) order at,
       )
 
 -- the first sending goes to the port, or elsewhere

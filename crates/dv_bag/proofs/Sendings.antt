@@ -52,7 +52,7 @@ front_same s ss = taken s.port s ss [] refl ∙ into_later s.port s.value s.copi
 pub front_other : (p : ℕ) (s : Sending) (ss : List Sending) → (p ≡ s.port → ⊥) → sent_at p (s ∷ ss) ≡ sent_at p ss
 front_other p s ss apart = passed p s ss [] apart
 
--- one sending more at a place
+-- one sending more at an index
 pub put_same : (s : Sending) (ss : List Sending) (i : ℕ) →
     sent_at s.port (insert ss i s) ≡ with_copies s.value s.copies (sent_at s.port ss)
 put_same s ss i =
@@ -70,7 +70,7 @@ put_other p s ss i apart =
     ∙ sym (into_append p (take i ss) (drop i ss) [])
     ∙ ap (sent_at p) (take-append-drop i ss)
 
--- one copy more of those at a place
+-- one copy more of those at an index
 more : (v : ℤ) (n c : ℕ) (b : Counts) → c ≡ capped (n + 1) → with_copies v c b ≡ with_copies v 1 (with_copies v n b)
 more v n c b e =
     let turned : n + 1 ≡ 1 + n = omega arith in
@@ -218,7 +218,7 @@ pub one_in_all : (ports port : ℕ) (v : ℤ) → port < ports → 1 ≡ size_of
 one_in_all ports port v lt =
     let all = total_by_port ports (sending port v 1 ∷ []) (lt, omega arith, omega arith, tt) in omega (arith, all)
 
--- what goes to a port stands between two places
+-- what goes to a port stands between two indices
 at_part : (items : List Sending) (a b i : ℕ) (d : Sending) → a ≤ b → b ≤ length items → i < length (slice_range items a b) →
     (a + i < b) × (get_or (slice_range items a b) i d ≡ get_or items (a + i) d)
 at_part items a b i d order within early =

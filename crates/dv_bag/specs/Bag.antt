@@ -27,10 +27,10 @@ abbrev pub count_of : ℤ → Counts → ℕ
 count_of v [] = 0
 count_of v (p ∷ ps) = match_ordering (int_cmp v p.0) 0 p.1 (count_of v ps)
 
--- how many values of the bag are below a value: its place in the ascending walk
-abbrev pub place_of : ℤ → Counts → ℕ
-place_of v [] = 0
-place_of v (p ∷ ps) = match_ordering (int_cmp v p.0) 0 0 (suc (place_of v ps))
+-- how many values of the bag are below a value: its index in the ascending walk
+abbrev pub index_of : ℤ → Counts → ℕ
+index_of v [] = 0
+index_of v (p ∷ ps) = match_ordering (int_cmp v p.0) 0 0 (suc (index_of v ps))
 
 -- so many more copies of a value, of which there is one at least
 abbrev pub with_some : ℤ → ℕ → Counts → Counts

@@ -27,12 +27,12 @@ abbrev pub RiseFrom : ℕ → List PortBag → Type 0
 RiseFrom low [] = Unit {0}
 RiseFrom low (h ∷ hs) = (low ≤ h.port) × RiseFrom (suc h.port) hs
 
--- the bag of a port stands at a place
+-- the bag of a port stands at an index
 abbrev pub StandsAt : ℕ → ℕ → List PortBag → Type 0
-StandsAt port place hs = (place < length hs) × ((d : PortBag) → (slice_index_or hs place d).port ≡ port)
+StandsAt port index hs = (index < length hs) × ((d : PortBag) → (slice_index_or hs index d).port ≡ port)
 
--- no bag stands for a port, and one goes in at a place
+-- no bag stands for a port, and one goes in at an index
 abbrev pub GoesInAt : ℕ → ℕ → List PortBag → Type 0
-GoesInAt port place hs = (place ≤ length hs)
-    × AllWithin (λ h. h.port < port) hs 0 place
-    × AllWithin (λ h. port < h.port) hs place (length hs)
+GoesInAt port index hs = (index ≤ length hs)
+    × AllWithin (λ h. h.port < port) hs 0 index
+    × AllWithin (λ h. port < h.port) hs index (length hs)

@@ -13,10 +13,10 @@ is_within low high n = not (int_lt n low) && not (int_lt high n)
 abbrev pub with_state : Effect → State → Effect
 with_state e s = record { state = s; sent = e.sent; goto = e.goto }
 
--- another datum at a place
+-- another datum at an index
 abbrev pub with_datum : State → ℕ → Datum → State
-with_datum s place d = record { phase = s.phase; variables = slice_set s.variables place d }
+with_datum s index d = record { phase = s.phase; variables = slice_set s.variables index d }
 
--- another collection at a place
+-- another collection at an index
 abbrev pub with_collection : Effect → ℕ → Collection → Effect
-with_collection e place c = with_state e (with_datum e.state place (datum.Held c))
+with_collection e index c = with_state e (with_datum e.state index (datum.Held c))

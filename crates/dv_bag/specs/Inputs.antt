@@ -62,9 +62,9 @@ is_passed limit t i = is_before i.time t || nat_lt limit i.time.micro
 abbrev pub inputs_before : ℕ → List Input → Time → ℕ
 inputs_before limit inputs t = prefix_len (is_passed limit t) inputs
 
--- the time of the input at a place
+-- the time of the input at an index
 abbrev pub time_at : List Input → ℕ → Option Time
-time_at inputs place = option_map (λ i. i.time) (slice_get inputs place)
+time_at inputs index = option_map (λ i. i.time) (slice_get inputs index)
 
 -- the first time of an input that a run comes to at a time or after it
 abbrev pub next_from : ℕ → List Input → Time → Option Time

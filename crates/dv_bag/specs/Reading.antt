@@ -28,10 +28,10 @@ held_of_datum (Some (datum.Number n)) = collection.Bag []
 held_of_datum (Some (datum.Flag b)) = collection.Bag []
 held_of_datum (Some (datum.Held c)) = c
 
--- the collection at a place
+-- the collection at an index
 abbrev pub held_at : List Datum → ℕ → Collection
-held_at contents place = held_of_datum (slice_get contents place)
+held_at contents index = held_of_datum (slice_get contents index)
 
--- there is a collection at a place
+-- there is a collection at an index
 abbrev pub HasHeldAt : ℕ → List Datum → Type 0
-HasHeldAt place contents = slice_get contents place ≡ Some (datum.Held (held_at contents place))
+HasHeldAt index contents = slice_get contents index ≡ Some (datum.Held (held_at contents index))

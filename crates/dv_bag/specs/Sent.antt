@@ -55,16 +55,16 @@ abbrev pub AreInOrder : List Sending → Type 0
 AreInOrder [] = Unit {0}
 AreInOrder (s ∷ ss) = AreAfter s.port s.value ss
 
--- this value at this port goes in at this place
-abbrev pub IsPlaceOf : ℕ → ℤ → ℕ → List Sending → Type 0
-IsPlaceOf port value place ss = (place ≤ length ss)
-    × AllWithin (λ s. ComesBefore s.port s.value port value) ss 0 place
-    × AllWithin (λ s. ComesBefore port value s.port s.value) ss place (length ss)
+-- this value at this port goes in at this index
+abbrev pub IsIndexOf : ℕ → ℤ → ℕ → List Sending → Type 0
+IsIndexOf port value index ss = (index ≤ length ss)
+    × AllWithin (λ s. ComesBefore s.port s.value port value) ss 0 index
+    × AllWithin (λ s. ComesBefore port value s.port s.value) ss index (length ss)
 
--- copies of this value that go to this port stand at this place
+-- copies of this value that go to this port stand at this index
 abbrev pub HasCopiesAt : ℕ → ℤ → ℕ → List Sending → Type 0
-HasCopiesAt port value place ss = (place < length ss)
-    × ((d : Sending) → ((slice_index_or ss place d).port ≡ port) × ((slice_index_or ss place d).value ≡ value))
+HasCopiesAt port value index ss = (index < length ss)
+    × ((d : Sending) → ((slice_index_or ss index d).port ≡ port) × ((slice_index_or ss index d).value ≡ value))
 
 -- how many copies there are
 abbrev pub copies_in : List Sending → ℕ

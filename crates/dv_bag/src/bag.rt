@@ -4,7 +4,7 @@ ghost use Rattle.std.specs.Cmp.{decided, partial_equiv_from_equiv};
 ghost use Rattle.std.specs.Prelude.{◌≡◌, ◌<◌, ◌≤◌, ◌*◌, ◌^◌, ◌*ℤ◌, ◌≤ℤ◌, neg_ℤ, pos, ◌↔◌, [], length, nat_eq};
 ghost use Rattle.std.specs.Prelude.{unwrap_or, IfOk, IfErr, IfSome, OnOk, OnErr, IsOk, IsTrue};
 ghost use Rattle.std.specs.Option.{option_copied};
-ghost use Rattle.dv_bag.specs.Bag.{IsBag, count_of, least, most, place_of, size, sum_or_overflow, total};
+ghost use Rattle.dv_bag.specs.Bag.{IsBag, count_of, least, most, index_of, size, sum_or_overflow, total};
 ghost use Rattle.dv_bag.specs.Bag.{union, with_copies, without_one};
 ghost use Rattle.dv_bag.specs.Same.{same_bag, same_bag-decides};
 ghost use Rattle.dv_bag.specs.Numbers.{IsBagOfNumbers};
@@ -119,12 +119,12 @@ impl Bag {
     pub fn drop_one(&mut self, value: i64)
         ensures { self.new ≡ without_one value self.old }
     {
-        if let Ok(place) = search(self.pairs.as_slice(), value) {
-            let present = self.pairs[place].1;
+        if let Ok(index) = search(self.pairs.as_slice(), value) {
+            let present = self.pairs[index].1;
             if present == 1 {
-                self.pairs.remove(place);
+                self.pairs.remove(index);
             } else {
-                self.pairs[place] = (value, present - 1);
+                self.pairs[index] = (value, present - 1);
             }
         }
     }
@@ -189,7 +189,7 @@ impl Bag {
         ensures { result ≡ count_of value self.now }
     {
         match search(self.pairs.as_slice(), value) {
-            Ok(place) => self.pairs[place].1,
+            Ok(index) => self.pairs[index].1,
             Err(_) => 0,
         }
     }
@@ -228,10 +228,10 @@ pub fn copies_of(number: i64, bag: Option<&Bag>) -> i64
 #[inline]
 fn search(pairs: &[(i64, u64)], value: i64) -> Result<usize, usize>
     requires { IsBag pairs.now }
-    ensures found { IfOk result (λ place. (place ≡ place_of value pairs.now)
-        × (place < length pairs.now) × (0 < count_of value pairs.now)) }
-    ensures absent { IfErr result (λ place. (place ≡ place_of value pairs.now)
-        × (place ≤ length pairs.now) × (count_of value pairs.now ≡ 0)) }
+    ensures found { IfOk result (λ index. (index ≡ index_of value pairs.now)
+        × (index < length pairs.now) × (0 < count_of value pairs.now)) }
+    ensures absent { IfErr result (λ index. (index ≡ index_of value pairs.now)
+        × (index ≤ length pairs.now) × (count_of value pairs.now ≡ 0)) }
 {
     let [.., last] = pairs else {
         return Err(0);
@@ -246,10 +246,10 @@ fn search(pairs: &[(i64, u64)], value: i64) -> Result<usize, usize>
 // Where a value stands among the pairs, or where it would stand, by a binary search.
 fn search_all(pairs: &[(i64, u64)], value: i64) -> Result<usize, usize>
     requires { IsBag pairs.now }
-    ensures found { IfOk result (λ place. (place ≡ place_of value pairs.now)
-        × (place < length pairs.now) × (0 < count_of value pairs.now)) }
-    ensures absent { IfErr result (λ place. (place ≡ place_of value pairs.now)
-        × (place ≤ length pairs.now) × (count_of value pairs.now ≡ 0)) }
+    ensures found { IfOk result (λ index. (index ≡ index_of value pairs.now)
+        × (index < length pairs.now) × (0 < count_of value pairs.now)) }
+    ensures absent { IfErr result (λ index. (index ≡ index_of value pairs.now)
+        × (index ≤ length pairs.now) × (count_of value pairs.now ≡ 0)) }
 {
     pairs.binary_search_by_key(&value, |&(present, _)| present)
 }
@@ -268,13 +268,13 @@ fn add_copies(
     ensures present { 0 < count_of value pairs.old.items → IsOk result }
 {
     match search(pairs.as_slice(), value) {
-        Ok(place) => {
-            let present = pairs[place].1;
-            pairs[place] = (value, present.saturating_add(copies));
+        Ok(index) => {
+            let present = pairs[index].1;
+            pairs[index] = (value, present.saturating_add(copies));
             Ok(())
         }
-        Err(place) => {
-            put(pairs, place, (value, copies))?;
+        Err(index) => {
+            put(pairs, index, (value, copies))?;
             Ok(())
         }
     }

@@ -21,7 +21,9 @@ use std::marker::Model;
 /// The bag of a port.
 #[derive(Debug, Drop)]
 pub struct PortBag {
+    /// The index of the port.
     pub port: usize,
+    /// The values at the port.
     pub bag: Bag,
 }
 
@@ -103,7 +105,7 @@ impl Bags {
         ensures { unwrap_or (option_copied result) [] ≡ bag_at self.now port }
     {
         match search(self.held.as_slice(), port) {
-            Ok(place) => Some(&self.held[place].bag),
+            Ok(index) => Some(&self.held[index].bag),
             Err(_) => None,
         }
     }
@@ -146,10 +148,10 @@ impl Bags {
             return Ok(());
         }
         match search(self.held.as_slice(), port) {
-            Ok(place) => self.held[place].bag.insert_copies(value, copies),
-            Err(place) => {
+            Ok(index) => self.held[index].bag.insert_copies(value, copies),
+            Err(index) => {
                 let bag = Bag::of_copies(*self.held.allocator(), value, copies);
-                put(&mut self.held, place, PortBag { port, bag })?;
+                put(&mut self.held, index, PortBag { port, bag })?;
                 Ok(())
             }
         }
@@ -170,11 +172,11 @@ impl Bags {
             return Ok(());
         }
         match search(self.held.as_slice(), port) {
-            Ok(place) => self.held[place].bag.union(values),
-            Err(place) => {
+            Ok(index) => self.held[index].bag.union(values),
+            Err(index) => {
                 let mut bag = Bag::new(*self.held.allocator());
                 bag.union(values)?;
-                Ok(self.held.insert(place, PortBag { port, bag })?)
+                Ok(self.held.insert(index, PortBag { port, bag })?)
             }
         }
     }
@@ -187,12 +189,12 @@ fn all_few(held: &[PortBag]) -> bool
     held.iter().all(|held| held.bag.size() <= GREATEST_COUNT)
 }
 
-// The place of the bag of a port, or the place at which it goes in. Mostly that is the last one or behind it.
+// The index of the bag of a port, or the index at which it goes in. Mostly that is the last one or behind it.
 #[inline]
 fn search(held: &[PortBag], port: usize) -> Result<usize, usize>
     requires { RiseFrom 0 held.now }
-    ensures found { IfOk result (λ place. StandsAt port place held.now) }
-    ensures absent { IfErr result (λ place. GoesInAt port place held.now) }
+    ensures found { IfOk result (λ index. StandsAt port index held.now) }
+    ensures absent { IfErr result (λ index. GoesInAt port index held.now) }
 {
     let [.., last] = held else {
         return Err(0);
@@ -204,11 +206,11 @@ fn search(held: &[PortBag], port: usize) -> Result<usize, usize>
     }
 }
 
-// The place of the bag of a port, or the place at which it goes in, by a binary search.
+// The index of the bag of a port, or the index at which it goes in, by a binary search.
 fn search_all(held: &[PortBag], port: usize) -> Result<usize, usize>
     requires { RiseFrom 0 held.now }
-    ensures found { IfOk result (λ place. StandsAt port place held.now) }
-    ensures absent { IfErr result (λ place. GoesInAt port place held.now) }
+    ensures found { IfOk result (λ index. StandsAt port index held.now) }
+    ensures absent { IfErr result (λ index. GoesInAt port index held.now) }
 {
     held.binary_search_by_key(&port, |held| held.port)
 }

@@ -17,7 +17,9 @@ use std::marker::Model;
 /// A bag or a queue.
 #[derive(Debug, Drop)]
 pub enum Collection {
+    /// The values of a bag.
     Bag(Bag),
+    /// The values of a queue.
     Queue(Queue),
 }
 

@@ -15,8 +15,11 @@ use std::str::FromStr;
 /// Which transition took place.
 #[derive(Clone, Copy, Debug, PartialEq, Eq)]
 pub enum Kind {
+    /// The hold ended, and nothing arrived.
     Internal,
+    /// Something arrived before the hold ended.
     External,
+    /// The hold ended, and something arrived at the same time.
     Confluent,
 }
 
@@ -70,7 +73,9 @@ impl FromStr for Kind {
 /// What happened to a component: a transition with the state after it, or a fault.
 #[derive(Debug, Drop, PartialEq, Eq)]
 pub enum What {
+    /// A transition of this kind, with the state after it.
     Transition { kind: Kind, state: State },
+    /// A fault, after which the component is quiet.
     Fault(Fault),
 }
 
@@ -91,9 +96,13 @@ impl Clone for What {
 /// What happened to one component at one instant, and what it sent then, by output port.
 #[derive(Debug, Drop, PartialEq, Eq)]
 pub struct Entry {
+    /// The time of the instant.
     pub time: Time,
+    /// The number of the component.
     pub component: u32,
+    /// What happened to it.
     pub what: What,
+    /// What it sent at this instant.
     pub sent: Sent,
 }
 
@@ -113,8 +122,11 @@ impl Clone for Entry {
 /// What left the model at one instant by one of its output ports.
 #[derive(Debug, Drop, PartialEq, Eq)]
 pub struct Outer {
+    /// The time of the instant.
     pub time: Time,
+    /// The index of the output port of the root.
     pub port: u32,
+    /// The values that left by the port.
     pub values: Bag,
 }
 

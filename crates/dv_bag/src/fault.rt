@@ -92,7 +92,9 @@ impl FromStr for Fault {
 /// Why a rule has no effect: a fault of the model, or out of memory.
 #[derive(Clone, Copy, Debug, PartialEq, Eq)]
 pub enum RuleError {
+    /// A fault of the model.
     Fault(Fault),
+    /// Memory was refused.
     Memory,
 }
 

@@ -19,8 +19,11 @@ use std::marker::Model;
 /// A value that comes in from outside: at a time, at an input port of the root by its number.
 #[derive(Clone, Copy, Debug, PartialEq, Eq)]
 pub struct Input {
+    /// The time at which it comes.
     pub time: Time,
+    /// The index of the input port of the root.
     pub port: u32,
+    /// The value.
     pub value: i64,
 }
 
@@ -98,26 +101,26 @@ impl Inputs {
         }
     }
 
-    /// The place of the first input that a run under a microstep limit comes to at a time or after it; with none it is
-    /// the number of inputs. It is looked for from a place on that is not past it, and the work is in the inputs between.
-    pub fn place_from(&self, place: usize, time: Time, limit: u32) -> usize
-        requires { place ≤ inputs_before limit self.now time }
+    /// The index of the first input that a run under a microstep limit comes to at a time or after it; with none it is
+    /// the number of inputs. It is looked for from an index on that is not past it, and the work is in the inputs between.
+    pub fn index_from(&self, index: usize, time: Time, limit: u32) -> usize
+        requires { index ≤ inputs_before limit self.now time }
         ensures { result ≡ inputs_before limit self.now time }
     {
-        place + count_passed(rest(self.inputs.as_slice(), place), time, limit)
+        index + count_passed(rest(self.inputs.as_slice(), index), time, limit)
     }
 
-    /// The time of the input at a place, if there is one: from the place of a time on, the next time at which a run comes
+    /// The time of the input at an index, if there is one: from the index of a time on, the next time at which a run comes
     /// to an input.
-    pub fn next_time(&self, place: usize) -> Option<Time>
-        ensures at_place { result ≡ time_at self.now place }
-        ensures next { (limit : ℕ) (t : TimeOfCode) → place ≡ inputs_before limit self.now t
+    pub fn next_time(&self, index: usize) -> Option<Time>
+        ensures at_index { result ≡ time_at self.now index }
+        ensures next { (limit : ℕ) (t : TimeOfCode) → index ≡ inputs_before limit self.now t
             → result ≡ next_from limit self.now t }
     {
-        time_at(self.inputs.as_slice(), place)
+        time_at(self.inputs.as_slice(), index)
     }
 
-    /// What comes in at a time, a bag for each of so many ports. The place that is given is that of the first input that a
+    /// What comes in at a time, a bag for each of so many ports. The index that is given is that of the first input that a
     /// run comes to at the time or after it. Work and memory are in what comes in.
     ///
     /// # Errors
@@ -128,31 +131,31 @@ impl Inputs {
         alloc: Global,
         ports: usize,
         time: Time,
-        place: usize,
+        index: usize,
     ) -> Result<Bags, AllocError>
-        requires { (limit : ℕ) × IsOfRun limit time × (place ≡ inputs_before limit self.now time) }
+        requires { (limit : ℕ) × IsOfRun limit time × (index ≡ inputs_before limit self.now time) }
         ensures { IfOk result (λ bags. bags ≡ bags_at ports self.now time) }
     {
-        let arriving = front_at(self.inputs.as_slice(), place, time);
+        let arriving = front_at(self.inputs.as_slice(), index, time);
         let mut bags = Bags::empty(alloc, ports);
         put_all(&mut bags, arriving)?;
         Ok(bags)
     }
 }
 
-// The time of the input at a place, if there is one.
-fn time_at(inputs: &[Input], place: usize) -> Option<Time>
-    ensures { result ≡ time_at inputs.now place }
+// The time of the input at an index, if there is one.
+fn time_at(inputs: &[Input], index: usize) -> Option<Time>
+    ensures { result ≡ time_at inputs.now index }
 {
-    inputs.get(place).map(|input| input.time)
+    inputs.get(index).map(|input| input.time)
 }
 
-// The inputs from a place on.
-fn rest(inputs: &[Input], place: usize) -> &[Input]
-    requires { place ≤ length inputs.now }
-    ensures { result.now ≡ drop place inputs.now }
+// The inputs from an index on.
+fn rest(inputs: &[Input], index: usize) -> &[Input]
+    requires { index ≤ length inputs.now }
+    ensures { result.now ≡ drop index inputs.now }
 {
-    &inputs[place..]
+    &inputs[index..]
 }
 
 // How many inputs from the front on a run passes by on its way to a time.
@@ -175,12 +178,12 @@ fn count_at(inputs: &[Input], time: Time) -> usize
         .count()
 }
 
-// The inputs from a place on that are at a time.
-fn front_at(inputs: &[Input], place: usize, time: Time) -> &[Input]
-    requires { place ≤ length inputs.now }
-    ensures { result.now ≡ take_while (is_at time) (drop place inputs.now) }
+// The inputs from an index on that are at a time.
+fn front_at(inputs: &[Input], index: usize, time: Time) -> &[Input]
+    requires { index ≤ length inputs.now }
+    ensures { result.now ≡ take_while (is_at time) (drop index inputs.now) }
 {
-    let rest = rest(inputs, place);
+    let rest = rest(inputs, index);
     &rest[..count_at(rest, time)]
 }
 

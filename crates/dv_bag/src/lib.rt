@@ -1,4 +1,14 @@
-//! What a run takes and gives: inputs; values, bags, states, faults, and the entries of a trace.
+//! The values of a run: what models hold, what they send and receive, and what is told of them.
+//!
+//! A `Bag` is a multiset of numbers, a list of different values in ascending order, each with its count; so two bags
+//! are equal exactly where their lists are. A `Queue` is a list. A `State` has a phase and the variables of a
+//! component, an `Effect` is what a rule does to it, `Sent` is what an output sends, `Arrivals` is what has come, and
+//! a `Part` has entries of a trace. It is a law that bags under union are a commutative monoid, and that a time cuts
+//! a part in two that join to it.
+//!
+//! The formalism (`dv_devs`), the trees (`dv_syntax`), the programs (`dv_code`) and all crates above them speak in
+//! these types. Ports, variables and phases are numbers here: no names, no rules and no ranges of variables are
+//! known.
 #![tactic(auto)]
 
 /// What numbers give.

@@ -7,7 +7,7 @@ use smallvec::SmallVec;
 use std::alloc::{AllocError, Global};
 use std::default::MadeWith;
 
-/// Puts an element in at a place, which mostly is behind the others.
+/// Puts an element in at an index, which mostly is behind the others.
 ///
 /// # Errors
 ///
@@ -15,16 +15,16 @@ use std::default::MadeWith;
 #[inline]
 pub(crate) fn put<T: MadeWith<Global> + Drop, const N: usize>(
     list: &mut SmallVec<T, N>,
-    place: usize,
+    index: usize,
     element: T,
 ) -> Result<(), AllocError>
-    requires { place ≤ small_vec_len list.old }
-    ensures ok { OnOk result (list.new.items ≡ insert list.old.items place element) }
+    requires { index ≤ small_vec_len list.old }
+    ensures ok { OnOk result (list.new.items ≡ insert list.old.items index element) }
     ensures err { OnErr result (list.new ≡ list.old) }
 {
-    if place == list.len() {
+    if index == list.len() {
         Ok(list.push(element)?)
     } else {
-        Ok(list.insert(place, element)?)
+        Ok(list.insert(index, element)?)
     }
 }

@@ -5,7 +5,7 @@ ghost use Rattle.std.specs.Prelude.{◌≡◌, ◌<◌, ◌≤◌, ◌==◌, ℕ
 ghost use Rattle.std.specs.List.{AllWithin};
 ghost use Rattle.dv_bag.specs.Bag.{bag_at, size_of_all, with_copies};
 ghost use Rattle.dv_bag.specs.Same.{same_bags, same_bags-decides};
-ghost use Rattle.dv_bag.specs.Sent.{AreInOrder, AreWithin, HasCopiesAt, IsPlaceOf, RiseFrom, by_port, pairs_at, sending_cmp};
+ghost use Rattle.dv_bag.specs.Sent.{AreInOrder, AreWithin, HasCopiesAt, IsIndexOf, RiseFrom, by_port, pairs_at, sending_cmp};
 
 use crate::bag::Bag;
 use crate::put::put;
@@ -18,8 +18,11 @@ use std::marker::Model;
 /// Copies of a value that go to a port.
 #[derive(Clone, Copy, Debug, PartialEq, Eq)]
 pub struct Sending {
+    /// The index of the output port.
     pub port: usize,
+    /// The value.
     pub value: i64,
+    /// How many copies of it are sent.
     pub copies: u64,
 }
 
@@ -139,9 +142,9 @@ impl Sent {
         ensures err { OnErr result (self.new ≡ self.old) }
     {
         match search(self.sendings.as_slice(), port, value) {
-            Ok(place) => {
-                let copies = self.sendings[place].copies.saturating_add(1);
-                self.sendings[place] = Sending {
+            Ok(index) => {
+                let copies = self.sendings[index].copies.saturating_add(1);
+                self.sendings[index] = Sending {
                     port,
                     value,
                     copies,
@@ -149,13 +152,13 @@ impl Sent {
                 self.total = self.total.saturating_add(1);
                 Ok(())
             }
-            Err(place) => {
+            Err(index) => {
                 let sending = Sending {
                     port,
                     value,
                     copies: 1,
                 };
-                put(&mut self.sendings, place, sending)?;
+                put(&mut self.sendings, index, sending)?;
                 self.total = self.total.saturating_add(1);
                 Ok(())
             }
@@ -172,7 +175,7 @@ impl Sent {
     {
         let mut bag = Bag::new(*self.sendings.allocator());
         let sendings = self.sendings.as_slice();
-        let (first, end) = places_of(sendings, port);
+        let (first, end) = indices_of(sendings, port);
         for sending in &sendings[first..end] {
             bag.insert_copies(sending.value, sending.copies)?;
         }
@@ -181,7 +184,7 @@ impl Sent {
 }
 
 // Where what goes to a port begins and ends, by two binary searches.
-fn places_of(sendings: &[Sending], port: usize) -> (usize, usize)
+fn indices_of(sendings: &[Sending], port: usize) -> (usize, usize)
     requires { AreInOrder sendings.now }
     ensures order { result.0 ≤ result.1 }
     ensures within { result.1 ≤ length sendings.now }
@@ -194,13 +197,13 @@ fn places_of(sendings: &[Sending], port: usize) -> (usize, usize)
     (first, end)
 }
 
-// The place of copies of a value that go to a port, or the place at which they go in. Mostly that is the last one or
+// The index of copies of a value that go to a port, or the index at which they go in. Mostly that is the last one or
 // behind it.
 #[inline]
 fn search(sendings: &[Sending], port: usize, value: i64) -> Result<usize, usize>
     requires { AreInOrder sendings.now }
-    ensures found { IfOk result (λ place. HasCopiesAt port value place sendings.now) }
-    ensures absent { IfErr result (λ place. IsPlaceOf port value place sendings.now) }
+    ensures found { IfOk result (λ index. HasCopiesAt port value index sendings.now) }
+    ensures absent { IfErr result (λ index. IsIndexOf port value index sendings.now) }
 {
     let [.., last] = sendings else {
         return Err(0);
@@ -212,11 +215,11 @@ fn search(sendings: &[Sending], port: usize, value: i64) -> Result<usize, usize>
     }
 }
 
-// The place of copies of a value that go to a port, or the place at which they go in, by a binary search.
+// The index of copies of a value that go to a port, or the index at which they go in, by a binary search.
 fn search_all(sendings: &[Sending], port: usize, value: i64) -> Result<usize, usize>
     requires { AreInOrder sendings.now }
-    ensures found { IfOk result (λ place. HasCopiesAt port value place sendings.now) }
-    ensures absent { IfErr result (λ place. IsPlaceOf port value place sendings.now) }
+    ensures found { IfOk result (λ index. HasCopiesAt port value index sendings.now) }
+    ensures absent { IfErr result (λ index. IsIndexOf port value index sendings.now) }
 {
     sendings.binary_search_by(|sending| sending.cmp_to(port, value))
 }

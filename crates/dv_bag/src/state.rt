@@ -21,16 +21,22 @@ use std::marker::Model;
 /// What a variable, a flag, a bag or a queue of a state holds. A number takes no memory beside it.
 #[derive(Debug, Drop)]
 pub enum Datum {
+    /// The number of a variable.
     Number(i64),
+    /// The truth value of a flag.
     Flag(bool),
+    /// The values of a bag or a queue, in memory of their own.
     Held(Held),
 }
 
 /// A datum as it is read: numbers and flags by value, a collection where it lies.
 #[derive(Clone, Copy, Debug, PartialEq, Eq)]
 pub enum DatumView<'a> {
+    /// The number of a variable.
     Number(i64),
+    /// The truth value of a flag.
     Flag(bool),
+    /// The values of a bag or a queue, where they lie.
     Held(&'a Collection),
 }
 
@@ -164,12 +170,12 @@ impl Variables {
         self.data.is_empty()
     }
 
-    /// The variable, flag, bag or queue at a place, if there is one. A collection has at most `GREATEST_COUNT` values.
-    pub fn get(&self, place: usize) -> Option<DatumView<'_>>
-        ensures datum { option_map datum_of result ≡ slice_get self.now place }
+    /// The variable, flag, bag or queue at an index, if there is one. A collection has at most `GREATEST_COUNT` values.
+    pub fn get(&self, index: usize) -> Option<DatumView<'_>>
+        ensures datum { option_map datum_of result ≡ slice_get self.now index }
         ensures few { IfSome result (λ view. HoldsFew view) }
     {
-        match self.data.as_slice().get(place) {
+        match self.data.as_slice().get(index) {
             None => None,
             Some(Datum::Number(number)) => Some(DatumView::Number(*number)),
             Some(Datum::Flag(flag)) => Some(DatumView::Flag(*flag)),
@@ -177,54 +183,54 @@ impl Variables {
         }
     }
 
-    /// Another number at this place.
-    pub fn set_number(&mut self, place: usize, value: i64)
-        requires { place < length self.old }
-        ensures { self.new ≡ slice_set self.old place (datum.Number value) }
+    /// Another number at this index.
+    pub fn set_number(&mut self, index: usize, value: i64)
+        requires { index < length self.old }
+        ensures { self.new ≡ slice_set self.old index (datum.Number value) }
     {
-        self.data[place] = Datum::Number(value);
+        self.data[index] = Datum::Number(value);
     }
 
-    /// Another truth value at this place.
-    pub fn set_flag(&mut self, place: usize, value: bool)
-        requires { place < length self.old }
-        ensures { self.new ≡ slice_set self.old place (datum.Flag value) }
+    /// Another truth value at this index.
+    pub fn set_flag(&mut self, index: usize, value: bool)
+        requires { index < length self.old }
+        ensures { self.new ≡ slice_set self.old index (datum.Flag value) }
     {
-        self.data[place] = Datum::Flag(value);
+        self.data[index] = Datum::Flag(value);
     }
 
-    /// What a change makes of the collection at this place with a value.
+    /// What a change makes of the collection at this index with a value.
     ///
     /// # Errors
     ///
     /// No memory for the value. The variables are as before.
-    pub fn edit(&mut self, change: Change, place: usize, value: i64) -> Result<(), AllocError>
-        requires there { HasHeldAt place self.old }
+    pub fn edit(&mut self, change: Change, index: usize, value: i64) -> Result<(), AllocError>
+        requires there { HasHeldAt index self.old }
         requires room { makes_more change ≡ true
-            → count_in (held_at self.old place) < greatest_count }
-        ensures ok { OnOk result (self.new ≡ slice_set self.old place
-            (datum.Held (edited change value (held_at self.old place)))) }
+            → count_in (held_at self.old index) < greatest_count }
+        ensures ok { OnOk result (self.new ≡ slice_set self.old index
+            (datum.Held (edited change value (held_at self.old index)))) }
         ensures err { OnErr result (self.new ≡ self.old) }
     {
-        match &mut self.data[place] {
+        match &mut self.data[index] {
             Datum::Held(held) => held.edit(change, value),
             _ => Ok(()),
         }
     }
 
-    /// The queue at this place without its first value, where there is one.
-    pub fn pop(&mut self, place: usize)
-        requires { HasHeldAt place self.old }
-        ensures { self.new ≡ slice_set self.old place
-            (datum.Held (without_first (held_at self.old place))) }
+    /// The queue at this index without its first value, where there is one.
+    pub fn pop(&mut self, index: usize)
+        requires { HasHeldAt index self.old }
+        ensures { self.new ≡ slice_set self.old index
+            (datum.Held (without_first (held_at self.old index))) }
     {
-        if let Datum::Held(held) = &mut self.data[place] {
+        if let Datum::Held(held) = &mut self.data[index] {
             held.pop();
         }
     }
 
     /// Makes them a copy of others. The memory that they have serves again, that of a collection where one stands in
-    /// the same place.
+    /// the same index.
     ///
     /// # Errors
     ///
@@ -267,8 +273,8 @@ fn copy_all(to: &mut [Datum], from: &[Datum]) -> Result<(), AllocError>
     requires { length to.old ≡ length from.now }
     ensures { OnOk result (to.new ≡ from.now) }
 {
-    for place in 0..from.len() {
-        to[place].copy_from(&from[place])?;
+    for index in 0..from.len() {
+        to[index].copy_from(&from[index])?;
     }
     Ok(())
 }
@@ -310,7 +316,9 @@ impl Eq for Variables {
 /// A state of an atomic model: its phase, by number, and its variables.
 #[derive(Debug, Drop, PartialEq, Eq)]
 pub struct State {
+    /// The index of the phase.
     pub phase: u32,
+    /// What the variables, flags, bags and queues hold, in the order of their declaration.
     pub variables: Variables,
 }
 
@@ -337,8 +345,11 @@ impl Clone for State {
 /// What a rule does: the state after it, what it sent by port, and the phase of its last `goto`, if one ran.
 #[derive(Debug, Drop, PartialEq, Eq)]
 pub struct Effect {
+    /// The state after the rule.
     pub state: State,
+    /// What the rule sent.
     pub sent: Sent,
+    /// The index of the phase of the last `goto` that ran, if one did.
     pub goto: Option<u32>,
 }
 

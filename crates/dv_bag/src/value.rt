@@ -3,13 +3,17 @@
 /// The type of a value.
 #[derive(Clone, Copy, Debug, PartialEq, Eq)]
 pub enum ValueType {
+    /// A number.
     Number,
+    /// A truth value.
     Truth,
 }
 
 /// A value of an expression.
 #[derive(Clone, Copy, Debug, PartialEq, Eq)]
 pub enum Value {
+    /// This number.
     Number(i64),
+    /// This truth value.
     Truth(bool),
 }

@@ -18,28 +18,28 @@ use Rattle.dv_board.specs.declared.held.Held.{Held}
 use Rattle.dv_board.specs.Backlogs.{AreHeld, IsHeld}
 use Rattle.dv_board.specs.Clocks.{IsLeast, IsNoLater}
 use Rattle.dv_board.specs.Jobs.{trace}
-use Rattle.dv_board.specs.Places.{rest_of}
+use Rattle.dv_board.specs.Indices.{rest_of}
 use Rattle.dv_board.proofs.Between.{committed_before, committed_by_time, committed_since}
-use Rattle.dv_board.proofs.Places.{clocks_of, no_later, rest_is_held}
-use Rattle.dv_board.proofs.Wholes.{get_map, many_parts, part_at_place, part_of_process, parts_before, parts_of_trace}
+use Rattle.dv_board.proofs.Indices.{clocks_of, no_later, rest_is_held}
+use Rattle.dv_board.proofs.Wholes.{get_map, many_parts, part_at_index, part_of_process, parts_before, parts_of_trace}
 use Rattle.dv_board.proofs.Wholes.{parts_since, trace_of_job}
 
--- lists that agree place by place
-pub same_places : {X : Type 0} (xs ys : List X) → length xs ≡ length ys
+-- lists that agree index by index
+pub same_indices : {X : Type 0} (xs ys : List X) → length xs ≡ length ys
     → ((k : ℕ) (x y : X) → slice_get xs k ≡ Some x → slice_get ys k ≡ Some y → x ≡ y) → xs ≡ ys
-same_places [] [] len same = refl
-same_places [] (y ∷ ys) len same = absurd (omega arith)
-same_places (x ∷ xs) [] len same = absurd (omega arith)
-same_places {X} (x ∷ xs) (y ∷ ys) len same =
-    ap₂ (λ (z : X) (zs : List X). z ∷ zs) (same 0 x y refl refl) (same_places xs ys (omega arith) (λ k. same (suc k)))
+same_indices [] [] len same = refl
+same_indices [] (y ∷ ys) len same = absurd (omega arith)
+same_indices (x ∷ xs) [] len same = absurd (omega arith)
+same_indices {X} (x ∷ xs) (y ∷ ys) len same =
+    ap₂ (λ (z : X) (zs : List X). z ∷ zs) (same 0 x y refl refl) (same_indices xs ys (omega arith) (λ k. same (suc k)))
 
 module _ {N : Type 0} (job : Job) (mark : Time) (held : List (Held N)) (all : AreHeld job mark held) where
-  -- a fact of each place
-  each_place : (P : Held N → Type 0) → ((p : ℕ) (h : Held N) → IsHeld job mark p h → P h) → All P held
-  each_place P f k d lt = f k (slice_index_or held k d) (all.each k (slice_index_or held k d) (slice_get-get_or held k d lt))
+  -- a fact of each index
+  each_index : (P : Held N → Type 0) → ((p : ℕ) (h : Held N) → IsHeld job mark p h → P h) → All P held
+  each_index P f k d lt = f k (slice_index_or held k d) (all.each k (slice_index_or held k d) (slice_get-get_or held k d lt))
 
   pub all_by_time : All (λ (h : Held N). IsByTime h.part) held
-  all_by_time = each_place (λ (h : Held N). IsByTime h.part) (λ p h is.
+  all_by_time = each_index (λ (h : Held N). IsByTime h.part) (λ p h is.
       let early = is.early in
       let order = is.order in
       subst IsByTime (sym is.part) (committed_by_time job p h.from h.clock (omega (arith, early, order))))
@@ -48,7 +48,7 @@ module _ {N : Type 0} (job : Job) (mark : Time) (held : List (Held N)) (all : Ar
     of_a_clock : (P : Time → Type 0) → ((p : ℕ) (h : Held N) → IsHeld job mark p h → P h.clock) → P least
     of_a_clock P f =
         All-contains P (clocks_of held) least
-        (All-map P (λ (h : Held N). h.clock) held (each_place (λ (h : Held N). P h.clock) f)) is_least.is
+        (All-map P (λ (h : Held N). h.clock) held (each_index (λ (h : Held N). P h.clock) f)) is_least.is
 
     pub least_of_run : IsOfRun job.limit least
     least_of_run = of_a_clock (IsOfRun job.limit) (λ p h is. is.of_run)
@@ -104,12 +104,12 @@ module _ {N : Type 0} (job : Job) (mark : Time) (held : List (Held N)) (all : Ar
 
     pieces_since : pieces ≡ map (since mark) parts
     pieces_since =
-        same_places pieces (map (since mark) parts)
+        same_indices pieces (map (since mark) parts)
         (length-map held drained_of ∙ (all.many ∙ sym (length-map parts (since mark) ∙ many_parts job end)))
         (λ k x y at also.
         let one = get_map drained_of held k x at in
         let other = get_map (since mark) parts k y also in
-        sym one.2 ∙ (piece_at k one.0 one.1 ∙ (ap (since mark) (sym (part_at_place job end k other.0 other.1)) ∙ other.2)))
+        sym one.2 ∙ (piece_at k one.0 one.1 ∙ (ap (since mark) (sym (part_at_index job end k other.0 other.1)) ∙ other.2)))
       where
         piece_at : (p : ℕ) (h : Held N) → slice_get held p ≡ Some h → drained_of h ≡ since mark (part_of_process job end p)
         piece_at p h at =

@@ -2,6 +2,6 @@ pub mod Between
 pub mod Cutting
 pub mod Drained
 pub mod Marks
-pub mod Places
+pub mod Indices
 pub mod Turns
 pub mod Wholes

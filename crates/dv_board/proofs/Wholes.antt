@@ -38,7 +38,7 @@ later_line c o p h k = grind (arith, nat_tests)
 level_line : (c : Time) (o p : Outer) → line_cmp o p ≡ Equal → not (is_before o.time c) ≡ not (is_before p.time c)
 level_line c o p h = grind (arith, nat_tests)
 
--- what stands at a place of a list that was mapped
+-- what stands at an index of a list that was mapped
 pub get_map : {X Y : Type 0} (f : X → Y) (xs : List X) (k : ℕ) (y : Y) → slice_get (map f xs) k ≡ Some y
     → (x : X) × (slice_get xs k ≡ Some x) × (f x ≡ y)
 get_map f [] k y at = absurd (none-some y at)
@@ -157,8 +157,8 @@ trace_of_job job n = trace_before job.limit (whole job.flat) job.outside n
 pub many_parts : (job : Job) (n : ℕ) → length (parts_before job n) ≡ job.processes
 many_parts job n = length-map-range_with_len (part_of_process job n) 0 job.processes
 
-pub part_at_place : (job : Job) (n p : ℕ) (x : PartOf) → slice_get (parts_before job n) p ≡ Some x → x ≡ part_of_process job n p
-part_at_place job n p x at =
+pub part_at_index : (job : Job) (n p : ℕ) (x : PartOf) → slice_get (parts_before job n) p ≡ Some x → x ≡ part_of_process job n p
+part_at_index job n p x at =
     let lt = slice_get_within (parts_before job n) p x at in
     sym (get_or_from_slice_get (parts_before job n) p x x at)
     ∙ get_or-map-range_with_len (part_of_process job n) 0 job.processes p p x (subst (λ (m : ℕ). p < m) (many_parts job n) lt) (omega arith)
@@ -172,5 +172,5 @@ parts_of_trace job n h =
       linear = h.linear;
       bags = h.bags n;
       owned = λ k. subst (λ (m : ℕ). job.owner k < m) (sym (many_parts job n)) (h.owned k);
-      each = part_at_place job n;
+      each = part_at_index job n;
     })

@@ -16,10 +16,10 @@ IsRefused job b piece (Gap kept back) =
 IsRefused job b piece Memory =
     IsNoLater job piece.from (clock_of b piece.process) × IsSooner job (clock_of b piece.process) piece.clock
 
--- of pieces in turn: the one at a place was refused, and the clocks are as those before it make them
+-- of pieces in turn: the one at an index was refused, and the clocks are as those before it make them
 pub record IsCutAt {N : Type 0} (job : Job) (before after : BacklogOf) (pieces : List (Piece N)) (why : Unjoined N) : Type 0 where
-  pub place : ℕ
+  pub index : ℕ
   pub piece : Piece N
-  pub there : slice_get pieces place ≡ Some piece
-  pub clocks : after.clocks ≡ clocks_with before.clocks (take place pieces)
+  pub there : slice_get pieces index ≡ Some piece
+  pub clocks : after.clocks ≡ clocks_with before.clocks (take index pieces)
   pub refused : IsRefused job after piece why

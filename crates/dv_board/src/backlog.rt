@@ -11,7 +11,7 @@ ghost use Rattle.dv_board.specs.Answers.{IsCutAt, IsRefused};
 ghost use Rattle.dv_board.specs.Backlogs.{clock_of, clocks_with};
 ghost use Rattle.dv_board.specs.Clocks.{IsLeast, IsNoLater, later};
 ghost use Rattle.dv_board.specs.Jobs.{IsMergeable, trace};
-ghost use Rattle.dv_board.specs.Places.{rest_of};
+ghost use Rattle.dv_board.specs.Indices.{rest_of};
 ghost use Rattle.dv_board.specs.Posts.{IsPiece};
 
 use crate::held::Held;
@@ -72,9 +72,9 @@ fn least_clock<N: OfJob>(held: &[Held<N>]) -> Time
     ensures { IsLeast result (map (λ h. h.clock) held.now) }
 {
     let mut least = held[0].clock;
-    for place in held {
-        if place.clock.is_before(least) {
-            least = place.clock;
+    for index in held {
+        if index.clock.is_before(least) {
+            least = index.clock;
         }
     }
     least
@@ -85,8 +85,8 @@ fn clocks_of<N: OfJob>(alloc: Global, held: &[Held<N>]) -> Result<Vec<Time>, All
     ensures { IfOk result (λ clocks. clocks.items ≡ map (λ h. h.clock) held.now) }
 {
     let mut clocks = Vec::with_capacity(alloc, held.len())?;
-    for place in held {
-        clocks.push(place.clock)?;
+    for index in held {
+        clocks.push(index.clock)?;
     }
     Ok(clocks)
 }
@@ -103,8 +103,8 @@ fn pieces_between<'h, N: OfJob>(
         ≡ map (λ h. since from (before upto h.part)) held.now) }
 {
     let mut pieces = Vec::with_capacity(alloc, held.len())?;
-    for place in held {
-        pieces.push(PartSlice::between(&place.part, from, upto))?;
+    for index in held {
+        pieces.push(PartSlice::between(&index.part, from, upto))?;
     }
     Ok(pieces)
 }
@@ -114,8 +114,8 @@ fn let_go_all<N: OfJob>(held: &mut Vec<Held<N>>, time: Time)
     requires { All (λ h. IsByTime h.part) held.old.items }
     ensures { held.new.items ≡ map (rest_of time) held.old.items }
 {
-    for place in held.iter_mut() {
-        place.let_go(time);
+    for index in held.iter_mut() {
+        index.let_go(time);
     }
 }
 
@@ -124,7 +124,7 @@ impl<N: OfJob> Backlog<N> {
     ///
     /// # Errors
     ///
-    /// No memory for the places of so many processes.
+    /// No memory for the indices of so many processes.
     pub fn new(alloc: Global, processes: u32) -> Result<Self, AllocError>
         requires processes { processes ≡ N.job.processes }
         requires some { 0 < processes }

@@ -3,7 +3,7 @@
 ghost use Rattle.std.specs.Prelude.{◌≡◌, true, OnOk, OnErr};
 ghost use Rattle.dv_time.specs.Time.{is_before};
 ghost use Rattle.dv_bag.specs.Part.{IsByTime};
-ghost use Rattle.dv_board.specs.Places.{rest_of, with_piece};
+ghost use Rattle.dv_board.specs.Indices.{rest_of, with_piece};
 
 use dv_merge::is_mostly_later;
 use dv_time::Time;
@@ -13,8 +13,11 @@ use std::alloc::AllocError;
 /// What one process committed from one time on and before its clock.
 #[derive(Drop)]
 pub struct Held<N: OfJob> {
+    /// Nothing before this time is in the part.
     pub from: Time,
+    /// The clock of the process: all before it is in the part, from `from` on.
     pub clock: Time,
+    /// The entries and what left, in between.
     pub part: WrittenPart<N>,
 }
 

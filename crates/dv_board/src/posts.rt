@@ -13,9 +13,13 @@ use std::mem;
 /// What one process committed from one time on and before its clock.
 #[derive(Drop)]
 pub struct Piece<N: OfJob> {
+    /// The number of the process.
     pub process: u32,
+    /// Nothing before this time is in the part.
     pub from: Time,
+    /// The clock of the process: all before it is in the part, from `from` on.
     pub clock: Time,
+    /// The entries and what left, in between.
     pub part: WrittenPart<N>,
 }
 

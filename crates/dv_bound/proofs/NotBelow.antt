@@ -10,7 +10,7 @@ use Rattle.dv_bag.specs.declared.state.State.{State}
 use Rattle.dv_bag.specs.declared.state.Effect.{Effect}
 use Rattle.dv_eval.specs.declared.scope.Domain.{Domain}
 use Rattle.dv_eval.specs.Meaning.{effect_of, hold_of, outermost}
-use Rattle.dv_eval.specs.Scope.{hold_ticks, phase_name, place_of, rule_body, rule_of, same_sort, scope_of}
+use Rattle.dv_eval.specs.Scope.{hold_ticks, phase_name, index_of, rule_body, rule_of, same_sort, scope_of}
 use Rattle.dv_accepted.specs.Fitting.{HoldsDatum, domain_named, in_phase}
 use Rattle.dv_bag.specs.Numbers.{HoldsNumbers}
 use Rattle.dv_accepted.specs.Gotos.{gotos_in}
@@ -69,18 +69,18 @@ all_of_rule P phase (r ∷ rules) all = by (same_sort r.sort External) (r.phase.
 module _ (m : AtomicTree) where
   -- the response of the model is no later than that of the phase to which a goto leads
   abbrev pub Counts : Option ℕ → Type 0
-  Counts goto = IfSome goto (λ place. IsNoLater (response_of m) (phase_response m (phase_name (scope_of m) place)))
+  Counts goto = IfSome goto (λ index. IsNoLater (response_of m) (phase_response m (phase_name (scope_of m) index)))
 
-  goto_counts : (name : ℕ) (o : Option ℕ) → place_of name (scope_of m).phases ≡ o → IsNoLater (response_of m) (phase_response m name)
+  goto_counts : (name : ℕ) (o : Option ℕ) → index_of name (scope_of m).phases ≡ o → IsNoLater (response_of m) (phase_response m name)
       → Counts o
   goto_counts name None e no_later = tt
-  goto_counts name (Some place) e no_later =
-      subst (λ q. IsNoLater (response_of m) (phase_response m q)) (sym (name_at name place (scope_of m).phases e)) no_later
+  goto_counts name (Some index) e no_later =
+      subst (λ q. IsNoLater (response_of m) (phase_response m q)) (sym (name_at name index (scope_of m).phases e)) no_later
 
   gotos_count : (phases : List ℕ) → AllByRecursion (λ phase. IsNoLater (response_of m) (phase_response m phase)) phases
-      → AllByRecursion (λ phase. Counts (place_of phase (scope_of m).phases)) phases
+      → AllByRecursion (λ phase. Counts (index_of phase (scope_of m).phases)) phases
   gotos_count [] all = tt
-  gotos_count (p ∷ phases) all = (goto_counts p (place_of p (scope_of m).phases) refl all.0, gotos_count phases all.1)
+  gotos_count (p ∷ phases) all = (goto_counts p (index_of p (scope_of m).phases) refl all.0, gotos_count phases all.1)
 
   -- the response is no later than that of each phase to which external rules go
   pub no_later_than_gotos : AllByRecursion (λ phase. IsNoLater (response_of m) (phase_response m phase)) (external_gotos m)
@@ -95,17 +95,17 @@ module _ (m : AtomicTree) where
       no_later ticks (IfOk-at_ok (λ o. IfSome o (IsNotBelow (phase_response m phase))) hold
       (hold_not_below (scope_of m) s held numbers (hold_ticks phase m.holds)))
 
-  pub hold_after_goto : (phase place ticks : ℕ) (arrivals : Arrivals) (s : State) (e : Effect)
-      → ((name : ℕ) (d : Domain) → domain_named (scope_of m) name ≡ Some d → HoldsDatum (scope_of m) (in_phase e.state place) name d)
+  pub hold_after_goto : (phase index ticks : ℕ) (arrivals : Arrivals) (s : State) (e : Effect)
+      → ((name : ℕ) (d : Domain) → domain_named (scope_of m) name ≡ Some d → HoldsDatum (scope_of m) (in_phase e.state index) name d)
       → HoldsNumbers e.state.variables
-      → effect_of (scope_of m) (rule_body External phase m.rules) arrivals s ≡ Ok e → e.goto ≡ Some place
-      → hold_of (scope_of m) (hold_ticks (phase_name (scope_of m) place) m.holds) (in_phase e.state place) ≡ Ok (Some ticks)
+      → effect_of (scope_of m) (rule_body External phase m.rules) arrivals s ≡ Ok e → e.goto ≡ Some index
+      → hold_of (scope_of m) (hold_ticks (phase_name (scope_of m) index) m.holds) (in_phase e.state index) ≡ Ok (Some ticks)
       → IsNotBelow (response_of m) ticks
-  hold_after_goto phase place ticks arrivals s e held numbers is goto hold =
+  hold_after_goto phase index ticks arrivals s e held numbers is goto hold =
       let each = gotos_count (external_gotos m) no_later_than_gotos in
       let all = all_of_rule _ phase m.rules each in
       let start : Effect = record { state = s; sent = replicate (length (scope_of m).outputs) []; goto = None } in
       let run = run_leaves Counts (scope_of m) (outermost arrivals) (rule_body External phase m.rules) start all tt in
       let left = IfOk-at_ok (λ (e : Effect). Counts e.goto) is run in
       let counts = subst Counts goto left in
-      hold_of_goto (phase_name (scope_of m) place) counts (in_phase e.state place) held numbers ticks hold
+      hold_of_goto (phase_name (scope_of m) index) counts (in_phase e.state index) held numbers ticks hold

@@ -28,7 +28,7 @@ use Rattle.dv_bag.specs.declared.state.State.{State}
 use Rattle.dv_bag.specs.declared.value.Value.{Value}
 use Rattle.dv_bag.specs.declared.value.Value.TheVariants.{Number, Truth}
 use Rattle.dv_bag.specs.Reading.{held_of_datum}
-use Rattle.dv_eval.specs.Scope.{Scope, names_of, place_of}
+use Rattle.dv_eval.specs.Scope.{Scope, names_of, index_of}
 use Rattle.dv_eval.specs.Meaning.{bag_or_none, call_result, collection_between, datum_at, first, is_decided, meaning, moment_in}
 use Rattle.dv_eval.specs.Meaning.{number_of, operator_result, outermost, prefix_result, queue_or_none, value_of_datum}
 use Rattle.dv_bag.specs.Numbers.{HasNumbers, HoldsNumbers, IsBagOfNumbers, IsOfNumbers}
@@ -145,10 +145,10 @@ call_not_under call.Front c numbers = first_not_under (queue_or_none c) (queue_n
 
 -- ---- States
 
-found : {A : Type 0} (P : A → Type 0) (xs : List A) (place : ℕ) (o : Option A) → slice_get xs place ≡ o → All P xs → IfSome o P
-found P xs place None at all = tt
-found P xs place (Some x) at all =
-    subst P (get_or_from_slice_get xs place x x at) (all place x (slice_get_within xs place x at))
+found : {A : Type 0} (P : A → Type 0) (xs : List A) (index : ℕ) (o : Option A) → slice_get xs index ≡ o → All P xs → IfSome o P
+found P xs index None at all = tt
+found P xs index (Some x) at all =
+    subst P (get_or_from_slice_get xs index x x at) (all index x (slice_get_within xs index x at))
 
 datum_not_under : (o : Option Datum) → IfSome o IsOfNumbers → IsNotUnder (number_of (value_of_datum o))
 datum_not_under None numbers = natural_not_under 0
@@ -166,30 +166,30 @@ module _ (scope : Scope) (s : State) (numbers : HoldsNumbers s.variables) where
   abbrev given : Expression → Result Value Fault
   given e = meaning scope (moment_in (outermost nothing_arrived) s) e
 
-  at_place : (place : ℕ) → IfSome (slice_get s.variables place) IsOfNumbers
-  at_place place = found IsOfNumbers s.variables place _ refl numbers
+  at_index : (index : ℕ) → IfSome (slice_get s.variables index) IsOfNumbers
+  at_index index = found IsOfNumbers s.variables index _ refl numbers
 
-  pub name_not_under : (place : Option ℕ) → IsNotUnder (number_of (value_of_datum (datum_at s.variables place)))
+  pub name_not_under : (index : Option ℕ) → IsNotUnder (number_of (value_of_datum (datum_at s.variables index)))
   name_not_under None = natural_not_under 0
-  name_not_under (Some place) = datum_not_under (slice_get s.variables place) (at_place place)
+  name_not_under (Some index) = datum_not_under (slice_get s.variables index) (at_index index)
 
-  between_numbers : (place port : Option ℕ) → HasNumbers (collection_between (moment_in (outermost nothing_arrived) s) place port)
-  between_numbers (Some place) port = held_numbers (slice_get s.variables place) (at_place place)
+  between_numbers : (index port : Option ℕ) → HasNumbers (collection_between (moment_in (outermost nothing_arrived) s) index port)
+  between_numbers (Some offset) port = held_numbers (slice_get s.variables offset) (at_index offset)
   between_numbers None None = no_numbers
   between_numbers None (Some port) = no_numbers
 
   pub value_not_under : (e : Expression) → GivesNotUnder (given e)
   value_not_under (Literal n) = natural_not_under n.value
-  value_not_under (TruthValue place b) = truth_not_under b
-  value_not_under (Named name) = name_not_under (place_of name.number (names_of scope.variables))
-  value_not_under (Parens place e) = value_not_under e
-  value_not_under (Prefixed o place e) =
+  value_not_under (TruthValue offset b) = truth_not_under b
+  value_not_under (Named name) = name_not_under (index_of name.number (names_of scope.variables))
+  value_not_under (Parens offset e) = value_not_under e
+  value_not_under (Prefixed o offset e) =
       if_ok_after (given e) (prefix_result o) _ (λ x. prefix_not_under o x)
   value_not_under (Binary o a b) =
       if_ok_then (given a) _ (λ v. IsNotUnder (number_of v)) _ (value_not_under a) (λ x first.
       decided_not_under (is_decided o x) _ _ (if_ok_after (given b) (operator_result o x) _ (λ y. operator_not_under o x y first)))
-  value_not_under (Call c place b) =
-      call_not_under c _ (between_numbers (place_of b.number (names_of scope.variables)) (place_of b.number scope.inputs))
-  value_not_under (Elapsed place) = overflow_not_under (pos nothing_arrived.elapsed)
-  value_not_under (Times place e b) =
+  value_not_under (Call c offset b) =
+      call_not_under c _ (between_numbers (index_of b.number (names_of scope.variables)) (index_of b.number scope.inputs))
+  value_not_under (Elapsed offset) = overflow_not_under (pos nothing_arrived.elapsed)
+  value_not_under (Times offset e b) =
       if_ok_after (given e) _ _ (λ x. natural_not_under _)

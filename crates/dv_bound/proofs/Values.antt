@@ -17,7 +17,7 @@ use Rattle.dv_bag.specs.declared.state.State.{State}
 use Rattle.dv_eval.specs.declared.scope.Domain.{Domain}
 use Rattle.dv_eval.specs.declared.scope.Domain.TheVariants as domain
 use Rattle.dv_eval.specs.declared.scope.VariableRange.{VariableRange}
-use Rattle.dv_eval.specs.Scope.{Scope, names_of, place_of}
+use Rattle.dv_eval.specs.Scope.{Scope, names_of, index_of}
 use Rattle.dv_eval.specs.Meaning.{datum_at, datum_of_name, hold_of, meaning, moment_in, number_of, outermost, ticks_from, value_of_datum}
 use Rattle.dv_accepted.specs.Fitting.{HoldsDatum, datum_fits, domain_named}
 use Rattle.dv_bag.specs.Numbers.{HoldsNumbers}
@@ -71,28 +71,28 @@ module _ (scope : Scope) (s : State)
 
   name_at_least : (q : ℕ) (o : Option Domain) → domain_named scope q ≡ o
       → low_end o ≤ℤ number_of (value_of_datum (datum_of_name scope s q))
-  name_at_least q None is = name_not_under scope s numbers (place_of q (names_of scope.variables))
+  name_at_least q None is = name_not_under scope s numbers (index_of q (names_of scope.variables))
   name_at_least q (Some (domain.Number r)) is =
       let h = held q (domain.Number r) is in
       subst (λ (v : Value). r.low ≤ℤ number_of v) (sym (value_held scope s q (domain.Number r) h)) (datum_at_least r h.datum h.fitting)
-  name_at_least q (Some (domain.Flag start)) is = name_not_under scope s numbers (place_of q (names_of scope.variables))
-  name_at_least q (Some (domain.Held d capacity)) is = name_not_under scope s numbers (place_of q (names_of scope.variables))
+  name_at_least q (Some (domain.Flag start)) is = name_not_under scope s numbers (index_of q (names_of scope.variables))
+  name_at_least q (Some (domain.Held d capacity)) is = name_not_under scope s numbers (index_of q (names_of scope.variables))
 
   value_at_least : (e : Expression) → IfOk (given e) (λ v. low scope e ≤ℤ number_of v)
   value_at_least (Literal n) = omega (arith, ints)
-  value_at_least (TruthValue place b) = value_not_under scope s numbers (TruthValue place b)
+  value_at_least (TruthValue offset b) = value_not_under scope s numbers (TruthValue offset b)
   value_at_least (Named name) = name_at_least name.number (domain_named scope name.number) refl
-  value_at_least (Parens place e) = value_at_least e
-  value_at_least (Prefixed o place e) = value_not_under scope s numbers (Prefixed o place e)
+  value_at_least (Parens offset e) = value_at_least e
+  value_at_least (Prefixed o offset e) = value_not_under scope s numbers (Prefixed o offset e)
   value_at_least (Binary operator.Add a b) =
       if_ok_then (given a) _ (λ v. low scope a ≤ℤ number_of v) _ (value_at_least a) (λ x first.
       if_ok_then (given b) _ (λ v. low scope b ≤ℤ number_of v) _ (value_at_least b) (λ y second.
       sum_at_least (low scope a) (low scope b) (number_of x) (number_of y) first second))
   value_at_least (Binary o a b) = value_not_under scope s numbers (Binary o a b)
-  value_at_least (Call call.Size place b) = omega (arith, ints)
-  value_at_least (Call c place b) = value_not_under scope s numbers (Call c place b)
-  value_at_least (Elapsed place) = value_not_under scope s numbers (Elapsed place)
-  value_at_least (Times place e b) =
+  value_at_least (Call call.Size offset b) = omega (arith, ints)
+  value_at_least (Call c offset b) = value_not_under scope s numbers (Call c offset b)
+  value_at_least (Elapsed offset) = value_not_under scope s numbers (Elapsed offset)
+  value_at_least (Times offset e b) =
       if_ok_after (given e) _ _ (λ x. omega (arith, ints))
 
   -- a hold that ends is not below its response

@@ -37,10 +37,10 @@ low_end (Some (domain.Held d capacity)) = least_number
 abbrev pub low : Scope → Expression → ℤ
 low scope (Literal n) = pos n.value
 low scope (Named name) = low_end (domain_named scope name.number)
-low scope (Parens place e) = low scope e
+low scope (Parens offset e) = low scope e
 low scope (Binary operator.Add a b) = within_numbers (low scope a +ℤ low scope b)
-low scope (Call call.Size place b) = pos 0
-low scope (Times place e b) = pos 0
+low scope (Call call.Size offset b) = pos 0
+low scope (Times offset e b) = pos 0
 low scope other = least_number
 
 -- as ticks, which are never below 0

@@ -17,11 +17,11 @@ use Rattle.dv_bound.specs.Response.{low, response_of}
 -- the names: 0 Server, 1 arrived, 2 load, 3 drift, 4 on, 5 jobs, 6 idle, 7 busy, 8 late, 9 v, 10 line
 -- a bound of a range, not below 0
 abbrev pub above : ℕ → Bound
-above n = record { minus = None; magnitude = record { value = n; place = 1 } }
+above n = record { minus = None; magnitude = record { value = n; offset = 1 } }
 
 -- and one below it
 abbrev pub below : ℕ → Bound
-below n = record { minus = Some 1; magnitude = record { value = n; place = 1 } }
+below n = record { minus = Some 1; magnitude = record { value = n; offset = 1 } }
 
 -- var load: 2..9 = 2;
 abbrev pub load : Variable
@@ -33,7 +33,7 @@ drift = record { name = named 3; low = below 5; high = above 5; start = above 0 
 
 -- hold PHASE: TICKS;
 abbrev pub hold : ℕ → Option Expression → HoldTree
-hold phase ticks = record { place = 1; phase = named phase; ticks = ticks }
+hold phase ticks = record { offset = 1; phase = named phase; ticks = ticks }
 
 -- goto PHASE;
 abbrev pub goto : ℕ → Statements → Statements
@@ -49,11 +49,11 @@ server ticks body = record {
       ∷ declaration.Var load
       ∷ declaration.Var drift
       ∷ declaration.Flag (record { name = named 4; start = false })
-      ∷ declaration.Held (record { discipline = discipline.Bag; name = named 5; capacity = record { value = 8; place = 1 } })
-      ∷ declaration.Held (record { discipline = discipline.Queue; name = named 10; capacity = record { value = 8; place = 1 } })
+      ∷ declaration.Held (record { discipline = discipline.Bag; name = named 5; capacity = record { value = 8; offset = 1 } })
+      ∷ declaration.Held (record { discipline = discipline.Queue; name = named 10; capacity = record { value = 8; offset = 1 } })
       ∷ [];
-  phases = record { place = 1; names = named 6 ∷ named 7 ∷ named 8 ∷ [] } ∷ [];
-  starts = record { place = 1; phase = named 6 } ∷ [];
+  phases = record { offset = 1; names = named 6 ∷ named 7 ∷ named 8 ∷ [] } ∷ [];
+  starts = record { offset = 1; phase = named 6 } ∷ [];
   holds = hold 6 (Some (number 1)) ∷ hold 7 ticks ∷ hold 8 (Some (number 7)) ∷ [];
   rules =
       record { sort = External; phase = named 6; body = body }

@@ -19,12 +19,12 @@ use dv_accepted::laws::{accepted_names_are_known, rules_keep_to_the_ranges};
 /// there, if it ends, is not below the model's response. The state in which it begins holds numbers of the language
 /// alone, in variables, bags and queues, as each state of the code does by its type: see `State::holds_numbers`.
 pub fn holds_are_not_below_the_response()
-    ensures { (m : AtomicTree) (phase place ticks : ℕ) (arrivals : Arrivals) (s : State)
+    ensures { (m : AtomicTree) (phase index ticks : ℕ) (arrivals : Arrivals) (s : State)
         (e : Effect) → fits m s ≡ true →
         effect_of (scope_of m) (rule_body External phase m.rules) arrivals s ≡ Ok e →
-        e.goto ≡ Some place → HoldsNumbers e.state.variables →
-        hold_of (scope_of m) (hold_ticks (phase_name (scope_of m) place) m.holds)
-        (in_phase e.state place) ≡ Ok (Some ticks) →
+        e.goto ≡ Some index → HoldsNumbers e.state.variables →
+        hold_of (scope_of m) (hold_ticks (phase_name (scope_of m) index) m.holds)
+        (in_phase e.state index) ≡ Ok (Some ticks) →
         IsNotBelow (response_of m) ticks }
 {
     rules_keep_to_the_ranges();

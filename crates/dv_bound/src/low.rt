@@ -34,10 +34,10 @@ pub(crate) fn low(expression: &Expr, scope: &Scope) -> i64
 fn low_end(name: u32, scope: &Scope) -> i64
     ensures { result ≡ low_end (domain_named scope.now name) }
 {
-    let Some(place) = scope.variable(name) else {
+    let Some(index) = scope.variable(name) else {
         return i64::MIN;
     };
-    match scope.domain(place) {
+    match scope.domain(index) {
         Some(Domain::Number(range)) => range.low,
         _ => i64::MIN,
     }

@@ -27,21 +27,21 @@ fn four<R: Abort + AllocGlobal>(rt: &R) -> Inputs {
 #[test]
 fn inputs_at_a_port_are_its_bag(rt: HostRuntime) {
     let inputs = four(&rt);
-    let place = inputs.place_from(0, Time::ZERO, 1);
+    let index = inputs.index_from(0, Time::ZERO, 1);
     let bags = inputs
-        .bags_at(rt.alloc(), 2, Time::ZERO, place)
+        .bags_at(rt.alloc(), 2, Time::ZERO, index)
         .expect(&rt, "memory");
     same!(rt; bags.get(0).map(|bag| bag.pairs()), Some([(10, 2)].as_slice()));
     same!(rt; bags.get(1).map(|bag| bag.pairs()), None);
 }
 
 #[test]
-fn a_walk_goes_on_from_a_place(rt: HostRuntime) {
+fn a_walk_goes_on_from_a_index(rt: HostRuntime) {
     let inputs = four(&rt);
     same!(rt; inputs.len(), 4);
     same!(rt; inputs.last_time(), at(7, 0));
-    same!(rt; inputs.next_time(inputs.place_from(0, at(0, 1), 1)), Some(at(1, 0)));
-    same!(rt; inputs.next_time(inputs.place_from(0, at(1, 1), 1)), Some(at(7, 0)));
+    same!(rt; inputs.next_time(inputs.index_from(0, at(0, 1), 1)), Some(at(1, 0)));
+    same!(rt; inputs.next_time(inputs.index_from(0, at(1, 1), 1)), Some(at(7, 0)));
 }
 
 #[test]
@@ -50,6 +50,6 @@ fn inputs_above_the_limit_are_passed_by(rt: HostRuntime) {
     inputs.push(input(at(1, 1), 0, 5)).expect(&rt, "memory");
     inputs.push(input(at(1, 4), 0, 5)).expect(&rt, "memory");
     inputs.push(input(at(2, 0), 0, 5)).expect(&rt, "memory");
-    same!(rt; inputs.next_time(inputs.place_from(0, at(1, 2), 3)), Some(at(2, 0)));
-    same!(rt; inputs.next_time(inputs.place_from(0, at(1, 2), 4)), Some(at(1, 4)));
+    same!(rt; inputs.next_time(inputs.index_from(0, at(1, 2), 3)), Some(at(2, 0)));
+    same!(rt; inputs.next_time(inputs.index_from(0, at(1, 2), 4)), Some(at(1, 4)));
 }

@@ -14,13 +14,13 @@ use std::process::Abort;
 const PHASES: u32 = 50_000;
 
 fn name(number: u32) -> Name {
-    Name { number, place: 0 }
+    Name { number, offset: 0 }
 }
 
 /// So many ticks, or forever where that is no number.
 fn ticks(value: u64) -> Ticks {
     match Numeral::new(value) {
-        Some(value) => Ticks::After(Expr::Literal(Number { value, place: 0 })),
+        Some(value) => Ticks::After(Expr::Literal(Number { value, offset: 0 })),
         None => Ticks::Forever,
     }
 }
@@ -37,7 +37,7 @@ fn push_phases(
         names.push(phase_name).expect(rt, "memory");
         holds
             .push(Hold {
-                place: 0,
+                offset: 0,
                 phase: phase_name,
                 ticks: ticks(u64::from(100_000 - phase)),
             })
@@ -45,7 +45,7 @@ fn push_phases(
         gotos
             .push(Stmt::Command {
                 command: Command::Goto,
-                place: 0,
+                offset: 0,
                 name: phase_name,
             })
             .expect(rt, "memory");
@@ -67,7 +67,7 @@ fn large_model<R: Abort + AllocGlobal>(rt: &R) -> Atomic {
     Atomic {
         name: name(0),
         declarations: Vec::new(alloc),
-        phases: vec![in alloc; Phases { place: 0, names }].expect(rt, "memory"),
+        phases: vec![in alloc; Phases { offset: 0, names }].expect(rt, "memory"),
         starts: Vec::new(alloc),
         holds,
         rules: vec![in alloc; rule].expect(rt, "memory"),
@@ -97,7 +97,7 @@ fn holds_at_the_edges(rt: HostRuntime) {
     let longest = 9_223_372_036_854_775_807;
     same_hold(&rt, &ticks(longest), longest);
     let truth = Ticks::After(Expr::TruthValue {
-        place: 0,
+        offset: 0,
         value: true,
     });
     same_hold(&rt, &truth, 1);

@@ -4,19 +4,19 @@ use crate::compare::same;
 use dv_lex::{LoadError, Names, Numeral, Refusal, RefusalNumber, TextError, answer, tokens};
 use std::process::Abort;
 
-fn places_of<R: Abort + AllocGlobal>(rt: &R, text: &str) -> String {
+fn offsets_of<R: Abort + AllocGlobal>(rt: &R, text: &str) -> String {
     let found = tokens(rt.alloc(), text.as_bytes()).expect(rt, "tokens");
-    let mut places = String::new(rt.alloc());
+    let mut offsets = String::new(rt.alloc());
     for token in found.tokens.iter() {
-        write!(places, "{} ", token.place).expect(rt, "memory");
+        write!(offsets, "{} ", token.offset).expect(rt, "memory");
     }
-    places
+    offsets
 }
 
 #[test]
-fn places_are_counted_in_bytes(rt: HostRuntime) {
-    let places = places_of(&rt, "\u{8ba1}\u{e9}.\u{e9} # \u{e9}\ne\u{301}:=\u{10400};");
-    same!(rt; places.as_str(), "0 5 6 14 17 19 23 ");
+fn offsets_are_counted_in_bytes(rt: HostRuntime) {
+    let offsets = offsets_of(&rt, "\u{8ba1}\u{e9}.\u{e9} # \u{e9}\ne\u{301}:=\u{10400};");
+    same!(rt; offsets.as_str(), "0 5 6 14 17 19 23 ");
 }
 
 // The three bytes would be half of a surrogate pair.
@@ -24,7 +24,7 @@ fn places_are_counted_in_bytes(rt: HostRuntime) {
 fn half_a_pair_is_no_character(rt: HostRuntime) {
     let refusal = Refusal {
         number: RefusalNumber::E1,
-        place: 4,
+        offset: 4,
     };
     let error = tokens(rt.alloc(), b"a\n\nb\xed\xa0\x80\n").err();
     same!(rt; error, Some(LoadError::Refused(refusal)));
@@ -37,21 +37,21 @@ fn numbers_end_below_two_to_the_63rd(rt: HostRuntime) {
     same!(rt; Numeral::new(9_223_372_036_854_775_808), None);
 }
 
-fn same_line(rt: &impl Abort, place: u32, line: u64) {
+fn same_line(rt: &impl Abort, offset: u32, line: u64) {
     let number = RefusalNumber::E4;
-    let answer = answer(b"a\nb\r\n\nc", Refusal { number, place });
+    let answer = answer(b"a\nb\r\n\nc", Refusal { number, offset });
     let wanted = TextError {
         number,
         line,
-        place,
+        offset,
     };
-    assert_eq!(rt; answer, wanted, "place {place}");
+    assert_eq!(rt; answer, wanted, "offset {offset}");
 }
 
 #[test]
 fn answers_with_lines(rt: HostRuntime) {
-    for (place, line) in [(0, 1), (1, 1), (2, 2), (5, 3), (6, 4), (7, 4)] {
-        same_line(&rt, place, line);
+    for (offset, line) in [(0, 1), (1, 1), (2, 2), (5, 3), (6, 4), (7, 4)] {
+        same_line(&rt, offset, line);
     }
 }
 

@@ -10,7 +10,9 @@ use std::alloc::{AllocError, Global};
 /// A file that was read: its name, as the words of the command line have it, and its bytes.
 #[derive(Clone, Copy)]
 pub struct Source<'a> {
+    /// The name of the file, as the command line has it.
     pub name: &'a str,
+    /// The bytes of the file.
     pub bytes: &'a [u8],
 }
 
@@ -43,7 +45,7 @@ fn code_of(alloc: Global, error: &JobError) -> Result<String, AllocError> {
     }
 }
 
-/// The place of the model or of the inputs at which an error was found and which case of its number it is, as
+/// The offset of the model or of the inputs at which an error was found and which case of its number it is, as
 /// `FILE:LINE:COLUMN: CODE: SUMMARY`, the line with a mark, and sentences on it. Nothing where no line is at fault.
 ///
 /// # Errors
@@ -73,7 +75,7 @@ fn cause_in_model(
         name: model.name,
         text: model.bytes,
         line: refusal.line,
-        place: refusal.place as usize,
+        offset: refusal.offset as usize,
     };
     pointed(alloc, &spot, code.as_str(), &cause)
 }

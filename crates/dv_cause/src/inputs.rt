@@ -5,21 +5,21 @@ use dv_explain::{Cause, Quoted, Spot, pointed};
 use dv_inputs::{InputRefusal, InputRefusalNumber};
 use std::alloc::{AllocError, Global};
 
-/// A field of a line: its place in the line, and its bytes.
+/// A field of a line: its offset in the line, and its bytes.
 #[derive(Clone, Copy)]
 struct Field<'a> {
-    place: usize,
+    offset: usize,
     bytes: &'a [u8],
 }
 
-/// What is wrong in a line: its place in the line, and the words on it.
+/// What is wrong in a line: its offset in the line, and the words on it.
 #[derive(Drop)]
 struct Flaw {
-    place: usize,
+    offset: usize,
     cause: Cause,
 }
 
-/// The place and the line of inputs that are refused, with a mark under the field that is wrong, and sentences on it.
+/// The offset and the line of inputs that are refused, with a mark under the field that is wrong, and sentences on it.
 ///
 /// # Errors
 ///
@@ -29,7 +29,7 @@ pub fn cause_in_inputs(
     inputs: Source<'_>,
     refusal: &InputRefusal,
 ) -> Result<String, AllocError> {
-    let start = place_of_line(inputs.bytes, refusal.line);
+    let start = offset_of_line(inputs.bytes, refusal.line);
     let line = without_return(first_line(inputs.bytes.get(start..).unwrap_or(&[])));
     let flaw = flaw_in(alloc, line, refusal.number)?;
     let code = format!(in alloc; "{}", refusal.number)?;
@@ -37,20 +37,20 @@ pub fn cause_in_inputs(
         name: inputs.name,
         text: inputs.bytes,
         line: refusal.line,
-        place: start.saturating_add(flaw.place),
+        offset: start.saturating_add(flaw.offset),
     };
     pointed(alloc, &spot, code.as_str(), &flaw.cause)
 }
 
 /// How many bytes come before a line.
-fn place_of_line(text: &[u8], line: u64) -> usize {
-    let mut place: usize = 0;
+fn offset_of_line(text: &[u8], line: u64) -> usize {
+    let mut offset: usize = 0;
     for _ in 1..line {
-        let rest = text.get(place..).unwrap_or(&[]);
+        let rest = text.get(offset..).unwrap_or(&[]);
         let length = first_line(rest).len();
-        place = place.saturating_add(length).saturating_add(1);
+        offset = offset.saturating_add(length).saturating_add(1);
     }
-    place
+    offset
 }
 
 /// What stands before the first line feed.
@@ -98,7 +98,7 @@ fn flaw_in(alloc: Global, line: &[u8], number: InputRefusalNumber) -> Result<Fla
         ),
     };
     Ok(Flaw {
-        place: place_of_field(&fields, index),
+        offset: offset_of_field(&fields, index),
         cause: Cause {
             summary,
             sentences: String::new(alloc),
@@ -114,9 +114,9 @@ fn quoted<'a>(fields: &[Field<'a>], number: usize) -> Quoted<'a> {
     }
 }
 
-fn place_of_field(fields: &[Field<'_>], number: usize) -> usize {
+fn offset_of_field(fields: &[Field<'_>], number: usize) -> usize {
     match fields.get(number) {
-        Some(field) => field.place,
+        Some(field) => field.offset,
         None => 0,
     }
 }
@@ -124,12 +124,12 @@ fn place_of_field(fields: &[Field<'_>], number: usize) -> usize {
 /// The fields of a line, which stand between blanks.
 fn fields_of(alloc: Global, line: &[u8]) -> Result<Vec<Field<'_>>, AllocError> {
     let mut fields = Vec::new(alloc);
-    let mut place: usize = 0;
+    let mut offset: usize = 0;
     for bytes in line.split(|byte| is_blank(*byte)) {
         if !bytes.is_empty() {
-            fields.push(Field { place, bytes })?;
+            fields.push(Field { offset, bytes })?;
         }
-        place = place.saturating_add(bytes.len()).saturating_add(1);
+        offset = offset.saturating_add(bytes.len()).saturating_add(1);
     }
     Ok(fields)
 }
@@ -143,7 +143,7 @@ fn is_blank(byte: u8) -> bool {
 fn malformed(alloc: Global, line: &[u8], fields: &[Field<'_>]) -> Result<Flaw, AllocError> {
     if let Err(error) = str::from_utf8(line) {
         return Ok(Flaw {
-            place: error.valid_up_to(),
+            offset: error.valid_up_to(),
             cause: Cause::of(alloc, "a byte belongs to no whole character", "")?,
         });
     }
@@ -166,7 +166,7 @@ fn wrong_time(alloc: Global, fields: &[Field<'_>]) -> Result<Flaw, AllocError> {
         quoted(fields, 0)
     )?;
     Ok(Flaw {
-        place: place_of_field(fields, 0),
+        offset: offset_of_field(fields, 0),
         cause: Cause {
             summary,
             sentences: String::new(alloc),
@@ -179,12 +179,12 @@ fn wrong_count(alloc: Global, fields: &[Field<'_>]) -> Result<Flaw, AllocError> 
     if let Some(fourth) = fields.get(3) {
         let summary = "the line has more than the three fields `TICK PORT VALUE`";
         return Ok(Flaw {
-            place: fourth.place,
+            offset: fourth.offset,
             cause: Cause::of(alloc, summary, "")?,
         });
     }
-    let place = match fields.last() {
-        Some(last) => last.place.saturating_add(last.bytes.len()),
+    let offset = match fields.last() {
+        Some(last) => last.offset.saturating_add(last.bytes.len()),
         None => 0,
     };
     let summary = format!(in alloc;
@@ -192,7 +192,7 @@ fn wrong_count(alloc: Global, fields: &[Field<'_>]) -> Result<Flaw, AllocError> 
         fields.len()
     )?;
     Ok(Flaw {
-        place,
+        offset,
         cause: Cause {
             summary,
             sentences: String::new(alloc),

@@ -56,9 +56,9 @@ pub both_nil : {A : Type 0} (xs ys : List A) → xs ++ ys ≡ [] → (xs ≡ [])
 both_nil [] ys e = (refl, e)
 both_nil (x ∷ xs) ys e = absurd (cc)
 
-pub not_refused : (b : Bool) (number : RefusalNumber) (place : ℕ) → refusal_if b number place ≡ [] → b ≡ false
-not_refused true number place e = absurd (cc)
-not_refused false number place e = refl
+pub not_refused : (b : Bool) (number : RefusalNumber) (offset : ℕ) → refusal_if b number offset ≡ [] → b ≡ false
+not_refused true number offset e = absurd (cc)
+not_refused false number offset e = refl
 
 pub not_false : (b : Bool) → not b ≡ false → b ≡ true
 not_false true e = refl
@@ -92,11 +92,11 @@ model_accepted all (x ∷ models) number m none e =
     (model_accepted all models number m both.1) e
 
 part_known_of : (models : List ModelTree) (p : Part) (o : Option ModelTree) → model_named p.model.number models ≡ o
-    → part_model_refusals (option_map face_of o) p.model.place ≡ [] → IsKnownPart models p
+    → part_model_refusals (option_map face_of o) p.model.offset ≡ [] → IsKnownPart models p
 part_known_of models p None is e = absurd (cc)
 part_known_of models p (Some m) is e = record { model = m; named = is }
 
-part_known : (models : List ModelTree) (p : Part) → part_model_refusals (faces_in models p.model.number) p.model.place ≡ []
+part_known : (models : List ModelTree) (p : Part) → part_model_refusals (faces_in models p.model.number) p.model.offset ≡ []
     → IsKnownPart models p
 unfolding faces_in
 part_known models p e = part_known_of models p (model_named p.model.number models) refl e
@@ -126,16 +126,16 @@ unfolding faces_in
 face_known models p h = ap (option_map face_of) h.named
 
 -- a port of the direction that is wanted
-port_fine : (wanted other : Bool) (place : ℕ) → port_refusals wanted other place ≡ [] → wanted ≡ true
-port_fine true other place e = refl
-port_fine false true place e = absurd (cc)
-port_fine false false place e = absurd (cc)
+port_fine : (wanted other : Bool) (offset : ℕ) → port_refusals wanted other offset ≡ [] → wanted ≡ true
+port_fine true other offset e = refl
+port_fine false true offset e = absurd (cc)
+port_fine false false offset e = absurd (cc)
 
-output_fine : (sort : Option NameSort) (place : ℕ) → output_refusals sort place ≡ [] → is_output sort ≡ true
-output_fine sort place e = port_fine (is_output sort) (is_input sort) place e
+output_fine : (sort : Option NameSort) (offset : ℕ) → output_refusals sort offset ≡ [] → is_output sort ≡ true
+output_fine sort offset e = port_fine (is_output sort) (is_input sort) offset e
 
-input_fine : (sort : Option NameSort) (place : ℕ) → input_refusals sort place ≡ [] → is_input sort ≡ true
-input_fine sort place e = port_fine (is_input sort) (is_output sort) place e
+input_fine : (sort : Option NameSort) (offset : ℕ) → input_refusals sort offset ≡ [] → is_input sort ≡ true
+input_fine sort offset e = port_fine (is_input sort) (is_output sort) offset e
 
 -- ---- Links of all files
 
@@ -157,14 +157,14 @@ face_source : (models : List ModelTree) (p : Part) (h : IsKnownPart models p) (p
 face_source models p h port e =
     let tested : part_source_refusals (Some (face_of h.model)) port ≡ [] =
     sym (ap (λ o. part_source_refusals o port) (face_known models p h)) ∙ e in
-    output_fine (face_of h.model port.number) port.place tested
+    output_fine (face_of h.model port.number) port.offset tested
 
 face_target : (models : List ModelTree) (p : Part) (h : IsKnownPart models p) (port : Name)
     → part_target_refusals (faces_in models p.model.number) port ≡ [] → is_input (face_of h.model port.number) ≡ true
 face_target models p h port e =
     let tested : part_target_refusals (Some (face_of h.model)) port ≡ [] =
     sym (ap (λ o. part_target_refusals o port) (face_known models p h)) ∙ e in
-    input_fine (face_of h.model port.number) port.place tested
+    input_fine (face_of h.model port.number) port.offset tested
 
 face_shows_output : (models : List ModelTree) (p : Part) (h : IsKnownPart models p) (port : Name)
     → part_source_refusals (faces_in models p.model.number) port ≡ []
@@ -209,13 +209,13 @@ module _ (models : List ModelTree) (m : CoupledTree) (known : AllByRecursion (Is
   source_linked : (part_name : Option Name) (port : Name) → source_refusals (interior_of models m) part_name port ≡ []
       → IsSource models m part_name port
   unfolding parts_in
-  source_linked None port e = input_among port.number m.inputs m.outputs (input_fine (sort_in (ports_of m) port.number) port.place e)
+  source_linked None port e = input_among port.number m.inputs m.outputs (input_fine (sort_in (ports_of m) port.number) port.offset e)
   source_linked (Some name) port e = source_at (part_named name.number m.parts) (Some name) name port refl refl e
 
   target_linked : (part_name : Option Name) (port : Name) → target_refusals (interior_of models m) part_name port ≡ []
       → IsTarget models m part_name port
   unfolding parts_in
-  target_linked None port e = output_among port.number m.inputs m.outputs (output_fine (sort_in (ports_of m) port.number) port.place e)
+  target_linked None port e = output_among port.number m.inputs m.outputs (output_fine (sort_in (ports_of m) port.number) port.offset e)
   target_linked (Some name) port e = target_at (part_named name.number m.parts) (Some name) name port refl refl e
 
   source_shown_at : (o : Option Part) (name port : Name) → part_named name.number m.parts ≡ o
@@ -233,19 +233,19 @@ module _ (models : List ModelTree) (m : CoupledTree) (known : AllByRecursion (Is
   source_shown : (part_name : Option Name) (port : Name) → source_refusals (interior_of models m) part_name port ≡ []
       → is_source (interior_of models m) part_name port.number ≡ true
   unfolding parts_in
-  source_shown None port e = input_fine (sort_in (ports_of m) port.number) port.place e
+  source_shown None port e = input_fine (sort_in (ports_of m) port.number) port.offset e
   source_shown (Some name) port e = source_shown_at (part_named name.number m.parts) name port refl e
 
   target_shown : (part_name : Option Name) (port : Name) → target_refusals (interior_of models m) part_name port ≡ []
       → is_target (interior_of models m) part_name port.number ≡ true
   unfolding parts_in
-  target_shown None port e = output_fine (sort_in (ports_of m) port.number) port.place e
+  target_shown None port e = output_fine (sort_in (ports_of m) port.number) port.offset e
   target_shown (Some name) port e = target_shown_at (part_named name.number m.parts) name port refl e
 
   link_leads_on : (l : Link) → link_refusals (interior_of models m) l ≡ [] → LeadsOn models m l
   link_leads_on l e =
       let w = interior_of models m in
-      let back = refusal_if (leads_back l && has_ends w l) E13 l.place in
+      let back = refusal_if (leads_back l && has_ends w l) E13 l.offset in
       let target = target_refusals w l.to.part l.to.port in
       let ends = both_nil (source_refusals w l.from.part l.from.port) (target ++ back) e in
       let behind = both_nil target back ends.1 in
@@ -316,13 +316,13 @@ coupled_accepted models m e =
 -- the lists of a file's refusals
 record NoRule (f : FileTree) : Type 0 where
   models : flat_map (model_refusals f.models) f.models ≡ []
-  root : root_refusals (model_named f.root.number f.models) f.root.place ≡ []
+  root : root_refusals (model_named f.root.number f.models) f.root.offset ≡ []
 
 no_rule : (f : FileTree) → refusals f ≡ [] → NoRule f
 no_rule f e =
     let models = flat_map (model_refusals f.models) f.models in
     let cycles = cycle_refusals f.models in
-    let root = root_refusals (model_named f.root.number f.models) f.root.place in
+    let root = root_refusals (model_named f.root.number f.models) f.root.offset in
     let first = both_nil (repeats E6 (map name_of_model f.models)) (models ++ (cycles ++ root)) e in
     let second = both_nil models (cycles ++ root) first.1 in
     record { models = second.0; root = (both_nil cycles root second.1).1 }
@@ -362,8 +362,8 @@ models_accepted all (m ∷ models) e =
     let both = both_nil (model_refusals all m) (flat_map (model_refusals all) models) e in
     (model_accepted_as all m both.0, models_accepted all models both.1)
 
-root_accepted : (f : FileTree) (o : Option ModelTree) → model_named f.root.number f.models ≡ o → root_refusals o f.root.place ≡ []
-    → root_limit_refusals f.models o f.root.place ≡ [] → flat_map (model_refusals f.models) f.models ≡ [] → IsCheckedFile f
+root_accepted : (f : FileTree) (o : Option ModelTree) → model_named f.root.number f.models ≡ o → root_refusals o f.root.offset ≡ []
+    → root_limit_refusals f.models o f.root.offset ≡ [] → flat_map (model_refusals f.models) f.models ≡ [] → IsCheckedFile f
 root_accepted f None is e limit none = absurd (cc)
 root_accepted f (Some (AtomicModel m)) is e limit none = absurd (cc)
 root_accepted f (Some (CoupledModel m)) is e limit none =

@@ -63,10 +63,10 @@ is_graph models =
 
 -- ---- Two tests that agree
 
-agree_on : (f g : Test) (outer : ℕ) (o : Option ℕ) (place : ℕ) → ((inner : ℕ) → o ≡ Some inner → f inner outer ≡ g inner outer)
-    → cycle_refusal f outer o place ≡ cycle_refusal g outer o place
-agree_on f g outer None place same = refl
-agree_on f g outer (Some inner) place same = ap (λ b. refusal_if b E15 place) (same inner refl)
+agree_on : (f g : Test) (outer : ℕ) (o : Option ℕ) (offset : ℕ) → ((inner : ℕ) → o ≡ Some inner → f inner outer ≡ g inner outer)
+    → cycle_refusal f outer o offset ≡ cycle_refusal g outer o offset
+agree_on f g outer None offset same = refl
+agree_on f g outer (Some inner) offset same = ap (λ b. refusal_if b E15 offset) (same inner refl)
 
 in_front : (inner k : ℕ) (ks : List ℕ) → k ≡ inner → is_in inner (k ∷ ks) ≡ true
 in_front inner k ks e = ap (λ b. b || is_in inner ks) (eq-eqb k inner e)
@@ -91,7 +91,7 @@ module _ (f g : Test) (position : ℕ → Option ℕ) where
   agree_on_parts outer (p ∷ parts) same =
       let o = position p.model.number in
       let ks = filter_map (position_inside position) parts in
-      let first = agree_on f g outer o p.model.place (λ inner e. same inner (in_first o inner ks e)) in
+      let first = agree_on f g outer o p.model.offset (λ inner e. same inner (in_first o inner ks e)) in
       let rest = agree_on_parts outer parts (λ inner e. same inner (in_rest o inner ks e)) in
       ap (λ rs. rs ++ flat_map (part_cycle_refusals f position outer) parts) first
       ∙ ap (λ rs. part_cycle_refusals g position outer p ++ rs) rest

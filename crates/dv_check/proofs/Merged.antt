@@ -1,4 +1,4 @@
--- The ports of a coupled model by place: none is lost, and none is added.
+-- The ports of a coupled model by offset: none is lost, and none is added.
 use Rattle.std.proofs.Common.{◌≡◌, ℕ, ◌+◌, ◌==◌, Bool, true, false, ◌||◌, nat_lt, if◌then◌else◌, List, [], ◌∷◌, ◌++◌, length, map}
 use Rattle.std.proofs.Common.{refl, ap, Option, Some, arith}
 use Rattle.std.proofs.lemmas.List.{length-append, length-map}
@@ -10,17 +10,17 @@ use Rattle.dv_check.specs.declared.declarations.NameSort.TheVariants.{Input, Out
 use Rattle.dv_check.specs.Names.{among, first_of}
 use Rattle.dv_check.specs.Rules.{sort_in}
 use Rattle.dv_check.specs.Couplings.{is_input, is_output}
-use Rattle.dv_check.specs.Ports.{names_before, names_from, ports_by_place}
+use Rattle.dv_check.specs.Ports.{names_before, names_from, ports_by_offset}
 
--- a list is what stands before a place and what stands from there on
+-- a list is what stands before an offset and what stands from there on
 halves_if : (b : Bool) (n : Name) (front back names : List Name) → front ++ back ≡ names
     → (if b then n ∷ front else []) ++ (if b then back else n ∷ names) ≡ n ∷ names
 halves_if true n front back names e = ap (λ ns. n ∷ ns) e
 halves_if false n front back names e = refl
 
-halves : (place : ℕ) (names : List Name) → names_before place names ++ names_from place names ≡ names
-halves place [] = refl
-halves place (n ∷ names) = halves_if (nat_lt n.place place) n (names_before place names) (names_from place names) names (halves place names)
+halves : (offset : ℕ) (names : List Name) → names_before offset names ++ names_from offset names ≡ names
+halves offset [] = refl
+halves offset (n ∷ names) = halves_if (nat_lt n.offset offset) n (names_before offset names) (names_from offset names) names (halves offset names)
 
 -- ---- Inputs
 
@@ -49,12 +49,12 @@ input_first : (q : ℕ) (i : Name) (inputs : List Name) (ds : List Declaration) 
 unfolding first_of among
 input_first q i inputs ds later e = input_among_if (i.number == q) (among inputs q) (sort_in ds q) later e
 
-pub input_among : (q : ℕ) (inputs outputs : List Name) → is_input (sort_in (ports_by_place inputs outputs) q) ≡ true → among inputs q ≡ true
+pub input_among : (q : ℕ) (inputs outputs : List Name) → is_input (sort_in (ports_by_offset inputs outputs) q) ≡ true → among inputs q ≡ true
 input_among q [] outputs e = absurd (no_input q outputs e)
 input_among q (i ∷ inputs) outputs e =
-    let rest = names_from i.place outputs in
-    input_first q i inputs (ports_by_place inputs rest) (input_among q inputs rest)
-    (input_behind q (names_before i.place outputs) (In i ∷ ports_by_place inputs rest) e)
+    let rest = names_from i.offset outputs in
+    input_first q i inputs (ports_by_offset inputs rest) (input_among q inputs rest)
+    (input_behind q (names_before i.offset outputs) (In i ∷ ports_by_offset inputs rest) e)
 
 -- ---- Outputs
 
@@ -83,22 +83,22 @@ output_behind : (q : ℕ) (i : Name) (ds : List Declaration) → is_output (sort
 unfolding first_of
 output_behind q i ds e = output_behind_if (i.number == q) (sort_in ds q) e
 
-pub output_among : (q : ℕ) (inputs outputs : List Name) → is_output (sort_in (ports_by_place inputs outputs) q) ≡ true
+pub output_among : (q : ℕ) (inputs outputs : List Name) → is_output (sort_in (ports_by_offset inputs outputs) q) ≡ true
     → among outputs q ≡ true
 output_among q [] outputs e = output_alone q outputs e
 output_among q (i ∷ inputs) outputs e =
-    let front = names_before i.place outputs in
-    let rest = names_from i.place outputs in
-    let ds = ports_by_place inputs rest in
+    let front = names_before i.offset outputs in
+    let rest = names_from i.offset outputs in
+    let ds = ports_by_offset inputs rest in
     let there = output_in_front q front rest (In i ∷ ds) (λ h. output_among q inputs rest (output_behind q i ds h)) e in
-    rw (halves i.place outputs) at there
+    rw (halves i.offset outputs) at there
 
 -- ---- Their number
 
-pub ports_counted : (inputs outputs : List Name) → length (ports_by_place inputs outputs) ≡ length inputs + length outputs
+pub ports_counted : (inputs outputs : List Name) → length (ports_by_offset inputs outputs) ≡ length inputs + length outputs
 ports_counted [] outputs = omega (arith, length-map outputs Out)
 ports_counted (i ∷ inputs) outputs =
-    let front = names_before i.place outputs in
-    let rest = names_from i.place outputs in
-    let both : length front + length rest ≡ length outputs = omega (arith, length-append front rest, ap length (halves i.place outputs)) in
-    omega (arith, both, length-append (map Out front) (In i ∷ ports_by_place inputs rest), length-map front Out, ports_counted inputs rest)
+    let front = names_before i.offset outputs in
+    let rest = names_from i.offset outputs in
+    let both : length front + length rest ≡ length outputs = omega (arith, length-append front rest, ap length (halves i.offset outputs)) in
+    omega (arith, both, length-append (map Out front) (In i ∷ ports_by_offset inputs rest), length-map front Out, ports_counted inputs rest)

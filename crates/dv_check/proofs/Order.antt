@@ -1,4 +1,4 @@
--- The order of refusals: by their places, and then by their numbers.
+-- The order of refusals: by their offsets, and then by their numbers.
 use Rattle.std.proofs.Common.{◌≡◌, ℕ, ◌+◌, ◌*◌, ◌<◌, ◌≤◌, Bool, true, false, ◌||◌, ◌&&◌, nat_lt, nat_eq, if◌then◌else◌, List, []}
 use Rattle.std.proofs.Common.{◌∷◌, get_or, refl, sym, ap, ◌∙◌, Option, Some, None, ◌⊎◌, inl, inr, ⊎_elim, Contains, arith}
 use Rattle.std.specs.List.{All, AllByRecursion}
@@ -14,7 +14,7 @@ use Rattle.dv_lex.specs.Order.{ordinal, precedes, earlier, first_after, first_re
 -- ---- A refusal as one number
 
 abbrev key : Refusal → ℕ
-key r = r.place * 18 + ordinal r.number
+key r = r.offset * 18 + ordinal r.number
 
 below : (n : RefusalNumber) → ordinal n < 18
 below E1 = omega arith
@@ -39,7 +39,7 @@ by_key : (p q m n : ℕ) → m < 18 → n < 18 → (nat_lt p q || (nat_eq p q &&
 by_key p q m n below_m below_n = grind (arith, nat_tests)
 
 precedes-key : (a b : Refusal) → precedes a b ≡ nat_lt (key a) (key b)
-precedes-key a b = by_key a.place b.place (ordinal a.number) (ordinal b.number) (below a.number) (below b.number)
+precedes-key a b = by_key a.offset b.offset (ordinal a.number) (ordinal b.number) (below a.number) (below b.number)
 
 -- ---- The order
 
@@ -87,22 +87,22 @@ number_at E15 = refl
 number_at E16 = refl
 number_at E17 = refl
 
-same_place : (p q m n : ℕ) → m < 18 → n < 18 → p * 18 + m ≡ q * 18 + n → p ≡ q
-same_place p q m n below_m below_n e = omega (arith, below_m, below_n, e)
+same_offset : (p q m n : ℕ) → m < 18 → n < 18 → p * 18 + m ≡ q * 18 + n → p ≡ q
+same_offset p q m n below_m below_n e = omega (arith, below_m, below_n, e)
 
 same_ordinal : (p q m n : ℕ) → m < 18 → n < 18 → p * 18 + m ≡ q * 18 + n → m ≡ n
 same_ordinal p q m n below_m below_n e = omega (arith, below_m, below_n, e)
 
 made : RefusalNumber → ℕ → Refusal
-made number place = record { number = number; place = place }
+made number offset = record { number = number; offset = offset }
 
 same_refusal : (a b : Refusal) → key a ≡ key b → a ≡ b
 unfolding made
 same_refusal a b e =
-    let places = same_place a.place b.place (ordinal a.number) (ordinal b.number) (below a.number) (below b.number) e in
-    let ordinals = same_ordinal a.place b.place (ordinal a.number) (ordinal b.number) (below a.number) (below b.number) e in
+    let offsets = same_offset a.offset b.offset (ordinal a.number) (ordinal b.number) (below a.number) (below b.number) e in
+    let ordinals = same_ordinal a.offset b.offset (ordinal a.number) (ordinal b.number) (below a.number) (below b.number) e in
     let numbers = sym (number_at a.number) ∙ ap (λ n. get_or all_numbers n E1) ordinals ∙ number_at b.number in
-    ap (λ n. made n a.place) numbers ∙ ap (made b.number) places
+    ap (λ n. made n a.offset) numbers ∙ ap (made b.number) offsets
 
 pub total : (a b : Refusal) → precedes a b ≡ false → precedes b a ≡ false → a ≡ b
 total a b first second = same_refusal a b (omega (arith, not_below_key b a second, not_below_key a b first))

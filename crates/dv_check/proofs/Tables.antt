@@ -35,14 +35,14 @@ pub entry_more : {V : Type 0} (entries : List (ℕ × V)) (n : ℕ) (v : V)
 unfolding entry_for with_first
 entry_more {V} entries n v = fun_ext (λ q. first_of_push (λ (e : ℕ × V). e.0) (λ (e : ℕ × V). e.1) entries (n, v) q)
 
--- ---- Lists that have empty places
+-- ---- Lists that have empty offsets
 
-pub value_past : {V : Type 0} (places : List (Option V)) (q : ℕ) → value_at (places ++ None ∷ []) q ≡ value_at places q
+pub value_past : {V : Type 0} (offsets : List (Option V)) (q : ℕ) → value_at (offsets ++ None ∷ []) q ≡ value_at offsets q
 unfolding value_at
 value_past [] zero = refl
 value_past [] (suc q) = refl
-value_past (p ∷ places) zero = refl
-value_past (p ∷ places) (suc q) = value_past places q
+value_past (p ∷ offsets) zero = refl
+value_past (p ∷ offsets) (suc q) = value_past offsets q
 
 suc_test : (i q : ℕ) → (suc i == suc q) ≡ (i == q)
 suc_test i q = grind (arith, nat_tests)
@@ -53,16 +53,16 @@ before_test q = grind (arith, nat_tests)
 after_test : (i : ℕ) → (suc i == 0) ≡ false
 after_test i = grind (arith, nat_tests)
 
-pub value_put : {V : Type 0} (places : List (Option V)) (i : ℕ) (v : V) (q : ℕ) → i < length places
-    → value_at (slice_set places i (Some v)) q ≡ (if i == q then Some v else value_at places q)
+pub value_put : {V : Type 0} (offsets : List (Option V)) (i : ℕ) (v : V) (q : ℕ) → i < length offsets
+    → value_at (slice_set offsets i (Some v)) q ≡ (if i == q then Some v else value_at offsets q)
 unfolding value_at
 value_put [] i v q h = grind (arith, h)
-value_put (p ∷ places) zero v zero h = refl
-value_put {V} (p ∷ places) zero v (suc q) h = ap (λ b. if b then Some v else option_flatten (slice_get places q)) (sym (before_test q))
-value_put {V} (p ∷ places) (suc i) v zero h = ap (λ b. if b then Some v else option_flatten (Some p)) (sym (after_test i))
-value_put {V} (p ∷ places) (suc i) v (suc q) h =
-    value_put places i v q (grind (arith, h))
-    ∙ ap (λ b. if b then Some v else option_flatten (slice_get places q)) (sym (suc_test i q))
+value_put (p ∷ offsets) zero v zero h = refl
+value_put {V} (p ∷ offsets) zero v (suc q) h = ap (λ b. if b then Some v else option_flatten (slice_get offsets q)) (sym (before_test q))
+value_put {V} (p ∷ offsets) (suc i) v zero h = ap (λ b. if b then Some v else option_flatten (Some p)) (sym (after_test i))
+value_put {V} (p ∷ offsets) (suc i) v (suc q) h =
+    value_put offsets i v q (grind (arith, h))
+    ∙ ap (λ b. if b then Some v else option_flatten (slice_get offsets q)) (sym (suc_test i q))
 
 -- ---- Tables
 

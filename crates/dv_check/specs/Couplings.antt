@@ -41,11 +41,11 @@ interior_by t = record { port = value_for t.ports; part = value_for t.parts; fac
 
 -- the model of a part: known
 abbrev pub part_model_refusals : Option Face → ℕ → List Refusal
-part_model_refusals None place = refusal E7 place ∷ []
-part_model_refusals (Some face) place = []
+part_model_refusals None offset = refusal E7 offset ∷ []
+part_model_refusals (Some face) offset = []
 
 abbrev pub part_refusals : Interior → Part → List Refusal
-part_refusals w p = part_model_refusals (w.face p.model.number) p.model.place
+part_refusals w p = part_model_refusals (w.face p.model.number) p.model.offset
 
 -- ---- The ends of links
 
@@ -70,43 +70,43 @@ is_output None = false
 
 -- a name where a port is wanted: of the other direction, or unknown
 abbrev pub port_refusals : (wanted other : Bool) → ℕ → List Refusal
-port_refusals true other place = []
-port_refusals false true place = refusal E12 place ∷ []
-port_refusals false false place = refusal E7 place ∷ []
+port_refusals true other offset = []
+port_refusals false true offset = refusal E12 offset ∷ []
+port_refusals false false offset = refusal E7 offset ∷ []
 
 abbrev pub input_refusals : Option NameSort → ℕ → List Refusal
-input_refusals sort place = port_refusals (is_input sort) (is_output sort) place
+input_refusals sort offset = port_refusals (is_input sort) (is_output sort) offset
 
 abbrev pub output_refusals : Option NameSort → ℕ → List Refusal
-output_refusals sort place = port_refusals (is_output sort) (is_input sort) place
+output_refusals sort offset = port_refusals (is_output sort) (is_input sort) offset
 
 -- a port of a part where a link begins; the ports of a part whose model is unknown are not tested
 abbrev pub part_source_refusals : Option Face → Name → List Refusal
 part_source_refusals None port = []
-part_source_refusals (Some face) port = output_refusals (face port.number) port.place
+part_source_refusals (Some face) port = output_refusals (face port.number) port.offset
 
 -- and where it ends
 abbrev pub part_target_refusals : Option Face → Name → List Refusal
 part_target_refusals None port = []
-part_target_refusals (Some face) port = input_refusals (face port.number) port.place
+part_target_refusals (Some face) port = input_refusals (face port.number) port.offset
 
 -- an end at a part
 abbrev pub source_at_part : Interior → Option Part → Name → Name → List Refusal
-source_at_part w None name port = refusal E7 name.place ∷ []
+source_at_part w None name port = refusal E7 name.offset ∷ []
 source_at_part w (Some p) name port = part_source_refusals (w.face p.model.number) port
 
 abbrev pub target_at_part : Interior → Option Part → Name → Name → List Refusal
-target_at_part w None name port = refusal E7 name.place ∷ []
+target_at_part w None name port = refusal E7 name.offset ∷ []
 target_at_part w (Some p) name port = part_target_refusals (w.face p.model.number) port
 
 -- the left end: an input of the model itself or an output of a part
 abbrev pub source_refusals : Interior → Option Name → Name → List Refusal
-source_refusals w None port = input_refusals (w.port port.number) port.place
+source_refusals w None port = input_refusals (w.port port.number) port.offset
 source_refusals w (Some name) port = source_at_part w (w.part name.number) name port
 
 -- the right end: an output of the model itself or an input of a part
 abbrev pub target_refusals : Interior → Option Name → Name → List Refusal
-target_refusals w None port = output_refusals (w.port port.number) port.place
+target_refusals w None port = output_refusals (w.port port.number) port.offset
 target_refusals w (Some name) port = target_at_part w (w.part name.number) name port
 
 -- a port of a part that is known, with its model
@@ -155,13 +155,13 @@ abbrev pub link_refusals : Interior → Link → List Refusal
 link_refusals w l =
     source_refusals w l.from.part l.from.port
     ++ (target_refusals w l.to.part l.to.port
-    ++ refusal_if (leads_back l && has_ends w l) E13 l.place)
+    ++ refusal_if (leads_back l && has_ends w l) E13 l.offset)
 
 -- the links that stand again behind the seen ones, where both their ends are known
 abbrev pub repeated_links_after : Interior → (Link → Bool) → List Link → List Refusal
 repeated_links_after w seen [] = []
 repeated_links_after w seen (l ∷ links) =
-    refusal_if (seen l && has_ends w l) E14 l.place ++ repeated_links_after w (with_link seen l) links
+    refusal_if (seen l && has_ends w l) E14 l.offset ++ repeated_links_after w (with_link seen l) links
 
 -- ---- All of them
 

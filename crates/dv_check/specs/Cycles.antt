@@ -36,11 +36,11 @@ Test = ℕ → ℕ → Bool
 
 -- the refusal of a part of the model at a position: its model leads back
 abbrev pub cycle_refusal : Test → ℕ → Option ℕ → ℕ → List Refusal
-cycle_refusal leads outer None place = []
-cycle_refusal leads outer (Some inner) place = refusal_if (leads inner outer) E15 place
+cycle_refusal leads outer None offset = []
+cycle_refusal leads outer (Some inner) offset = refusal_if (leads inner outer) E15 offset
 
 abbrev pub part_cycle_refusals : Test → (ℕ → Option ℕ) → ℕ → Part → List Refusal
-part_cycle_refusals leads position outer p = cycle_refusal leads outer (position_inside position p) p.model.place
+part_cycle_refusals leads position outer p = cycle_refusal leads outer (position_inside position p) p.model.offset
 
 abbrev pub model_cycle_refusals : Test → (ℕ → Option ℕ) → ℕ → ModelTree → List Refusal
 model_cycle_refusals leads position outer (AtomicModel m) = []

@@ -13,12 +13,12 @@ use Rattle.dv_check.specs.Rules.{atomic_refusals}
 
 -- the names: 0 Heap, 1 v, 2 b, 3 z, 4 w
 abbrev pub name_at : ℕ → ℕ → Name
-name_at number place = record { number = number; place = place }
+name_at number offset = record { number = number; offset = offset }
 
 -- bag NAME CAPACITY; and queue NAME CAPACITY;
 abbrev pub collection_at : Discipline → ℕ → ℕ → ℕ → Declaration
-collection_at d number place capacity =
-    Held (record { discipline = d; name = name_at number place; capacity = record { value = capacity; place = place + 2 } })
+collection_at d number offset capacity =
+    Held (record { discipline = d; name = name_at number offset; capacity = record { value = capacity; offset = offset + 2 } })
 
 abbrev pub bag_at : ℕ → ℕ → ℕ → Declaration
 bag_at = collection_at discipline.Bag
@@ -28,27 +28,27 @@ queue_at = collection_at discipline.Queue
 
 -- flag NAME = false;
 abbrev pub flag_at : ℕ → ℕ → Declaration
-flag_at number place = Flag (record { name = name_at number place; start = false })
+flag_at number offset = Flag (record { name = name_at number offset; start = false })
 
 -- in NAME;
 abbrev pub input_at : ℕ → ℕ → Declaration
-input_at number place = In (name_at number place)
+input_at number offset = In (name_at number offset)
 
 abbrev pub one_at : ℕ → Expression
-one_at place = Literal (record { value = 1; place = place })
+one_at offset = Literal (record { value = 1; offset = offset })
 
 -- for NAME in BAG { .. } and what follows
 abbrev pub loop_at : ℕ → ℕ → ℕ → Statements → Statements → Statements
-loop_at place variable bag block rest = For place (name_at variable (place + 4)) (name_at bag (place + 9)) block rest
+loop_at offset variable bag block rest = For offset (name_at variable (offset + 4)) (name_at bag (offset + 9)) block rest
 
 -- atomic Heap { phases z; start z; hold z: TICKS; SORT z { .. } } and the declarations
 abbrev pub heap_held : Option Expression → List Declaration → RuleSort → Statements → AtomicTree
 heap_held ticks declarations sort body = record {
   name = name_at 0 7;
   declarations = declarations;
-  phases = record { place = 40; names = name_at 3 47 ∷ [] } ∷ [];
-  starts = record { place = 50; phase = name_at 3 56 } ∷ [];
-  holds = record { place = 60; phase = name_at 3 65; ticks = ticks } ∷ [];
+  phases = record { offset = 40; names = name_at 3 47 ∷ [] } ∷ [];
+  starts = record { offset = 50; phase = name_at 3 56 } ∷ [];
+  holds = record { offset = 60; phase = name_at 3 65; ticks = ticks } ∷ [];
   rules = record { sort = sort; phase = name_at 3 89; body = body } ∷ [];
 }
 

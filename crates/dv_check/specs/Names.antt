@@ -10,12 +10,12 @@ use Rattle.dv_syntax.specs.Trees.{ModelTree, AtomicModel, CoupledModel}
 use Rattle.dv_check.specs.Limits.{greatest_names}
 
 abbrev pub refusal : RefusalNumber → ℕ → Refusal
-refusal number place = record { number = number; place = place }
+refusal number offset = record { number = number; offset = offset }
 
 -- one refusal, or none
 abbrev pub refusal_if : Bool → RefusalNumber → ℕ → List Refusal
-refusal_if true number place = refusal number place ∷ []
-refusal_if false number place = []
+refusal_if true number offset = refusal number offset ∷ []
+refusal_if false number offset = []
 
 -- the numbers of names
 abbrev pub numbers_of : List Name → List ℕ
@@ -39,7 +39,7 @@ with_number set number q = if number == q then true else set q
 -- the names whose numbers were seen before
 abbrev pub repeats_after : (ℕ → Bool) → RefusalNumber → List Name → List Refusal
 repeats_after seen number [] = []
-repeats_after seen number (n ∷ names) = refusal_if (seen n.number) number n.place ++ repeats_after (with_number seen n.number) number names
+repeats_after seen number (n ∷ names) = refusal_if (seen n.number) number n.offset ++ repeats_after (with_number seen n.number) number names
 
 -- the names that stand behind an equal one
 abbrev pub repeats : RefusalNumber → List Name → List Refusal
@@ -47,7 +47,7 @@ repeats number names = repeats_after no_number number names
 
 abbrev pub excess_of : Option Name → List Refusal
 excess_of None = []
-excess_of (Some n) = refusal E17 n.place ∷ []
+excess_of (Some n) = refusal E17 n.offset ∷ []
 
 -- the first name past a limit on their number
 unfoldable pub excess_past : ℕ → List Name → List Refusal

@@ -5,9 +5,9 @@ use Rattle.dv_syntax.specs.declared.tree.RuleSort.TheVariants.{Internal}
 use Rattle.dv_syntax.specs.Trees.{ModelTree, AtomicModel, CoupledModel, Done, FileTree}
 use Rattle.dv_check.specs.Loops.{heap, name_at}
 
--- part NAME: MODEL; at a place
-abbrev pub part_at : (place number model : ℕ) → Part
-part_at place number model = record { name = name_at number (place + 5); model = name_at model (place + 8) }
+-- part NAME: MODEL; at an offset
+abbrev pub part_at : (offset number model : ℕ) → Part
+part_at offset number model = record { name = name_at number (offset + 5); model = name_at model (offset + 8) }
 
 -- coupled NAME { part NAME: MODEL; .. }
 abbrev pub around : ℕ → List Part → ModelTree

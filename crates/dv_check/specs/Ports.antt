@@ -7,23 +7,23 @@ use Rattle.dv_syntax.specs.declared.tree.Declaration.TheVariants.{In, Out}
 use Rattle.dv_eval.specs.Scope.{scope_of}
 use Rattle.dv_check.specs.Names.{numbers_of}
 
--- the names of a list that stand before a place, up to the first one that does not, and those from there on
+-- the names of a list that stand before an offset, up to the first one that does not, and those from there on
 abbrev pub names_before : ℕ → List Name → List Name
-names_before place [] = []
-names_before place (n ∷ names) = if nat_lt n.place place then n ∷ names_before place names else []
+names_before offset [] = []
+names_before offset (n ∷ names) = if nat_lt n.offset offset then n ∷ names_before offset names else []
 
 abbrev pub names_from : ℕ → List Name → List Name
-names_from place [] = []
-names_from place (n ∷ names) = if nat_lt n.place place then names_from place names else n ∷ names
+names_from offset [] = []
+names_from offset (n ∷ names) = if nat_lt n.offset offset then names_from offset names else n ∷ names
 
 -- the ports of a coupled model in the order of the text, which each of the lists has
-abbrev pub ports_by_place : List Name → List Name → List Declaration
-ports_by_place [] outputs = map Out outputs
-ports_by_place (i ∷ inputs) outputs =
-    map Out (names_before i.place outputs) ++ In i ∷ ports_by_place inputs (names_from i.place outputs)
+abbrev pub ports_by_offset : List Name → List Name → List Declaration
+ports_by_offset [] outputs = map Out outputs
+ports_by_offset (i ∷ inputs) outputs =
+    map Out (names_before i.offset outputs) ++ In i ∷ ports_by_offset inputs (names_from i.offset outputs)
 
 abbrev pub ports_of : CoupledTree → List Declaration
-ports_of m = ports_by_place m.inputs m.outputs
+ports_of m = ports_by_offset m.inputs m.outputs
 
 -- the numbers of the names of the ports that a model shows
 abbrev pub shown_inputs : ModelTree → List ℕ

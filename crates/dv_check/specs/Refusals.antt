@@ -24,17 +24,17 @@ model_refusals models (CoupledModel m) = coupled_refusals models m
 
 -- the root: known, and coupled
 abbrev pub root_refusals : Option ModelTree → ℕ → List Refusal
-root_refusals None place = refusal E7 place ∷ []
-root_refusals (Some (AtomicModel m)) place = refusal E16 place ∷ []
-root_refusals (Some (CoupledModel m)) place = []
+root_refusals None offset = refusal E7 offset ∷ []
+root_refusals (Some (AtomicModel m)) offset = refusal E16 offset ∷ []
+root_refusals (Some (CoupledModel m)) offset = []
 
--- every rule that a file breaks, each at its place, without the limits on the whole tree
+-- every rule that a file breaks, each at its offset, without the limits on the whole tree
 abbrev pub refusals : FileTree → List Refusal
 refusals f =
     repeats E6 (map name_of_model f.models)
     ++ (flat_map (model_refusals f.models) f.models
     ++ (cycle_refusals f.models
-    ++ root_refusals (model_named f.root.number f.models) f.root.place))
+    ++ root_refusals (model_named f.root.number f.models) f.root.offset))
 
 -- is a limit on the whole tree passed: no component or too many, too many instances, the root counted, or coupled too deep
 abbrev pub passes_limit : PartTree → Bool
@@ -44,13 +44,13 @@ passes_limit t =
     || (nat_lt greatest_instances (suc (instance_count t)) || nat_lt greatest_depth (depth_of t)))
 
 abbrev pub root_limit_refusals : List ModelTree → Option ModelTree → ℕ → List Refusal
-root_limit_refusals models (Some (CoupledModel m)) place = refusal_if (passes_limit (tree_of models m)) E17 place
-root_limit_refusals models (Some (AtomicModel m)) place = []
-root_limit_refusals models None place = []
+root_limit_refusals models (Some (CoupledModel m)) offset = refusal_if (passes_limit (tree_of models m)) E17 offset
+root_limit_refusals models (Some (AtomicModel m)) offset = []
+root_limit_refusals models None offset = []
 
 -- the limits on the whole tree that a file breaks, at the root's name
 abbrev pub limit_refusals : FileTree → List Refusal
-limit_refusals f = root_limit_refusals f.models (model_named f.root.number f.models) f.root.place
+limit_refusals f = root_limit_refusals f.models (model_named f.root.number f.models) f.root.offset
 
 -- The refusal that is answered: the first, or where there is none the first of the limits on the whole tree.
 abbrev pub refusal_of : FileTree → Option Refusal

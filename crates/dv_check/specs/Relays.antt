@@ -32,19 +32,19 @@ box = CoupledModel (record {
 
 -- part c: Box;
 abbrev pub box_at : ℕ → Part
-box_at place = record { name = name_at 9 place; model = name_at 8 (place + 3) }
+box_at offset = record { name = name_at 9 offset; model = name_at 8 (offset + 3) }
 
 -- part NAME: Relay;
 abbrev pub relay_at : ℕ → ℕ → Part
-relay_at number place = record { name = name_at number place; model = name_at 1 (place + 3) }
+relay_at number offset = record { name = name_at number offset; model = name_at 1 (offset + 3) }
 
 -- PART.PORT, or self.PORT
 abbrev pub end_at : Option ℕ → ℕ → ℕ → End
-end_at part port place = record { part = option_map (λ n. name_at n place) part; port = name_at port (place + 5) }
+end_at part port offset = record { part = option_map (λ n. name_at n offset) part; port = name_at port (offset + 5) }
 
 -- link PART.PORT -> PART.PORT; from here on
 abbrev pub link_at : ℕ → Option ℕ → ℕ → Option ℕ → ℕ → Link
-link_at place source out target in_ = record { place = place; from = end_at source out (place + 5); to = end_at target in_ (place + 20) }
+link_at offset source out target in_ = record { offset = offset; from = end_at source out (offset + 5); to = end_at target in_ (offset + 20) }
 
 -- coupled Top { in i; out o; part a: Relay; part b: Relay; part c: Box; .. } with these links
 abbrev pub top : List Link → CoupledTree

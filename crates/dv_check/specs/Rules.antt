@@ -40,7 +40,7 @@ use Rattle.dv_check.specs.declared.starts.Starts.{Starts}
 use Rattle.dv_check.specs.declared.wanted.Wanted.TheVariants as wanted
 use Rattle.dv_check.specs.Names.{refusal, refusal_if, among, within_limit, repeats, excess, first_of}
 use Rattle.dv_check.specs.Tables.{value_for, has}
-use Rattle.dv_check.specs.Types.{Known, type_of_name, held_name_refusals, place_refusals, value_refusals}
+use Rattle.dv_check.specs.Types.{Known, type_of_name, held_name_refusals, offset_refusals, value_refusals}
 
 -- ---- Names
 
@@ -54,8 +54,8 @@ name_of_declaration (Held c) = c.name
 abbrev pub number_of_declaration : Declaration → ℕ
 number_of_declaration d = (name_of_declaration d).number
 
-abbrev pub place_of_declaration : Declaration → ℕ
-place_of_declaration d = (name_of_declaration d).place
+abbrev pub offset_of_declaration : Declaration → ℕ
+offset_of_declaration d = (name_of_declaration d).offset
 
 abbrev pub sort_of : Declaration → NameSort
 sort_of (In port) = ForInput
@@ -69,34 +69,34 @@ abbrev pub sort_in : List Declaration → ℕ → Option NameSort
 sort_in declarations = first_of number_of_declaration sort_of declarations
 
 -- where the first declaration of a name stands
-abbrev pub place_in : List Declaration → ℕ → Option ℕ
-place_in declarations = first_of number_of_declaration place_of_declaration declarations
+abbrev pub offset_in : List Declaration → ℕ → Option ℕ
+offset_in declarations = first_of number_of_declaration offset_of_declaration declarations
 
 -- what is known outside of all rules; the phases of all items of phases are known
 abbrev pub known_in : AtomicTree → Known
 known_in m = record {
   sort = sort_in m.declarations;
-  place = place_in m.declarations;
+  offset = offset_in m.declarations;
   has_phase = among (phases_in m.phases);
   rule = None;
 }
 
 -- in a rule of a sort, or outside of all rules
 abbrev pub known_in_rule : Option RuleSort → Known → Known
-known_in_rule rule known = record { sort = known.sort; place = known.place; has_phase = known.has_phase; rule = rule }
+known_in_rule rule known = record { sort = known.sort; offset = known.offset; has_phase = known.has_phase; rule = rule }
 
 -- in the block of a loop its variable is known, and hides what else has its name
 abbrev pub known_in_loop : Name → Known → Known
 known_in_loop v known = record {
   sort = λ q. if v.number == q then Some ForLoopVariable else known.sort q;
-  place = λ q. if v.number == q then Some v.place else known.place q;
+  offset = λ q. if v.number == q then Some v.offset else known.offset q;
   has_phase = known.has_phase;
   rule = known.rule;
 }
 
 -- what tables know
 abbrev pub known_by : Declarations → Known
-known_by d = record { sort = value_for d.sorts; place = value_for d.places; has_phase = has d.phases; rule = None }
+known_by d = record { sort = value_for d.sorts; offset = value_for d.offsets; has_phase = has d.phases; rule = None }
 
 -- what an environment knows: its model's tables, the rule around, and the variables of the loops around
 abbrev pub environment_step : Environment-F Known → Known
@@ -114,9 +114,9 @@ ruled_phase sort r = if same_sort r.sort sort then Some r.phase else None
 abbrev pub ruled_phases : RuleSort → List RuleTree → List Name
 ruled_phases sort rules = filter_map (ruled_phase sort) rules
 
--- the phase of a hold, at the place of the word `hold`
+-- the phase of a hold, at the offset of the word `hold`
 abbrev pub held_phase : HoldTree → Name
-held_phase h = record { number = h.phase.number; place = h.place }
+held_phase h = record { number = h.phase.number; offset = h.offset }
 
 abbrev pub held_phases : List HoldTree → List Name
 held_phases holds = map held_phase holds
@@ -153,9 +153,9 @@ names_refusals m =
 
 -- an item that has to stand once: missing at the model's name, again at the second one's word
 abbrev pub once_refusals : ℕ → List ℕ → List Refusal
-once_refusals model_place [] = refusal E10 model_place ∷ []
-once_refusals model_place (place ∷ []) = []
-once_refusals model_place (place ∷ (second ∷ more)) = refusal E10 second ∷ []
+once_refusals model_offset [] = refusal E10 model_offset ∷ []
+once_refusals model_offset (offset ∷ []) = []
+once_refusals model_offset (offset ∷ (second ∷ more)) = refusal E10 second ∷ []
 
 -- the phases of the first item of phases
 abbrev pub first_phases : List PhasesTree → List Name
@@ -171,20 +171,20 @@ is_hold_missing held phases = list_any (λ (p : Name). not (held p.number)) phas
 abbrev pub holds_once_refusals : AtomicTree → List Refusal
 holds_once_refusals m =
     repeats E10 (held_phases m.holds)
-    ++ refusal_if (is_hold_missing (among (held_phases m.holds)) (within_limit greatest_names (first_phases m.phases))) E10 m.name.place
+    ++ refusal_if (is_hold_missing (among (held_phases m.holds)) (within_limit greatest_names (first_phases m.phases))) E10 m.name.offset
 
--- the places of the words `phases` and `start`
-abbrev pub phases_places : List PhasesTree → List ℕ
-phases_places items = map (λ (p : PhasesTree). p.place) items
+-- the offsets of the words `phases` and `start`
+abbrev pub phases_offsets : List PhasesTree → List ℕ
+phases_offsets items = map (λ (p : PhasesTree). p.offset) items
 
-abbrev pub start_places : List Start → List ℕ
-start_places items = map (λ (s : Start). s.place) items
+abbrev pub start_offsets : List Start → List ℕ
+start_offsets items = map (λ (s : Start). s.offset) items
 
 -- phases, start and holds, each of which has to stand once
 abbrev pub standing_refusals : AtomicTree → List Refusal
 standing_refusals m =
-    once_refusals m.name.place (phases_places m.phases)
-    ++ (once_refusals m.name.place (start_places m.starts)
+    once_refusals m.name.offset (phases_offsets m.phases)
+    ++ (once_refusals m.name.offset (start_offsets m.starts)
     ++ holds_once_refusals m)
 
 -- ---- Statements, holds and ranges
@@ -196,90 +196,90 @@ is_output_rule (Some sort) = same_sort sort rule.Output
 
 -- the variable of an assignment: known, a variable or a flag, and not in an output rule; a loop variable is never assigned
 abbrev pub assignment_refusals : Option RuleSort → Option NameSort → ℕ → List Refusal
-assignment_refusals rule None place = refusal E7 place ∷ []
-assignment_refusals rule (Some ForInput) place = refusal E8 place ∷ []
-assignment_refusals rule (Some ForOutput) place = refusal E8 place ∷ []
-assignment_refusals rule (Some ForVariable) place = refusal_if (is_output_rule rule) E9 place
-assignment_refusals rule (Some ForFlag) place = refusal_if (is_output_rule rule) E9 place
-assignment_refusals rule (Some (ForHeld d)) place = refusal E8 place ∷ []
-assignment_refusals rule (Some ForLoopVariable) place = refusal E9 place ∷ []
+assignment_refusals rule None offset = refusal E7 offset ∷ []
+assignment_refusals rule (Some ForInput) offset = refusal E8 offset ∷ []
+assignment_refusals rule (Some ForOutput) offset = refusal E8 offset ∷ []
+assignment_refusals rule (Some ForVariable) offset = refusal_if (is_output_rule rule) E9 offset
+assignment_refusals rule (Some ForFlag) offset = refusal_if (is_output_rule rule) E9 offset
+assignment_refusals rule (Some (ForHeld d)) offset = refusal E8 offset ∷ []
+assignment_refusals rule (Some ForLoopVariable) offset = refusal E9 offset ∷ []
 
 -- the port of a send: known, and an output
 abbrev pub sent_port_refusals : Option NameSort → ℕ → List Refusal
-sent_port_refusals None place = refusal E7 place ∷ []
-sent_port_refusals (Some ForVariable) place = refusal E8 place ∷ []
-sent_port_refusals (Some ForFlag) place = refusal E8 place ∷ []
-sent_port_refusals (Some (ForHeld d)) place = refusal E8 place ∷ []
-sent_port_refusals (Some ForInput) place = refusal E8 place ∷ []
-sent_port_refusals (Some ForOutput) place = []
-sent_port_refusals (Some ForLoopVariable) place = refusal E8 place ∷ []
+sent_port_refusals None offset = refusal E7 offset ∷ []
+sent_port_refusals (Some ForVariable) offset = refusal E8 offset ∷ []
+sent_port_refusals (Some ForFlag) offset = refusal E8 offset ∷ []
+sent_port_refusals (Some (ForHeld d)) offset = refusal E8 offset ∷ []
+sent_port_refusals (Some ForInput) offset = refusal E8 offset ∷ []
+sent_port_refusals (Some ForOutput) offset = []
+sent_port_refusals (Some ForLoopVariable) offset = refusal E8 offset ∷ []
 
 -- the collection that is changed: known, and one of the state of this discipline
 abbrev pub changed_refusals : Discipline → Option NameSort → ℕ → List Refusal
-changed_refusals d None place = refusal E7 place ∷ []
-changed_refusals d (Some ForVariable) place = refusal E8 place ∷ []
-changed_refusals d (Some ForFlag) place = refusal E8 place ∷ []
-changed_refusals d (Some (ForHeld other)) place = refusal_if (not (same_discipline other d)) E8 place
-changed_refusals d (Some ForInput) place = refusal E8 place ∷ []
-changed_refusals d (Some ForOutput) place = refusal E8 place ∷ []
-changed_refusals d (Some ForLoopVariable) place = refusal E8 place ∷ []
+changed_refusals d None offset = refusal E7 offset ∷ []
+changed_refusals d (Some ForVariable) offset = refusal E8 offset ∷ []
+changed_refusals d (Some ForFlag) offset = refusal E8 offset ∷ []
+changed_refusals d (Some (ForHeld other)) offset = refusal_if (not (same_discipline other d)) E8 offset
+changed_refusals d (Some ForInput) offset = refusal E8 offset ∷ []
+changed_refusals d (Some ForOutput) offset = refusal E8 offset ∷ []
+changed_refusals d (Some ForLoopVariable) offset = refusal E8 offset ∷ []
 
 abbrev pub phase_refusals : Known → Name → List Refusal
-phase_refusals known phase = refusal_if (not (known.has_phase phase.number)) E7 phase.place
+phase_refusals known phase = refusal_if (not (known.has_phase phase.number)) E7 phase.offset
 
 -- a loop variable whose name is that of an item or of the variable of a loop around: of the two the second in the text is refused
 abbrev pub loop_variable_refusals : Option ℕ → ℕ → List Refusal
-loop_variable_refusals None place = []
-loop_variable_refusals (Some declared) place = refusal E6 (max declared place) ∷ []
+loop_variable_refusals None offset = []
+loop_variable_refusals (Some declared) offset = refusal E6 (max declared offset) ∷ []
 
 -- the name of a command: a phase to go to, or a queue that loses its first value
 abbrev pub command_name_refusals : Known → Command → Name → List Refusal
 command_name_refusals known command.Goto name = phase_refusals known name
-command_name_refusals known command.Pop name = changed_refusals discipline.Queue (known.sort name.number) name.place
+command_name_refusals known command.Pop name = changed_refusals discipline.Queue (known.sort name.number) name.offset
 
 -- a collection is changed with a value: not in an output rule
 abbrev pub change_refusals : Known → Change → ℕ → Expression → Name → List Refusal
-change_refusals known c place value collection =
-    refusal_if (is_output_rule known.rule) E9 place
-    ++ (place_refusals Number known value
-    ++ changed_refusals (discipline_of_change c) (known.sort collection.number) collection.place)
+change_refusals known c offset value collection =
+    refusal_if (is_output_rule known.rule) E9 offset
+    ++ (offset_refusals Number known value
+    ++ changed_refusals (discipline_of_change c) (known.sort collection.number) collection.offset)
 
 abbrev pub statements_refusals : Known → Statements → List Refusal
 statements_refusals known Done = []
 statements_refusals known (Assign variable value rest) =
-    assignment_refusals known.rule (known.sort variable.number) variable.place
+    assignment_refusals known.rule (known.sort variable.number) variable.offset
     ++ (value_refusals (type_of_name (known.sort variable.number)) known value ++ statements_refusals known rest)
-statements_refusals known (Does c place name rest) =
-    refusal_if (is_output_rule known.rule) E9 place ++ (command_name_refusals known c name ++ statements_refusals known rest)
-statements_refusals known (Send place port value rest) =
-    refusal_if (not (is_output_rule known.rule)) E9 place
-    ++ (sent_port_refusals (known.sort port.number) port.place
-    ++ (place_refusals Number known value ++ statements_refusals known rest))
-statements_refusals known (If place condition block rest) =
-    place_refusals Truth known condition ++ (statements_refusals known block ++ statements_refusals known rest)
-statements_refusals known (IfElse place condition block other rest) =
-    place_refusals Truth known condition
+statements_refusals known (Does c offset name rest) =
+    refusal_if (is_output_rule known.rule) E9 offset ++ (command_name_refusals known c name ++ statements_refusals known rest)
+statements_refusals known (Send offset port value rest) =
+    refusal_if (not (is_output_rule known.rule)) E9 offset
+    ++ (sent_port_refusals (known.sort port.number) port.offset
+    ++ (offset_refusals Number known value ++ statements_refusals known rest))
+statements_refusals known (If offset condition block rest) =
+    offset_refusals Truth known condition ++ (statements_refusals known block ++ statements_refusals known rest)
+statements_refusals known (IfElse offset condition block other rest) =
+    offset_refusals Truth known condition
     ++ (statements_refusals known block ++ (statements_refusals known other ++ statements_refusals known rest))
-statements_refusals known (For place variable bag block rest) =
-    loop_variable_refusals (known.place variable.number) variable.place
-    ++ (held_name_refusals wanted.Values known.rule (known.sort bag.number) bag.place
+statements_refusals known (For offset variable bag block rest) =
+    loop_variable_refusals (known.offset variable.number) variable.offset
+    ++ (held_name_refusals wanted.Values known.rule (known.sort bag.number) bag.offset
     ++ (statements_refusals (known_in_loop variable known) block ++ statements_refusals known rest))
-statements_refusals known (Changes c place value collection rest) =
-    change_refusals known c place value collection ++ statements_refusals known rest
+statements_refusals known (Changes c offset value collection rest) =
+    change_refusals known c offset value collection ++ statements_refusals known rest
 
 -- an empty range, or a start value outside of it
 abbrev pub is_out_of_range : VariableRange → Bool
 is_out_of_range r = int_lt r.high r.low || (int_lt r.start r.low || int_lt r.high r.start)
 
 abbrev pub variable_refusals : Variable → List Refusal
-variable_refusals v = refusal_if (is_out_of_range (range_of v)) E11 v.name.place
+variable_refusals v = refusal_if (is_out_of_range (range_of v)) E11 v.name.offset
 
 -- what a bag or a queue may be declared to hold at most: at least one value
 abbrev pub is_capacity : ℕ → Bool
 is_capacity n = nat_le 1 n && nat_le n greatest_count
 
 abbrev pub collection_refusals : StateCollection → List Refusal
-collection_refusals c = refusal_if (not (is_capacity c.capacity.value)) E17 c.capacity.place
+collection_refusals c = refusal_if (not (is_capacity c.capacity.value)) E17 c.capacity.offset
 
 -- what a declaration says wrong of its name
 abbrev pub declaration_refusals : Declaration → List Refusal
@@ -294,7 +294,7 @@ start_refusals known s = phase_refusals known s.phase
 
 abbrev pub ticks_refusals : Known → Option Expression → List Refusal
 ticks_refusals known None = []
-ticks_refusals known (Some e) = place_refusals Number known e
+ticks_refusals known (Some e) = offset_refusals Number known e
 
 abbrev pub hold_refusals : Known → HoldTree → List Refusal
 hold_refusals known h = phase_refusals known h.phase ++ ticks_refusals known h.ticks
@@ -346,14 +346,14 @@ is_start_known_by starts name = is_in_range (value_for starts.domains name)
 -- an expression without names but these
 abbrev pub names_only : (ℕ → Bool) → Expression → Bool
 names_only known (Literal n) = true
-names_only known (TruthValue place value) = true
+names_only known (TruthValue offset value) = true
 names_only known (Named name) = known name.number
-names_only known (Parens place e) = names_only known e
-names_only known (Prefixed operator place e) = names_only known e
+names_only known (Parens offset e) = names_only known e
+names_only known (Prefixed operator offset e) = names_only known e
 names_only known (Binary operator a b) = names_only known a && names_only known b
-names_only known (Call call place bag) = known bag.number
-names_only known (Elapsed place) = true
-names_only known (Times place e bag) = names_only known e && known bag.number
+names_only known (Call call offset bag) = known bag.number
+names_only known (Elapsed offset) = true
+names_only known (Times offset e bag) = names_only known e && known bag.number
 
 abbrev pub ticks_names_only : (ℕ → Bool) → Option Expression → Bool
 ticks_names_only known None = true
@@ -376,7 +376,7 @@ is_start_fault known m phase =
 -- the hold of the phase of the first start item
 abbrev pub start_hold_refusals : Known → AtomicTree → List Start → List Refusal
 start_hold_refusals known m [] = []
-start_hold_refusals known m (s ∷ starts) = refusal_if (is_start_fault known m s.phase) E11 s.phase.place
+start_hold_refusals known m (s ∷ starts) = refusal_if (is_start_fault known m s.phase) E11 s.phase.offset
 
 -- ---- All of them
 

@@ -12,9 +12,9 @@ use Rattle.dv_check.specs.Names.{first_of}
 unfoldable pub entry_for : {V : Type 0} → List (ℕ × V) → ℕ → Option V
 entry_for {V} entries q = first_of (λ (e : ℕ × V). e.0) (λ (e : ℕ × V). e.1) entries q
 
--- the value at an index of a list that has empty places
+-- the value at an index of a list that has empty offsets
 unfoldable pub value_at : {V : Type 0} → List (Option V) → ℕ → Option V
-value_at places index = option_flatten (slice_get places index)
+value_at offsets index = option_flatten (slice_get offsets index)
 
 -- the value that a table has for a number
 unfoldable pub table_value : {V : Type 0} → Table V → ℕ → Option V

@@ -23,11 +23,11 @@ use Rattle.dv_bag.specs.declared.value.ValueType.{ValueType}
 use Rattle.dv_bag.specs.declared.value.ValueType.TheVariants.{Number, Truth}
 use Rattle.dv_check.specs.Names.{refusal, refusal_if}
 
--- what is known at a place of an atomic model: what ports, variables, flags, bags, queues and loop variables stand for, where they
+-- what is known at an offset of an atomic model: what ports, variables, flags, bags, queues and loop variables stand for, where they
 -- are declared, the phases, and the sort of the rule around; a hold stands in no rule
 pub record Known : Type 0 where
   pub sort : ℕ → Option NameSort
-  pub place : ℕ → Option ℕ
+  pub offset : ℕ → Option ℕ
   pub has_phase : ℕ → Bool
   pub rule : Option RuleSort
 
@@ -53,17 +53,17 @@ same_type Truth Truth = true
 same_type Number Truth = false
 same_type Truth Number = false
 
--- the place of an expression's first token
-abbrev pub first_place : Expression → ℕ
-first_place (Literal n) = n.place
-first_place (TruthValue place value) = place
-first_place (Named name) = name.place
-first_place (Parens place e) = place
-first_place (Prefixed operator place e) = place
-first_place (Binary operator a b) = first_place a
-first_place (Call c place bag) = place
-first_place (Elapsed place) = place
-first_place (Times place e bag) = place
+-- the offset of an expression's first token
+abbrev pub first_offset : Expression → ℕ
+first_offset (Literal n) = n.offset
+first_offset (TruthValue offset value) = offset
+first_offset (Named name) = name.offset
+first_offset (Parens offset e) = offset
+first_offset (Prefixed operator offset e) = offset
+first_offset (Binary operator a b) = first_offset a
+first_offset (Call c offset bag) = offset
+first_offset (Elapsed offset) = offset
+first_offset (Times offset e bag) = offset
 
 abbrev pub type_of_name : Option NameSort → Option ValueType
 type_of_name None = None
@@ -144,20 +144,20 @@ type_of_operator AtLeast a b = type_if (both_of Number a b) Truth
 -- the type of an expression; what is refused, or has a refused part, has none
 abbrev pub type_of : Known → Expression → Option ValueType
 type_of known (Literal n) = Some Number
-type_of known (TruthValue place value) = Some Truth
+type_of known (TruthValue offset value) = Some Truth
 type_of known (Named name) = type_of_name (known.sort name.number)
-type_of known (Parens place e) = type_of known e
-type_of known (Prefixed operator place e) = type_if (is_of (type_of_prefix operator) (type_of known e)) (type_of_prefix operator)
+type_of known (Parens offset e) = type_of known e
+type_of known (Prefixed operator offset e) = type_if (is_of (type_of_prefix operator) (type_of known e)) (type_of_prefix operator)
 type_of known (Binary operator a b) = type_of_operator operator (type_of known a) (type_of known b)
-type_of known (Call c place bag) = type_if (is_readable (wanted_by c) known.rule (known.sort bag.number)) Number
-type_of known (Elapsed place) = type_if (knows_elapsed known.rule) Number
-type_of known (Times place e bag) =
+type_of known (Call c offset bag) = type_if (is_readable (wanted_by c) known.rule (known.sort bag.number)) Number
+type_of known (Elapsed offset) = type_if (knows_elapsed known.rule) Number
+type_of known (Times offset e bag) =
     type_if (is_of Number (type_of known e) && is_readable wanted.Bag known.rule (known.sort bag.number)) Number
 
--- an expression of another type than its place wants
+-- an expression of another type than its offset wants
 abbrev pub type_refusals : ValueType → Option ValueType → ℕ → List Refusal
-type_refusals wanted None place = []
-type_refusals wanted (Some t) place = refusal_if (not (same_type wanted t)) E8 place
+type_refusals wanted None offset = []
+type_refusals wanted (Some t) offset = refusal_if (not (same_type wanted t)) E8 offset
 
 abbrev pub differ : Option ValueType → Option ValueType → Bool
 differ None b = false
@@ -166,71 +166,71 @@ differ (Some a) (Some b) = not (same_type a b)
 
 -- two operands where this type is wanted of both
 abbrev pub operands_wanted : ValueType → Option ValueType → ℕ → Option ValueType → ℕ → List Refusal
-operands_wanted wanted a a_place b b_place = type_refusals wanted a a_place ++ type_refusals wanted b b_place
+operands_wanted wanted a a_offset b b_offset = type_refusals wanted a a_offset ++ type_refusals wanted b b_offset
 
--- what an operator finds wrong with its operands, which begin at these places
+-- what an operator finds wrong with its operands, which begin at these offsets
 abbrev pub operand_refusals : Operator → Option ValueType → ℕ → Option ValueType → ℕ → List Refusal
-operand_refusals Or a a_place b b_place = operands_wanted Truth a a_place b b_place
-operand_refusals And a a_place b b_place = operands_wanted Truth a a_place b b_place
-operand_refusals Equal a a_place b b_place = refusal_if (differ a b) E8 b_place
-operand_refusals Unequal a a_place b b_place = refusal_if (differ a b) E8 b_place
-operand_refusals Add a a_place b b_place = operands_wanted Number a a_place b b_place
-operand_refusals Subtract a a_place b b_place = operands_wanted Number a a_place b b_place
-operand_refusals Multiply a a_place b b_place = operands_wanted Number a a_place b b_place
-operand_refusals Divide a a_place b b_place = operands_wanted Number a a_place b b_place
-operand_refusals Remainder a a_place b b_place = operands_wanted Number a a_place b b_place
-operand_refusals Less a a_place b b_place = operands_wanted Number a a_place b b_place
-operand_refusals AtMost a a_place b b_place = operands_wanted Number a a_place b b_place
-operand_refusals Greater a a_place b b_place = operands_wanted Number a a_place b b_place
-operand_refusals AtLeast a a_place b b_place = operands_wanted Number a a_place b b_place
+operand_refusals Or a a_offset b b_offset = operands_wanted Truth a a_offset b b_offset
+operand_refusals And a a_offset b b_offset = operands_wanted Truth a a_offset b b_offset
+operand_refusals Equal a a_offset b b_offset = refusal_if (differ a b) E8 b_offset
+operand_refusals Unequal a a_offset b b_offset = refusal_if (differ a b) E8 b_offset
+operand_refusals Add a a_offset b b_offset = operands_wanted Number a a_offset b b_offset
+operand_refusals Subtract a a_offset b b_offset = operands_wanted Number a a_offset b b_offset
+operand_refusals Multiply a a_offset b b_offset = operands_wanted Number a a_offset b b_offset
+operand_refusals Divide a a_offset b b_offset = operands_wanted Number a a_offset b b_offset
+operand_refusals Remainder a a_offset b b_offset = operands_wanted Number a a_offset b b_offset
+operand_refusals Less a a_offset b b_offset = operands_wanted Number a a_offset b b_offset
+operand_refusals AtMost a a_offset b b_offset = operands_wanted Number a a_offset b b_offset
+operand_refusals Greater a a_offset b b_offset = operands_wanted Number a a_offset b b_offset
+operand_refusals AtLeast a a_offset b b_offset = operands_wanted Number a a_offset b b_offset
 
 -- a name where a value is wanted: that of a variable, a flag or a loop variable
 abbrev pub value_name_refusals : Option NameSort → ℕ → List Refusal
-value_name_refusals None place = refusal E7 place ∷ []
-value_name_refusals (Some Variable) place = []
-value_name_refusals (Some Flag) place = []
-value_name_refusals (Some (Held d)) place = refusal E8 place ∷ []
-value_name_refusals (Some Input) place = refusal E8 place ∷ []
-value_name_refusals (Some Output) place = refusal E8 place ∷ []
-value_name_refusals (Some LoopVariable) place = []
+value_name_refusals None offset = refusal E7 offset ∷ []
+value_name_refusals (Some Variable) offset = []
+value_name_refusals (Some Flag) offset = []
+value_name_refusals (Some (Held d)) offset = refusal E8 offset ∷ []
+value_name_refusals (Some Input) offset = refusal E8 offset ∷ []
+value_name_refusals (Some Output) offset = refusal E8 offset ∷ []
+value_name_refusals (Some LoopVariable) offset = []
 
 -- an input port where this is wanted: it is a bag, which can be read in external and confluent rules alone
 abbrev pub port_refusals : Wanted → Option RuleSort → ℕ → List Refusal
-port_refusals w rule place = if suits_port w then refusal_if (not (sees_inputs rule)) E9 place else refusal E8 place ∷ []
+port_refusals w rule offset = if suits_port w then refusal_if (not (sees_inputs rule)) E9 offset else refusal E8 offset ∷ []
 
 -- a name where this is wanted, to be read
 abbrev pub held_name_refusals : Wanted → Option RuleSort → Option NameSort → ℕ → List Refusal
-held_name_refusals w rule None place = refusal E7 place ∷ []
-held_name_refusals w rule (Some Variable) place = refusal E8 place ∷ []
-held_name_refusals w rule (Some Flag) place = refusal E8 place ∷ []
-held_name_refusals w rule (Some (Held d)) place = refusal_if (not (suits w d)) E8 place
-held_name_refusals w rule (Some Input) place = port_refusals w rule place
-held_name_refusals w rule (Some Output) place = refusal E8 place ∷ []
-held_name_refusals w rule (Some LoopVariable) place = refusal E8 place ∷ []
+held_name_refusals w rule None offset = refusal E7 offset ∷ []
+held_name_refusals w rule (Some Variable) offset = refusal E8 offset ∷ []
+held_name_refusals w rule (Some Flag) offset = refusal E8 offset ∷ []
+held_name_refusals w rule (Some (Held d)) offset = refusal_if (not (suits w d)) E8 offset
+held_name_refusals w rule (Some Input) offset = port_refusals w rule offset
+held_name_refusals w rule (Some Output) offset = refusal E8 offset ∷ []
+held_name_refusals w rule (Some LoopVariable) offset = refusal E8 offset ∷ []
 
 abbrev pub expression_refusals : Known → Expression → List Refusal
 expression_refusals known (Literal n) = []
-expression_refusals known (TruthValue place value) = []
-expression_refusals known (Named name) = value_name_refusals (known.sort name.number) name.place
-expression_refusals known (Parens place e) = expression_refusals known e
-expression_refusals known (Prefixed operator place e) =
-    expression_refusals known e ++ type_refusals (type_of_prefix operator) (type_of known e) (first_place e)
+expression_refusals known (TruthValue offset value) = []
+expression_refusals known (Named name) = value_name_refusals (known.sort name.number) name.offset
+expression_refusals known (Parens offset e) = expression_refusals known e
+expression_refusals known (Prefixed operator offset e) =
+    expression_refusals known e ++ type_refusals (type_of_prefix operator) (type_of known e) (first_offset e)
 expression_refusals known (Binary operator a b) =
     expression_refusals known a
     ++ (expression_refusals known b
-    ++ operand_refusals operator (type_of known a) (first_place a) (type_of known b) (first_place b))
-expression_refusals known (Call c place bag) = held_name_refusals (wanted_by c) known.rule (known.sort bag.number) bag.place
-expression_refusals known (Elapsed place) = refusal_if (not (knows_elapsed known.rule)) E9 place
-expression_refusals known (Times place e bag) =
+    ++ operand_refusals operator (type_of known a) (first_offset a) (type_of known b) (first_offset b))
+expression_refusals known (Call c offset bag) = held_name_refusals (wanted_by c) known.rule (known.sort bag.number) bag.offset
+expression_refusals known (Elapsed offset) = refusal_if (not (knows_elapsed known.rule)) E9 offset
+expression_refusals known (Times offset e bag) =
     expression_refusals known e
-    ++ (type_refusals Number (type_of known e) (first_place e)
-    ++ held_name_refusals wanted.Bag known.rule (known.sort bag.number) bag.place)
+    ++ (type_refusals Number (type_of known e) (first_offset e)
+    ++ held_name_refusals wanted.Bag known.rule (known.sort bag.number) bag.offset)
 
--- an expression in a place that wants a type
-abbrev pub place_refusals : ValueType → Known → Expression → List Refusal
-place_refusals wanted known e = expression_refusals known e ++ type_refusals wanted (type_of known e) (first_place e)
+-- an expression in an offset that wants a type
+abbrev pub offset_refusals : ValueType → Known → Expression → List Refusal
+offset_refusals wanted known e = expression_refusals known e ++ type_refusals wanted (type_of known e) (first_offset e)
 
 -- an expression whose value goes where this type is wanted, or where nothing is wanted of it
 abbrev pub value_refusals : Option ValueType → Known → Expression → List Refusal
 value_refusals None known e = expression_refusals known e
-value_refusals (Some wanted) known e = place_refusals wanted known e
+value_refusals (Some wanted) known e = offset_refusals wanted known e

@@ -12,8 +12,8 @@ ghost use Rattle.dv_check.specs.Names.{excess, refusal_if, repeats};
 ghost use Rattle.dv_check.specs.Tables.{has};
 ghost use Rattle.dv_check.specs.Rules.{atomic_refusals, can_ask_hold, holds_once_refusals, is_fault, is_hold_fine};
 ghost use Rattle.dv_check.specs.Rules.{is_hold_missing, is_start_fault, known_by, name_of_declaration, name_of_state_variable};
-ghost use Rattle.dv_check.specs.Rules.{names_refusals, once_refusals, phases_places, ports_in, ruled_phases, standing_refusals};
-ghost use Rattle.dv_check.specs.Rules.{start_hold_refusals, start_places, ticks_refusals};
+ghost use Rattle.dv_check.specs.Rules.{names_refusals, once_refusals, phases_offsets, ports_in, ruled_phases, standing_refusals};
+ghost use Rattle.dv_check.specs.Rules.{start_hold_refusals, start_offsets, ticks_refusals};
 
 use crate::declarations::Declarations;
 use crate::findings::Findings;
@@ -142,19 +142,19 @@ fn check_standing(alloc: Global, model: &Atomic, found: &mut Findings) -> Result
 
 fn check_phases_once(alloc: Global, model: &Atomic, found: &mut Findings) -> Result<(), AllocError>
     ensures { OnOk result (found.new ≡ with_refusals found.old
-        (once_refusals model.now.name.place (phases_places (atomic_of model.now).phases))) }
+        (once_refusals model.now.name.offset (phases_offsets (atomic_of model.now).phases))) }
 {
-    let places = phases_places(alloc, &model.phases)?;
-    check_once(model.name.place, &places, found);
+    let offsets = phases_offsets(alloc, &model.phases)?;
+    check_once(model.name.offset, &offsets, found);
     Ok(())
 }
 
 fn check_start_once(alloc: Global, model: &Atomic, found: &mut Findings) -> Result<(), AllocError>
     ensures { OnOk result (found.new ≡ with_refusals found.old
-        (once_refusals model.now.name.place (start_places (atomic_of model.now).starts))) }
+        (once_refusals model.now.name.offset (start_offsets (atomic_of model.now).starts))) }
 {
-    let places = start_places(alloc, &model.starts)?;
-    check_once(model.name.place, &places, found);
+    let offsets = start_offsets(alloc, &model.starts)?;
+    check_once(model.name.offset, &offsets, found);
     Ok(())
 }
 
@@ -166,37 +166,37 @@ fn check_holds_once(alloc: Global, model: &Atomic, found: &mut Findings) -> Resu
     find_repeats(alloc, RefusalNumber::E10, &held, found)?;
     let held = NumberSet::of(alloc, &held)?;
     let phases = within_limit(GREATEST_NAMES, names::first_phases(&model.phases));
-    check_holds_stand(model.name.place, &held, phases, found);
+    check_holds_stand(model.name.offset, &held, phases, found);
     Ok(())
 }
 
-fn check_holds_stand(model_place: u32, held: &NumberSet, phases: &[Name], found: &mut Findings)
+fn check_holds_stand(model_offset: u32, held: &NumberSet, phases: &[Name], found: &mut Findings)
     ensures { found.new ≡ with_refusals found.old
-        (refusal_if (is_hold_missing (has held.now) phases.now) E10 model_place) }
+        (refusal_if (is_hold_missing (has held.now) phases.now) E10 model_offset) }
 {
     if is_hold_missing(held, phases) {
-        found.note(RefusalNumber::E10, model_place);
+        found.note(RefusalNumber::E10, model_offset);
     }
 }
 
 #[tactic(auto, using(crate::proofs::Lists::map_of_map))]
-fn phases_places(alloc: Global, items: &[Phases]) -> Result<Vec<u32>, AllocError>
-    ensures { IfOk result (λ places. places.items ≡ phases_places (map phases_of items.now)) }
+fn phases_offsets(alloc: Global, items: &[Phases]) -> Result<Vec<u32>, AllocError>
+    ensures { IfOk result (λ offsets. offsets.items ≡ phases_offsets (map phases_of items.now)) }
 {
-    items.iter().map(|item| item.place).collect(alloc)
+    items.iter().map(|item| item.offset).collect(alloc)
 }
 
-fn start_places(alloc: Global, items: &[Start]) -> Result<Vec<u32>, AllocError>
-    ensures { IfOk result (λ places. places.items ≡ start_places items.now) }
+fn start_offsets(alloc: Global, items: &[Start]) -> Result<Vec<u32>, AllocError>
+    ensures { IfOk result (λ offsets. offsets.items ≡ start_offsets items.now) }
 {
-    items.iter().map(|item| item.place).collect(alloc)
+    items.iter().map(|item| item.offset).collect(alloc)
 }
 
-fn check_once(model_place: u32, places: &[u32], found: &mut Findings)
-    ensures { found.new ≡ with_refusals found.old (once_refusals model_place places.now) }
+fn check_once(model_offset: u32, offsets: &[u32], found: &mut Findings)
+    ensures { found.new ≡ with_refusals found.old (once_refusals model_offset offsets.now) }
 {
-    match places {
-        [] => found.note(RefusalNumber::E10, model_place),
+    match offsets {
+        [] => found.note(RefusalNumber::E10, model_offset),
         [_] => {}
         [_, second, ..] => found.note(RefusalNumber::E10, *second),
     }
@@ -228,7 +228,7 @@ fn check_start_hold(
         return Ok(());
     };
     if is_start_fault(alloc, declarations, model, &start.phase)? {
-        found.note(RefusalNumber::E11, start.phase.place);
+        found.note(RefusalNumber::E11, start.phase.offset);
     }
     Ok(())
 }

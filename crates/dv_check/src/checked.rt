@@ -11,7 +11,9 @@ use dv_syntax::File;
 /// A file that breaks no rule, and the texts of its names, both of one model text; its type keeps that.
 #[derive(Drop)]
 pub struct Checked {
+    /// The tree of the text.
     pub file: File,
+    /// The texts of the names.
     pub names: Names,
     pub(crate) component_count: u32,
     pub ghost checked: { refusal_of (file_of file) ≡ None },

@@ -33,7 +33,7 @@ use std::alloc::{AllocError, Global};
 ///
 /// # Errors
 ///
-/// `Refused` has the file's refusal: of all rules that the file breaks the one at the least place, and there the one
+/// `Refused` has the file's refusal: of all rules that the file breaks the one at the least offset, and there the one
 /// of the least number. The limits on the whole tree are asked only where no other rule is broken. `Memory`: no memory
 /// for the tables of names and of models.
 pub fn check(alloc: Global, file: File, names: Names) -> Result<Checked, LoadError>
@@ -89,7 +89,7 @@ fn components_within_limits(alloc: Global, file: &File) -> Result<u32, LoadError
         → limit_refusals (file_of file.now) ≡ refusal ∷ [] }
 {
     match model_named(&file.models, file.root.number) {
-        Some(root) => components_of_root(alloc, &file.models, root, file.root.place),
+        Some(root) => components_of_root(alloc, &file.models, root, file.root.offset),
         None => Ok(0),
     }
 }
@@ -99,19 +99,19 @@ fn components_of_root(
     alloc: Global,
     models: &[Model],
     root: &Model,
-    place: u32,
+    offset: u32,
 ) -> Result<u32, LoadError>
     ensures within { OnOk result (root_limit_refusals (map model_of models.now)
-        (Some (model_of root.now)) place ≡ []) }
+        (Some (model_of root.now)) offset ≡ []) }
     ensures counted { IfOk result (λ count. count
         ≡ components_at (map model_of models.now) (Some (model_of root.now))) }
     ensures refused { (refusal : Refusal) → result ≡ Err (Refused refusal)
-        → root_limit_refusals (map model_of models.now) (Some (model_of root.now)) place
+        → root_limit_refusals (map model_of models.now) (Some (model_of root.now)) offset
         ≡ refusal ∷ [] }
 {
     match root {
         Model::Atomic(_) => Ok(0),
-        Model::Coupled(coupled) => components_inside(alloc, models, coupled, place),
+        Model::Coupled(coupled) => components_inside(alloc, models, coupled, offset),
     }
 }
 
@@ -120,30 +120,30 @@ fn components_inside(
     alloc: Global,
     models: &[Model],
     root: &Coupled,
-    place: u32,
+    offset: u32,
 ) -> Result<u32, LoadError>
     ensures within { OnOk result (root_limit_refusals (map model_of models.now)
-        (Some (CoupledModel (coupled_of root.now))) place ≡ []) }
+        (Some (CoupledModel (coupled_of root.now))) offset ≡ []) }
     ensures counted { IfOk result (λ count. count
         ≡ component_count (tree_of (map model_of models.now) (coupled_of root.now))) }
     ensures refused { (refusal : Refusal) → result ≡ Err (Refused refusal)
         → root_limit_refusals (map model_of models.now) (Some (CoupledModel (coupled_of root.now)))
-        place ≡ refusal ∷ [] }
+        offset ≡ refusal ∷ [] }
 {
     let within = components_within(alloc, models, root)?;
-    Ok(test_limits(within, place)?)
+    Ok(test_limits(within, offset)?)
 }
 
-// The number of components of a root whose name stands at this place, if its tree passes no limit.
-fn test_limits(within: Option<u32>, place: u32) -> Result<u32, Refusal>
+// The number of components of a root whose name stands at this offset, if its tree passes no limit.
+fn test_limits(within: Option<u32>, offset: u32) -> Result<u32, Refusal>
     ensures within { IfOk result (λ count. within ≡ Some count) }
-    ensures refused { IfErr result (λ r. (r ≡ refusal E17 place) × (within ≡ None)) }
+    ensures refused { IfErr result (λ r. (r ≡ refusal E17 offset) × (within ≡ None)) }
 {
     match within {
         Some(count) => Ok(count),
         None => Err(Refusal {
             number: RefusalNumber::E17,
-            place,
+            offset,
         }),
     }
 }
@@ -220,20 +220,20 @@ fn model_named(models: &[Model], number: u32) -> Option<&Model>
 fn check_root(file: &File, found: &mut Findings)
     ensures { found.new ≡ with_refusals found.old
         (root_refusals (model_named file.now.root.number (file_of file.now).models)
-        file.now.root.place) }
+        file.now.root.offset) }
 {
     match model_named(&file.models, file.root.number) {
-        Some(model) => check_root_model(model, file.root.place, found),
-        None => found.note(RefusalNumber::E7, file.root.place),
+        Some(model) => check_root_model(model, file.root.offset, found),
+        None => found.note(RefusalNumber::E7, file.root.offset),
     }
 }
 
-fn check_root_model(model: &Model, place: u32, found: &mut Findings)
+fn check_root_model(model: &Model, offset: u32, found: &mut Findings)
     ensures { found.new ≡ with_refusals found.old
-        (root_refusals (Some (model_of model.now)) place) }
+        (root_refusals (Some (model_of model.now)) offset) }
 {
     match model {
-        Model::Atomic(_) => found.note(RefusalNumber::E16, place),
+        Model::Atomic(_) => found.note(RefusalNumber::E16, offset),
         Model::Coupled(_) => {}
     }
 }

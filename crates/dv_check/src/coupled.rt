@@ -111,7 +111,7 @@ fn find_repeated_links(
     let mut seen = LinkSet::new(alloc);
     for link in links {
         if !seen.insert(link)? && has_ends(interior, link) {
-            found.note(RefusalNumber::E14, link.place);
+            found.note(RefusalNumber::E14, link.offset);
         }
     }
     Ok(())

@@ -129,7 +129,7 @@ fn check_part(
 {
     if let Some(inner) = positions.get(part.model.number) {
         if number_at(numbers, *inner) == number_at(numbers, outer) {
-            found.note(RefusalNumber::E15, part.model.place);
+            found.note(RefusalNumber::E15, part.model.offset);
         }
     }
 }

@@ -6,12 +6,12 @@ ghost use Rattle.dv_syntax.specs.Trees.{atomic_of, hold_of, rule_of, ticks_of};
 ghost use Rattle.dv_check.specs.Findings.{with_refusals};
 ghost use Rattle.dv_check.specs.Tables.{value_for};
 ghost use Rattle.dv_check.specs.Rules.{collection_refusals, declaration_refusals, hold_refusals, is_capacity, is_out_of_range};
-ghost use Rattle.dv_check.specs.Rules.{items_refusals, known_by, known_in, phase_refusals, place_in, rule_refusals, sort_in};
+ghost use Rattle.dv_check.specs.Rules.{items_refusals, known_by, known_in, phase_refusals, offset_in, rule_refusals, sort_in};
 ghost use Rattle.dv_check.specs.Rules.{sort_of, start_refusals, ticks_refusals, variable_refusals};
 
 use crate::directory::Directory;
 use crate::environment::Environment;
-use crate::expression::check_place;
+use crate::expression::check_offset;
 use crate::findings::Findings;
 use crate::names;
 use crate::number_set::NumberSet;
@@ -22,24 +22,31 @@ use dv_lex::RefusalNumber;
 use dv_syntax::{Atomic, Declaration, Hold, Name, Rule, Start, StateCollection, Ticks, Variable};
 use std::alloc::{AllocError, Global};
 
-/// What a name stands for at a place of an atomic model.
+/// What a name stands for at an offset of an atomic model.
 #[derive(Clone, Copy, Debug, PartialEq, Eq)]
 pub enum NameSort {
+    /// A variable of the state, which holds a number.
     Variable,
+    /// A flag of the state.
     Flag,
     /// A bag or a queue of the state.
     Held(Discipline),
+    /// An input port.
     Input,
+    /// An output port.
     Output,
+    /// The variable of a loop around.
     LoopVariable,
 }
 
 /// The names that an atomic model declares.
 #[derive(Drop)]
 pub struct Declarations {
+    /// What the name of each port, variable, flag, bag or queue stands for, by its first declaration.
     pub sorts: Directory<NameSort>,
     /// Where the first declaration of each name of a port, variable, flag, bag or queue stands.
-    pub places: Directory<u32>,
+    pub offsets: Directory<u32>,
+    /// The names of the phases.
     pub phases: NumberSet,
 }
 
@@ -73,15 +80,15 @@ pub fn sorts_of(
 
 // Where the names of ports, variables, flags, bags and queues are declared first.
 #[tactic(auto, using(crate::proofs::Firsts::first_of_none))]
-fn places_of(alloc: Global, declarations: &[Declaration]) -> Result<Directory<u32>, AllocError>
-    ensures { IfOk result (λ places. value_for places ≡ place_in declarations.now) }
+fn offsets_of(alloc: Global, declarations: &[Declaration]) -> Result<Directory<u32>, AllocError>
+    ensures { IfOk result (λ offsets. value_for offsets ≡ offset_in declarations.now) }
 {
-    let mut places = Directory::with_room(alloc, declarations.len())?;
+    let mut offsets = Directory::with_room(alloc, declarations.len())?;
     for declaration in declarations {
         let name = names::name_of_declaration(declaration);
-        places.add(name.number, name.place)?;
+        offsets.add(name.number, name.offset)?;
     }
-    Ok(places)
+    Ok(offsets)
 }
 
 impl Declarations {
@@ -92,7 +99,7 @@ impl Declarations {
         let phases = names::phases(alloc, &model.phases)?;
         Ok(Declarations {
             sorts: sorts_of(alloc, &model.declarations)?,
-            places: places_of(alloc, &model.declarations)?,
+            offsets: offsets_of(alloc, &model.declarations)?,
             phases: NumberSet::of(alloc, &phases)?,
         })
     }
@@ -153,7 +160,7 @@ impl Declarations {
                     declarations: self,
                     rule: None,
                 };
-                check_place(ValueType::Number, &environment, expression, found);
+                check_offset(ValueType::Number, &environment, expression, found);
             }
         }
     }
@@ -164,7 +171,7 @@ impl Declarations {
             (phase_refusals (known_by self.now) phase.now) }
     {
         if !self.phases.contains(phase.number) {
-            found.note(RefusalNumber::E7, phase.place);
+            found.note(RefusalNumber::E7, phase.offset);
         }
     }
 }
@@ -207,7 +214,7 @@ fn check_variable(variable: &Variable, found: &mut Findings)
     ensures { found.new ≡ with_refusals found.old (variable_refusals variable.now) }
 {
     if is_out_of_range(VariableRange::of(variable)) {
-        found.note(RefusalNumber::E11, variable.name.place);
+        found.note(RefusalNumber::E11, variable.name.offset);
     }
 }
 
@@ -216,6 +223,6 @@ fn check_capacity(collection: &StateCollection, found: &mut Findings)
 {
     let capacity = collection.capacity.value.value() as u64;
     if !is_capacity(capacity) {
-        found.note(RefusalNumber::E17, collection.capacity.place);
+        found.note(RefusalNumber::E17, collection.capacity.offset);
     }
 }

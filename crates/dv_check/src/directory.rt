@@ -14,7 +14,9 @@ const GREATEST_FEW: usize = 8;
 /// sooner than a table is made for it.
 #[derive(Drop)]
 pub enum Directory<V: Drop> {
+    /// At most eight numbers with their values, which are looked for one after the other.
     Few(Vec<(u32, V)>),
+    /// A table of more.
     Many(Box<Table<V>>),
 }
 

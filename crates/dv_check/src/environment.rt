@@ -1,4 +1,4 @@
-//! What names stand for at a place of an atomic model.
+//! What names stand for at an offset of an atomic model.
 
 ghost use Rattle.std.specs.Prelude.{◌≡◌};
 ghost use Rattle.dv_check.specs.Rules.{known_at};
@@ -6,17 +6,21 @@ ghost use Rattle.dv_check.specs.Rules.{known_at};
 use crate::declarations::{Declarations, NameSort};
 use dv_syntax::{Name, RuleSort};
 
-/// What names stand for at a place of an atomic model.
+/// What names stand for at an offset of an atomic model.
 #[derive(Clone, Copy)]
 pub enum Environment<'a> {
     /// Outside of all loops: what the model declares, in a rule of this sort; in a hold there is none.
     Model {
+        /// What the model declares.
         declarations: &'a Declarations,
+        /// The sort of the rule; none in a hold.
         rule: Option<RuleSort>,
     },
     /// In the block of a loop, whose variable hides what else has its name.
     Loop {
+        /// The variable of the loop.
         variable: Name,
+        /// What names stand for around the loop.
         outer: &'a Environment<'a>,
     },
 }
@@ -38,17 +42,17 @@ impl<'a> Environment<'a> {
         }
     }
 
-    /// The place at which a name is declared.
-    pub fn place(&self, name: u32) -> Option<u32>
-        ensures { result ≡ (known_at self.now).place name }
+    /// The offset at which a name is declared.
+    pub fn offset(&self, name: u32) -> Option<u32>
+        ensures { result ≡ (known_at self.now).offset name }
     {
         match self {
-            Environment::Model { declarations, .. } => declarations.places.get(name).copied(),
+            Environment::Model { declarations, .. } => declarations.offsets.get(name).copied(),
             Environment::Loop { variable, outer } => {
                 if variable.number == name {
-                    Some(variable.place)
+                    Some(variable.offset)
                 } else {
-                    outer.place(name)
+                    outer.offset(name)
                 }
             }
         }

@@ -7,8 +7,8 @@ ghost use Rattle.dv_check.specs.Findings.{with_refusals};
 ghost use Rattle.dv_check.specs.Rules.{known_at};
 ghost use Rattle.dv_check.specs.Names.{refusal_if};
 ghost use Rattle.dv_check.specs.Types.{alike, both_of, differ, held_name_refusals, is_of, is_readable, knows_elapsed, operands_wanted};
-ghost use Rattle.dv_check.specs.Types.{port_refusals, sees_inputs, suits_port, type_if, expression_refusals, first_place};
-ghost use Rattle.dv_check.specs.Types.{operand_refusals, place_refusals, type_of, type_of_operator, type_of_name, type_of_prefix};
+ghost use Rattle.dv_check.specs.Types.{port_refusals, sees_inputs, suits_port, type_if, expression_refusals, first_offset};
+ghost use Rattle.dv_check.specs.Types.{operand_refusals, offset_refusals, type_of, type_of_operator, type_of_name, type_of_prefix};
 ghost use Rattle.dv_check.specs.Types.{type_refusals, value_name_refusals, value_refusals};
 
 use crate::declarations::NameSort;
@@ -19,21 +19,23 @@ use dv_bag::ValueType;
 use dv_lex::RefusalNumber;
 use dv_syntax::{Expr, Name, Operator, Prefix, RuleSort};
 
-/// The type of an expression, unless it is refused, and the place of its first token.
+/// The type of an expression, unless it is refused, and the offset of its first token.
 #[derive(Clone, Copy)]
 pub struct Typed {
+    /// The type; none where the expression is refused.
     pub value_type: Option<ValueType>,
-    pub place: u32,
+    /// The offset of the first token, in bytes of the text.
+    pub offset: u32,
 }
 
-/// Tests an expression in a place that wants a type.
-pub fn check_place(
+/// Tests an expression in an offset that wants a type.
+pub fn check_offset(
     wanted: ValueType,
     environment: &Environment,
     expression: &Expr,
     found: &mut Findings,
 )
-    ensures { found.new ≡ with_refusals found.old (place_refusals wanted
+    ensures { found.new ≡ with_refusals found.old (offset_refusals wanted
         (known_at environment.now) (expression_of expression.now)) }
 {
     let given = check_expression(environment, expression, found);
@@ -51,7 +53,7 @@ pub fn check_value(
         (known_at environment.now) (expression_of expression.now)) }
 {
     match wanted {
-        Some(wanted) => check_place(wanted, environment, expression, found),
+        Some(wanted) => check_offset(wanted, environment, expression, found),
         None => {
             check_expression(environment, expression, found);
         }
@@ -61,33 +63,33 @@ pub fn check_value(
 fn check_expression(environment: &Environment, expression: &Expr, found: &mut Findings) -> Typed
     ensures value_type { result.value_type ≡ type_of (known_at environment.now)
         (expression_of expression.now) }
-    ensures place { result.place ≡ first_place (expression_of expression.now) }
+    ensures offset { result.offset ≡ first_offset (expression_of expression.now) }
     ensures found { found.new ≡ with_refusals found.old (expression_refusals
         (known_at environment.now) (expression_of expression.now)) }
 {
     match expression {
         Expr::Literal(number) => Typed {
             value_type: Some(ValueType::Number),
-            place: number.place,
+            offset: number.offset,
         },
-        Expr::TruthValue { place, .. } => Typed {
+        Expr::TruthValue { offset, .. } => Typed {
             value_type: Some(ValueType::Truth),
-            place: *place,
+            offset: *offset,
         },
         Expr::Named(name) => Typed {
             value_type: check_value_name(environment, name, found),
-            place: name.place,
+            offset: name.offset,
         },
-        Expr::Parens { place, inner } => {
+        Expr::Parens { offset, inner } => {
             let given = check_expression(environment, inner, found);
             Typed {
                 value_type: given.value_type,
-                place: *place,
+                offset: *offset,
             }
         }
         Expr::Prefixed {
             operator,
-            place,
+            offset,
             operand,
         } => {
             let given = check_expression(environment, operand, found);
@@ -95,7 +97,7 @@ fn check_expression(environment: &Environment, expression: &Expr, found: &mut Fi
             want(wanted, given, found);
             Typed {
                 value_type: type_if(is_of(wanted, given.value_type), wanted),
-                place: *place,
+                offset: *offset,
             }
         }
         Expr::Binary {
@@ -107,28 +109,31 @@ fn check_expression(environment: &Environment, expression: &Expr, found: &mut Fi
             let b = check_expression(environment, right, found);
             Typed {
                 value_type: check_operands(*operator, a, b, found),
-                place: a.place,
+                offset: a.offset,
             }
         }
-        Expr::Call { call, place, bag } => {
+        Expr::Call { call, offset, bag } => {
             let is_readable = check_held(Wanted::by(*call), environment, bag, found);
             Typed {
                 value_type: type_if(is_readable, ValueType::Number),
-                place: *place,
+                offset: *offset,
             }
         }
-        Expr::Elapsed { place } => Typed {
-            value_type: type_if(check_elapsed(environment, *place, found), ValueType::Number),
-            place: *place,
+        Expr::Elapsed { offset } => Typed {
+            value_type: type_if(
+                check_elapsed(environment, *offset, found),
+                ValueType::Number,
+            ),
+            offset: *offset,
         },
-        Expr::Times { place, value, bag } => {
+        Expr::Times { offset, value, bag } => {
             let given = check_expression(environment, value, found);
             want(ValueType::Number, given, found);
             let is_bag = check_held(Wanted::Bag, environment, bag, found);
             let is_number = is_of(ValueType::Number, given.value_type);
             Typed {
                 value_type: type_if(is_number && is_bag, ValueType::Number),
-                place: *place,
+                offset: *offset,
             }
         }
     }
@@ -163,28 +168,28 @@ fn check_value_name(
 ) -> Option<ValueType>
     ensures value_type { result ≡ type_of_name ((known_at environment.now).sort name.now.number) }
     ensures found { found.new ≡ with_refusals found.old
-        (value_name_refusals ((known_at environment.now).sort name.now.number) name.now.place) }
+        (value_name_refusals ((known_at environment.now).sort name.now.number) name.now.offset) }
 {
     let sort = environment.sort(name.number);
     match sort {
         Some(NameSort::Variable | NameSort::Flag | NameSort::LoopVariable) => {}
         Some(NameSort::Held(_) | NameSort::Input | NameSort::Output) => {
-            found.note(RefusalNumber::E8, name.place);
+            found.note(RefusalNumber::E8, name.offset);
         }
-        None => found.note(RefusalNumber::E7, name.place),
+        None => found.note(RefusalNumber::E7, name.offset),
     }
     type_of_name(sort)
 }
 
 // Tests that `elapsed` is known, and answers whether it is.
-fn check_elapsed(environment: &Environment, place: u32, found: &mut Findings) -> bool
+fn check_elapsed(environment: &Environment, offset: u32, found: &mut Findings) -> bool
     ensures known { result ≡ knows_elapsed (known_at environment.now).rule }
     ensures found { found.new ≡ with_refusals found.old
-        (refusal_if (not (knows_elapsed (known_at environment.now).rule)) E9 place) }
+        (refusal_if (not (knows_elapsed (known_at environment.now).rule)) E9 offset) }
 {
     let knows_elapsed = environment.rule() == Some(RuleSort::External);
     if !knows_elapsed {
-        found.note(RefusalNumber::E9, place);
+        found.note(RefusalNumber::E9, offset);
     }
     knows_elapsed
 }
@@ -193,11 +198,11 @@ fn check_elapsed(environment: &Environment, place: u32, found: &mut Findings) ->
 fn check_input(environment: &Environment, port: &Name, found: &mut Findings) -> bool
     ensures seen { result ≡ sees_inputs (known_at environment.now).rule }
     ensures found { found.new ≡ with_refusals found.old
-        (refusal_if (not (sees_inputs (known_at environment.now).rule)) E9 port.now.place) }
+        (refusal_if (not (sees_inputs (known_at environment.now).rule)) E9 port.now.offset) }
 {
     let sees_inputs = sees_inputs(environment.rule());
     if !sees_inputs {
-        found.note(RefusalNumber::E9, port.place);
+        found.note(RefusalNumber::E9, port.offset);
     }
     sees_inputs
 }
@@ -217,12 +222,12 @@ fn sees_inputs(rule: Option<RuleSort>) -> bool
 fn check_port(wanted: Wanted, environment: &Environment, port: &Name, found: &mut Findings) -> bool
     ensures readable { result ≡ (suits_port wanted && sees_inputs (known_at environment.now).rule) }
     ensures found { found.new ≡ with_refusals found.old
-        (port_refusals wanted (known_at environment.now).rule port.now.place) }
+        (port_refusals wanted (known_at environment.now).rule port.now.offset) }
 {
     if wanted.suits_port() {
         check_input(environment, port, found)
     } else {
-        found.note(RefusalNumber::E8, port.place);
+        found.note(RefusalNumber::E8, port.offset);
         false
     }
 }
@@ -238,23 +243,23 @@ pub fn check_held(
         ((known_at environment.now).sort name.now.number) }
     ensures found { found.new ≡ with_refusals found.old
         (held_name_refusals wanted (known_at environment.now).rule
-        ((known_at environment.now).sort name.now.number) name.now.place) }
+        ((known_at environment.now).sort name.now.number) name.now.offset) }
 {
     match environment.sort(name.number) {
         None => {
-            found.note(RefusalNumber::E7, name.place);
+            found.note(RefusalNumber::E7, name.offset);
             false
         }
         Some(NameSort::Held(discipline)) => {
             let suits = wanted.suits(discipline);
             if !suits {
-                found.note(RefusalNumber::E8, name.place);
+                found.note(RefusalNumber::E8, name.offset);
             }
             suits
         }
         Some(NameSort::Input) => check_port(wanted, environment, name, found),
         Some(NameSort::Variable | NameSort::Flag | NameSort::Output | NameSort::LoopVariable) => {
-            found.note(RefusalNumber::E8, name.place);
+            found.note(RefusalNumber::E8, name.offset);
             false
         }
     }
@@ -264,12 +269,12 @@ pub fn check_held(
 fn check_operands(operator: Operator, a: Typed, b: Typed, found: &mut Findings) -> Option<ValueType>
     ensures value_type { result ≡ type_of_operator operator a.value_type b.value_type }
     ensures found { found.new ≡ with_refusals found.old
-        (operand_refusals operator a.value_type a.place b.value_type b.place) }
+        (operand_refusals operator a.value_type a.offset b.value_type b.offset) }
 {
     match operator {
         Operator::Equal | Operator::Unequal => {
             if differ(a.value_type, b.value_type) {
-                found.note(RefusalNumber::E8, b.place);
+                found.note(RefusalNumber::E8, b.offset);
             }
             type_if(alike(a.value_type, b.value_type), ValueType::Truth)
         }
@@ -294,20 +299,20 @@ fn check_operands(operator: Operator, a: Typed, b: Typed, found: &mut Findings) 
 
 fn want_both(wanted: ValueType, a: Typed, b: Typed, found: &mut Findings)
     ensures { found.new ≡ with_refusals found.old
-        (operands_wanted wanted a.value_type a.place b.value_type b.place) }
+        (operands_wanted wanted a.value_type a.offset b.value_type b.offset) }
 {
     want(wanted, a, found);
     want(wanted, b, found);
 }
 
-// Notes an expression of another type than its place wants.
+// Notes an expression of another type than its offset wants.
 fn want(wanted: ValueType, given: Typed, found: &mut Findings)
     ensures { found.new ≡ with_refusals found.old
-        (type_refusals wanted given.value_type given.place) }
+        (type_refusals wanted given.value_type given.offset) }
 {
     if let Some(value_type) = given.value_type {
         if value_type != wanted {
-            found.note(RefusalNumber::E8, given.place);
+            found.note(RefusalNumber::E8, given.offset);
         }
     }
 }

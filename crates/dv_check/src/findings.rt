@@ -10,6 +10,7 @@ use dv_lex::{Refusal, RefusalNumber};
 /// What has been found wrong so far: the first of the refusals.
 #[derive(Clone, Copy)]
 pub struct Findings {
+    /// The refusal that comes first of those found so far.
     pub first: Option<Refusal>,
 }
 
@@ -29,10 +30,10 @@ impl Findings {
     }
 
     /// Notes a refusal.
-    pub fn note(&mut self, number: RefusalNumber, place: u32)
-        ensures { self.new ≡ with_refusal self.old (refusal number place) }
+    pub fn note(&mut self, number: RefusalNumber, offset: u32)
+        ensures { self.new ≡ with_refusal self.old (refusal number offset) }
     {
-        let refusal = Refusal { number, place };
+        let refusal = Refusal { number, offset };
         match self.first {
             Some(first) if !precedes(refusal, first) => {}
             _ => self.first = Some(refusal),
@@ -44,8 +45,8 @@ impl Findings {
 fn precedes(one: Refusal, other: Refusal) -> bool
     ensures { result ≡ precedes one other }
 {
-    one.place < other.place
-        || (one.place == other.place && ordinal(one.number) < ordinal(other.number))
+    one.offset < other.offset
+        || (one.offset == other.offset && ordinal(one.number) < ordinal(other.number))
 }
 
 // The number of a refusal.

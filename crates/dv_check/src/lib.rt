@@ -1,9 +1,13 @@
-//! The static checks of a model text: names, types, phases and holds, links, models that
-//! contain themselves, limits.
+//! The static checks of a model text: names, types, phases and holds, links, models that contain themselves, limits.
 //!
-//! Each test is a function that notes in the findings what it finds wrong, and goes on; the findings keep the first
-//! refusal. What a list of names stands for is looked up in tables, so that a text is tested in a time linear in its
-//! length.
+//! Each test is a function that notes in the `Findings` what it finds wrong, and goes on; the findings keep the
+//! refusal that comes first. What a list of names stands for is looked up in tables, so that a text is tested in a
+//! time linear in its length. `check` accepts a file exactly where it breaks no rule, and hands it back as a
+//! `Checked`, whose type keeps that; else it answers the first refusal by where it stands, and at one token the least
+//! number (E6 to E17).
+//!
+//! `dv_tree`, `dv_flat`, `dv_gen` and `dv_bound` rest on what acceptance says, and so do all runs. The limit on links
+//! is not tested here but in `dv_flat`, which counts them.
 #![tactic(auto)]
 
 /// The checks of a whole text: the door of the crate.
@@ -33,7 +37,7 @@ mod cycles;
 /// What names stand for, where the first declaration counts.
 mod directory;
 
-/// What names stand for at a place of an atomic model.
+/// What names stand for at an offset of an atomic model.
 mod environment;
 
 /// The types of expressions.

@@ -10,14 +10,18 @@ use std::collections::HashSet;
 /// An end of a link by the numbers of its names.
 #[derive(Clone, Copy, PartialEq, Eq, Hash)]
 pub struct EndKey {
+    /// The number of the part's name; none for the model itself.
     pub part: Option<u32>,
+    /// The number of the port's name.
     pub port: u32,
 }
 
 /// A link by the numbers of its names.
 #[derive(Clone, Copy, PartialEq, Eq, Hash)]
 pub struct LinkKey {
+    /// Where the link begins.
     pub from: EndKey,
+    /// Where the link ends.
     pub to: EndKey,
 }
 

@@ -121,11 +121,11 @@ fn held_phase(hold: &Hold) -> Name
 {
     Name {
         number: hold.phase.number,
-        place: hold.place,
+        offset: hold.offset,
     }
 }
 
-/// The phases that are held, each at the place of the word `hold`.
+/// The phases that are held, each at the offset of the word `hold`.
 #[tactic(auto, using(crate::proofs::Lists::map_of_map))]
 pub fn held_phases(alloc: Global, holds: &[Hold]) -> Result<Vec<Name>, AllocError>
     ensures { IfOk result (λ names. names.items ≡ held_phases (map hold_of holds.now)) }

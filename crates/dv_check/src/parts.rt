@@ -27,8 +27,11 @@ use std::alloc::{AllocError, Global};
 /// text stand for.
 #[derive(Drop)]
 pub struct Interior<'a> {
+    /// What the names of the model's own ports stand for.
     pub ports: Directory<NameSort>,
+    /// The first part of each name.
     pub parts: Directory<Part>,
+    /// For the name of each model, what the names of its ports stand for.
     pub faces: &'a Directory<Directory<NameSort>>,
 }
 
@@ -84,7 +87,7 @@ pub fn check_part_model(interior: &Interior, part: &Part, found: &mut Findings)
         (part_refusals (interior_by interior.now) part.now) }
 {
     if interior.faces.get(part.model.number).is_none() {
-        found.note(RefusalNumber::E7, part.model.place);
+        found.note(RefusalNumber::E7, part.model.offset);
     }
 }
 
@@ -100,10 +103,10 @@ pub fn check_link(interior: &Interior, link: &Link, found: &mut Findings)
 
 fn check_way(interior: &Interior, link: &Link, found: &mut Findings)
     ensures { found.new ≡ with_refusals found.old (refusal_if
-        (leads_back link.now && has_ends (interior_by interior.now) link.now) E13 link.now.place) }
+        (leads_back link.now && has_ends (interior_by interior.now) link.now) E13 link.now.offset) }
 {
     if leads_back(link) && has_ends(interior, link) {
-        found.note(RefusalNumber::E13, link.place);
+        found.note(RefusalNumber::E13, link.offset);
     }
 }
 
@@ -131,7 +134,7 @@ fn check_source(interior: &Interior, end: &End, found: &mut Findings)
     match end.part {
         None => check_input(interior.ports.get(end.port.number), &end.port, found),
         Some(name) => match interior.parts.get(name.number) {
-            None => found.note(RefusalNumber::E7, name.place),
+            None => found.note(RefusalNumber::E7, name.offset),
             Some(part) => check_part_source(interior, part, &end.port, found),
         },
     }
@@ -155,7 +158,7 @@ fn check_target(interior: &Interior, end: &End, found: &mut Findings)
     match end.part {
         None => check_output(interior.ports.get(end.port.number), &end.port, found),
         Some(name) => match interior.parts.get(name.number) {
-            None => found.note(RefusalNumber::E7, name.place),
+            None => found.note(RefusalNumber::E7, name.offset),
             Some(part) => check_part_target(interior, part, &end.port, found),
         },
     }
@@ -175,24 +178,24 @@ fn check_part_target(interior: &Interior, part: &Part, port: &Name, found: &mut 
 // A port where an input is wanted.
 fn check_input(sort: Option<&NameSort>, port: &Name, found: &mut Findings)
     ensures { found.new ≡ with_refusals found.old
-        (input_refusals (option_copied sort.entry) port.now.place) }
+        (input_refusals (option_copied sort.entry) port.now.offset) }
 {
     match sort {
         Some(NameSort::Input) => {}
-        Some(NameSort::Output) => found.note(RefusalNumber::E12, port.place),
-        _ => found.note(RefusalNumber::E7, port.place),
+        Some(NameSort::Output) => found.note(RefusalNumber::E12, port.offset),
+        _ => found.note(RefusalNumber::E7, port.offset),
     }
 }
 
 // A port where an output is wanted.
 fn check_output(sort: Option<&NameSort>, port: &Name, found: &mut Findings)
     ensures { found.new ≡ with_refusals found.old
-        (output_refusals (option_copied sort.entry) port.now.place) }
+        (output_refusals (option_copied sort.entry) port.now.offset) }
 {
     match sort {
         Some(NameSort::Output) => {}
-        Some(NameSort::Input) => found.note(RefusalNumber::E12, port.place),
-        _ => found.note(RefusalNumber::E7, port.place),
+        Some(NameSort::Input) => found.note(RefusalNumber::E12, port.offset),
+        _ => found.note(RefusalNumber::E7, port.offset),
     }
 }
 

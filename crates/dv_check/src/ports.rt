@@ -3,7 +3,7 @@
 ghost use Rattle.std.specs.Prelude.{◌≡◌, ◌++◌, map, IfOk, OnOk};
 ghost use Rattle.dv_syntax.specs.Trees.{coupled_of};
 ghost use Rattle.dv_syntax.specs.declared.tree.Declaration.TheVariants.{Out};
-ghost use Rattle.dv_check.specs.Ports.{names_before, names_from, ports_by_place, ports_of};
+ghost use Rattle.dv_check.specs.Ports.{names_before, names_from, ports_by_offset, ports_of};
 
 use dv_syntax::{Coupled, Declaration, Name};
 use std::alloc::{AllocError, Global};
@@ -12,38 +12,38 @@ use std::alloc::{AllocError, Global};
 pub fn ports_of(alloc: Global, model: &Coupled) -> Result<Vec<Declaration>, AllocError>
     ensures { IfOk result (λ ports. ports.items ≡ ports_of (coupled_of model.now)) }
 {
-    ports_by_place(alloc, &model.inputs, &model.outputs)
+    ports_by_offset(alloc, &model.inputs, &model.outputs)
 }
 
-fn ports_by_place(
+fn ports_by_offset(
     alloc: Global,
     inputs: &[Name],
     outputs: &[Name],
 ) -> Result<Vec<Declaration>, AllocError>
-    ensures { IfOk result (λ ports. ports.items ≡ ports_by_place inputs.now outputs.now) }
+    ensures { IfOk result (λ ports. ports.items ≡ ports_by_offset inputs.now outputs.now) }
 {
     let mut ports = Vec::new(alloc);
     let mut rest = outputs;
     for input in inputs {
-        rest = push_before(input.place, rest, &mut ports)?;
+        rest = push_before(input.offset, rest, &mut ports)?;
         ports.push(Declaration::In(*input))?;
     }
     push_outputs(rest, &mut ports)?;
     Ok(ports)
 }
 
-// The outputs before a place, up to the first that does not stand there; the others are returned.
+// The outputs before an offset, up to the first that does not stand there; the others are returned.
 fn push_before<'a>(
-    place: u32,
+    offset: u32,
     outputs: &'a [Name],
     ports: &mut Vec<Declaration>,
 ) -> Result<&'a [Name], AllocError>
     ensures pushed { OnOk result (ports.new.items
-        ≡ ports.old.items ++ map Out (names_before place outputs.now)) }
-    ensures rest { IfOk result (λ rest. rest.now ≡ names_from place outputs.now) }
+        ≡ ports.old.items ++ map Out (names_before offset outputs.now)) }
+    ensures rest { IfOk result (λ rest. rest.now ≡ names_from offset outputs.now) }
 {
     for (index, output) in outputs.iter().enumerate() {
-        if output.place >= place {
+        if output.offset >= offset {
             return Ok(&outputs[index..]);
         }
         ports.push(Declaration::Out(*output))?;

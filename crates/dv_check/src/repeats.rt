@@ -39,7 +39,7 @@ fn find_repeats_by_set(
     let mut seen = NumberSet::with_room(alloc, names.len())?;
     for name in names {
         if !seen.insert(name.number)? {
-            found.note(number, name.place);
+            found.note(number, name.offset);
         }
     }
     Ok(())
@@ -71,7 +71,7 @@ fn find_past(limit: usize, names: &[Name], found: &mut Findings)
     ensures { found.new ≡ with_refusals found.old (excess_past limit names.now) }
 {
     if let Some(name) = names.get(limit) {
-        found.note(RefusalNumber::E17, name.place);
+        found.note(RefusalNumber::E17, name.offset);
     }
 }
 

@@ -16,7 +16,9 @@ use std::alloc::{AllocError, Global};
 /// What is inside a model: the rules of an atomic one, or the parts of a coupled one by the positions of their models.
 #[derive(Drop)]
 pub enum Contents {
+    /// The rules of an atomic model.
     Rules,
+    /// The parts of a coupled model: for each the position of its model.
     Parts(Vec<usize>),
 }
 
@@ -24,8 +26,11 @@ pub enum Contents {
 /// models there are. A number past the greatest `usize` is kept as that one.
 #[derive(Clone, Copy)]
 pub struct Size {
+    /// How many coupled models lie in one another, this one counted.
     pub depth: usize,
+    /// How many components there are.
     pub components: usize,
+    /// How many models there are, atomic and coupled, each as often as it is used.
     pub instances: usize,
 }
 

@@ -22,6 +22,7 @@ use std::alloc::{AllocError, Global};
 /// within the limit.
 #[derive(Drop)]
 pub struct Starts {
+    /// What each name may hold, and what it holds at the start.
     pub domains: Directory<Domain>,
 }
 

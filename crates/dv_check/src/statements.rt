@@ -10,7 +10,7 @@ ghost use Rattle.dv_check.specs.Rules.{known_at, loop_variable_refusals, phase_r
 
 use crate::declarations::NameSort;
 use crate::environment::Environment;
-use crate::expression::{check_held, check_place, check_value, type_of_name};
+use crate::expression::{check_held, check_offset, check_value, type_of_name};
 use crate::findings::Findings;
 use crate::wanted::Wanted;
 use dv_bag::{Change, Discipline, ValueType};
@@ -49,23 +49,27 @@ fn check_statement<'a>(environment: &'a Environment<'a>, statement: &'a Stmt, fo
         }
         Stmt::Command {
             command,
-            place,
+            offset,
             name,
         } => {
-            deny_in_output(environment, *place, found);
+            deny_in_output(environment, *offset, found);
             check_command_name(*command, environment, name, found);
         }
-        Stmt::Send { place, port, value } => {
-            deny_outside_output(environment, *place, found);
+        Stmt::Send {
+            offset,
+            port,
+            value,
+        } => {
+            deny_outside_output(environment, *offset, found);
             check_sent_port(environment, port, found);
-            check_place(ValueType::Number, environment, value, found);
+            check_offset(ValueType::Number, environment, value, found);
         }
         Stmt::If {
             condition,
             then_block,
             ..
         } => {
-            check_place(ValueType::Truth, environment, condition, found);
+            check_offset(ValueType::Truth, environment, condition, found);
             check_statements(environment, &then_block.statements, found);
         }
         Stmt::IfElse {
@@ -74,7 +78,7 @@ fn check_statement<'a>(environment: &'a Environment<'a>, statement: &'a Stmt, fo
             else_block,
             ..
         } => {
-            check_place(ValueType::Truth, environment, condition, found);
+            check_offset(ValueType::Truth, environment, condition, found);
             check_statements(environment, &then_block.statements, found);
             check_statements(environment, &else_block.statements, found);
         }
@@ -94,27 +98,27 @@ fn check_statement<'a>(environment: &'a Environment<'a>, statement: &'a Stmt, fo
         }
         Stmt::Change {
             change,
-            place,
+            offset,
             value,
             collection,
-        } => check_change(*change, environment, *place, value, collection, found),
+        } => check_change(*change, environment, *offset, value, collection, found),
     }
 }
 
 fn check_assigned(environment: &Environment, variable: &Name, found: &mut Findings)
     ensures { found.new ≡ with_refusals found.old
         (assignment_refusals (known_at environment.now).rule
-        ((known_at environment.now).sort variable.now.number) variable.now.place) }
+        ((known_at environment.now).sort variable.now.number) variable.now.offset) }
 {
     match environment.sort(variable.number) {
-        None => found.note(RefusalNumber::E7, variable.place),
+        None => found.note(RefusalNumber::E7, variable.offset),
         Some(NameSort::Held(_) | NameSort::Input | NameSort::Output) => {
-            found.note(RefusalNumber::E8, variable.place);
+            found.note(RefusalNumber::E8, variable.offset);
         }
         Some(NameSort::Variable | NameSort::Flag) => {
-            deny_in_output(environment, variable.place, found);
+            deny_in_output(environment, variable.offset, found);
         }
-        Some(NameSort::LoopVariable) => found.note(RefusalNumber::E9, variable.place),
+        Some(NameSort::LoopVariable) => found.note(RefusalNumber::E9, variable.offset),
     }
 }
 
@@ -139,28 +143,28 @@ fn check_goto_phase(environment: &Environment, phase: &Name, found: &mut Finding
         (phase_refusals (known_at environment.now) phase.now) }
 {
     if !environment.has_phase(phase.number) {
-        found.note(RefusalNumber::E7, phase.place);
+        found.note(RefusalNumber::E7, phase.offset);
     }
 }
 
 fn check_sent_port(environment: &Environment, port: &Name, found: &mut Findings)
     ensures { found.new ≡ with_refusals found.old (sent_port_refusals
-        ((known_at environment.now).sort port.now.number) port.now.place) }
+        ((known_at environment.now).sort port.now.number) port.now.offset) }
 {
     match environment.sort(port.number) {
-        None => found.note(RefusalNumber::E7, port.place),
+        None => found.note(RefusalNumber::E7, port.offset),
         Some(NameSort::Output) => {}
-        Some(_) => found.note(RefusalNumber::E8, port.place),
+        Some(_) => found.note(RefusalNumber::E8, port.offset),
     }
 }
 
 // The variable of a loop has a name of its own: of two equal ones the second in the text is refused.
 fn check_loop_variable(environment: &Environment, variable: &Name, found: &mut Findings)
     ensures { found.new ≡ with_refusals found.old (loop_variable_refusals
-        ((known_at environment.now).place variable.now.number) variable.now.place) }
+        ((known_at environment.now).offset variable.now.number) variable.now.offset) }
 {
-    if let Some(declared) = environment.place(variable.number) {
-        found.note(RefusalNumber::E6, declared.max(variable.place));
+    if let Some(declared) = environment.offset(variable.number) {
+        found.note(RefusalNumber::E6, declared.max(variable.offset));
     }
 }
 
@@ -168,16 +172,16 @@ fn check_loop_variable(environment: &Environment, variable: &Name, found: &mut F
 fn check_change(
     change: Change,
     environment: &Environment,
-    place: u32,
+    offset: u32,
     value: &Expr,
     collection: &Name,
     found: &mut Findings,
 )
     ensures { found.new ≡ with_refusals found.old (change_refusals (known_at environment.now)
-        change place (expression_of value.now) collection.now) }
+        change offset (expression_of value.now) collection.now) }
 {
-    deny_in_output(environment, place, found);
-    check_place(ValueType::Number, environment, value, found);
+    deny_in_output(environment, offset, found);
+    check_offset(ValueType::Number, environment, value, found);
     check_changed(change.discipline(), environment, collection, found);
 }
 
@@ -189,36 +193,36 @@ fn check_changed(
     found: &mut Findings,
 )
     ensures { found.new ≡ with_refusals found.old (changed_refusals discipline
-        ((known_at environment.now).sort name.now.number) name.now.place) }
+        ((known_at environment.now).sort name.now.number) name.now.offset) }
 {
     match environment.sort(name.number) {
-        None => found.note(RefusalNumber::E7, name.place),
+        None => found.note(RefusalNumber::E7, name.offset),
         Some(NameSort::Held(other)) => {
             if other != discipline {
-                found.note(RefusalNumber::E8, name.place);
+                found.note(RefusalNumber::E8, name.offset);
             }
         }
-        Some(_) => found.note(RefusalNumber::E8, name.place),
+        Some(_) => found.note(RefusalNumber::E8, name.offset),
     }
 }
 
-// What changes a state has no place in an output rule.
-fn deny_in_output(environment: &Environment, place: u32, found: &mut Findings)
+// What changes a state has no offset in an output rule.
+fn deny_in_output(environment: &Environment, offset: u32, found: &mut Findings)
     ensures { found.new ≡ with_refusals found.old
-        (refusal_if (is_output_rule (known_at environment.now).rule) E9 place) }
+        (refusal_if (is_output_rule (known_at environment.now).rule) E9 offset) }
 {
     if is_output_rule(environment.rule()) {
-        found.note(RefusalNumber::E9, place);
+        found.note(RefusalNumber::E9, offset);
     }
 }
 
 // `send` has no place outside of an output rule.
-fn deny_outside_output(environment: &Environment, place: u32, found: &mut Findings)
+fn deny_outside_output(environment: &Environment, offset: u32, found: &mut Findings)
     ensures { found.new ≡ with_refusals found.old
-        (refusal_if (not (is_output_rule (known_at environment.now).rule)) E9 place) }
+        (refusal_if (not (is_output_rule (known_at environment.now).rule)) E9 offset) }
 {
     if !is_output_rule(environment.rule()) {
-        found.note(RefusalNumber::E9, place);
+        found.note(RefusalNumber::E9, offset);
     }
 }
 

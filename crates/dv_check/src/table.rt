@@ -7,7 +7,7 @@ ghost use Rattle.dv_check.specs.Tables.{no_value, table_value, value_at, with_fi
 use std::alloc::{AllocError, Global};
 use std::collections::HashMap;
 
-/// How many places the list of a table may have for each value that it is made for.
+/// How many indices the list of a table may have for each value that it is made for.
 const PLACES_FOR_EACH: usize = 4;
 
 /// For each number the value that was added for it first. The names of a text have the numbers from 0 on, so a list of
@@ -21,7 +21,7 @@ pub struct Table<V: Drop> {
 }
 
 impl<V: Drop> Table<V> {
-    /// No values, and made for so many. A number past the places of the list is looked up in the map, so that few names
+    /// No values, and made for so many. A number past the indices of the list is looked up in the map, so that few names
     /// with great numbers make no long list.
     #[tactic(auto, using(crate::proofs::Tables::table_none))]
     pub fn with_room(alloc: Global, count: usize) -> Self
@@ -64,35 +64,35 @@ impl<V: Drop> Table<V> {
     }
 }
 
-// The value at an index of a list that has empty places.
+// The value at an index of a list that has empty indices.
 #[tactic(auto, unfolding(crate::specs::Tables::value_at))]
-fn value_at<V>(places: &[Option<V>], index: usize) -> Option<&V>
-    ensures { option_copied result ≡ value_at places.now index }
+fn value_at<V>(entries: &[Option<V>], index: usize) -> Option<&V>
+    ensures { option_copied result ≡ value_at entries.now index }
 {
-    match places.get(index) {
-        Some(place) => place.as_ref(),
+    match entries.get(index) {
+        Some(entry) => entry.as_ref(),
         None => None,
     }
 }
 
-// Puts a value at an index, with empty places before it where the list is too short.
-fn put_at<V: Drop>(places: &mut Vec<Option<V>>, index: usize, value: V) -> Result<(), AllocError>
-    ensures { OnOk result ((q : ℕ) → value_at places.new.items q
-        ≡ (if index == q then Some value else value_at places.old.items q)) }
+// Puts a value at an index, with empty indices before it where the list is too short.
+fn put_at<V: Drop>(entries: &mut Vec<Option<V>>, index: usize, value: V) -> Result<(), AllocError>
+    ensures { OnOk result ((q : ℕ) → value_at entries.new.items q
+        ≡ (if index == q then Some value else value_at entries.old.items q)) }
 {
-    lengthen(places, index)?;
-    places[index] = Some(value);
+    lengthen(entries, index)?;
+    entries[index] = Some(value);
     Ok(())
 }
 
-// Adds empty places to a list until it has an index.
+// Adds empty indices to a list until it has an index.
 #[tactic(auto, using(crate::proofs::Tables::value_past))]
-fn lengthen<V: Drop>(places: &mut Vec<Option<V>>, index: usize) -> Result<(), AllocError>
-    ensures values { (q : ℕ) → value_at places.new.items q ≡ value_at places.old.items q }
-    ensures reaches { OnOk result (index < length places.new.items) }
+fn lengthen<V: Drop>(entries: &mut Vec<Option<V>>, index: usize) -> Result<(), AllocError>
+    ensures values { (q : ℕ) → value_at entries.new.items q ≡ value_at entries.old.items q }
+    ensures reaches { OnOk result (index < length entries.new.items) }
 {
-    while places.len() <= index {
-        places.push(None)?;
+    while entries.len() <= index {
+        entries.push(None)?;
     }
     Ok(())
 }

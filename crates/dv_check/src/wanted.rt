@@ -11,7 +11,9 @@ use dv_syntax::BagCall;
 pub enum Wanted {
     /// The values of a bag or of a queue.
     Values,
+    /// The values of a bag.
     Bag,
+    /// The values of a queue.
     Queue,
 }
 

@@ -21,8 +21,8 @@ use Rattle.dv_code.specs.declared.instruction.Instruction.TheVariants.{Push, App
 use Rattle.dv_code.specs.declared.instruction.Instruction.TheVariants.{FalseKeep, TrueKeep, Loop, Next, End}
 
 abbrev pub source_words : Source → List ℕ
-source_words (Own discipline.Bag place) = codes "bag " ++ decimal place
-source_words (Own discipline.Queue place) = codes "queue " ++ decimal place
+source_words (Own discipline.Bag index) = codes "bag " ++ decimal index
+source_words (Own discipline.Queue index) = codes "queue " ++ decimal index
 source_words (Port port) = codes "port " ++ decimal port
 
 abbrev pub truth_words : Bool → List ℕ
@@ -32,15 +32,15 @@ truth_words false = codes "false"
 abbrev pub leaf_words : Leaf → List ℕ
 leaf_words (leaf.Number n) = signed_decimal n
 leaf_words (leaf.Truth b) = truth_words b
-leaf_words (leaf.Variable place) = codes "variable " ++ decimal place
-leaf_words (leaf.Flag place) = codes "flag " ++ decimal place
+leaf_words (leaf.Variable index) = codes "variable " ++ decimal index
+leaf_words (leaf.Flag index) = codes "flag " ++ decimal index
 leaf_words (leaf.Item loop) = codes "item " ++ decimal loop
 leaf_words leaf.Elapsed = codes "elapsed"
 leaf_words (leaf.Size s) = codes "size of " ++ source_words s
 leaf_words (leaf.Sum s) = codes "sum of " ++ source_words s
 leaf_words (leaf.Least s) = codes "least of " ++ source_words s
 leaf_words (leaf.Most s) = codes "most of " ++ source_words s
-leaf_words (leaf.Front place) = codes "front of queue " ++ decimal place
+leaf_words (leaf.Front index) = codes "front of queue " ++ decimal index
 
 abbrev pub unary_words : Unary → List ℕ
 unary_words Negate = codes "negate"
@@ -63,18 +63,18 @@ binary_words Same = codes "same"
 binary_words Different = codes "different"
 
 abbrev pub action_words : Action → List ℕ
-action_words (action.SetVariable place) = codes "set variable " ++ decimal place
-action_words (action.SetFlag place) = codes "set flag " ++ decimal place
-action_words (action.Change change.Add place) = codes "add to bag " ++ decimal place
-action_words (action.Change change.Drop place) = codes "drop from bag " ++ decimal place
-action_words (action.Change change.Push place) = codes "push to queue " ++ decimal place
+action_words (action.SetVariable index) = codes "set variable " ++ decimal index
+action_words (action.SetFlag index) = codes "set flag " ++ decimal index
+action_words (action.Change change.Add index) = codes "add to bag " ++ decimal index
+action_words (action.Change change.Drop index) = codes "drop from bag " ++ decimal index
+action_words (action.Change change.Push index) = codes "push to queue " ++ decimal index
 action_words (action.Send port) = codes "send by port " ++ decimal port
 
 abbrev pub deed_words : Deed → List ℕ
 deed_words (Go phase) = codes "go to phase " ++ decimal phase
-deed_words (Pop place) = codes "pop from queue " ++ decimal place
+deed_words (Pop index) = codes "pop from queue " ++ decimal index
 
--- a jump names where it leads; a loop, its collection and the place past it
+-- a jump names where it leads; a loop, its collection and the address past it
 abbrev pub instruction_words : Instruction → List ℕ
 instruction_words (Push l) = codes "push " ++ leaf_words l
 instruction_words (Apply u) = unary_words u

@@ -184,7 +184,7 @@ impl<'a> Draft<'a> {
 }
 
 // A copy of a lent state in its place.
-#[inline]
+#[inline(always)]
 fn own(state: &mut Cow<State>) -> Result<(), AllocError>
     ensures owned { OnOk result (IsOwned state.new) }
     ensures same { cow_value state.new ≡ cow_value state.old }

@@ -6,7 +6,9 @@ use dv_bag::{Change, Discipline};
 /// Where a collection is read: one of the state, of this discipline, by its slot, or the bag that has arrived at an input port.
 #[derive(Clone, Copy, Debug, PartialEq, Eq)]
 pub enum Source {
+    /// The collection in a slot of the state, by its discipline and the index of the slot.
     Own(Discipline, u16),
+    /// The bag that has arrived at an input port, by the index of the port.
     Port(u16),
 }
 
@@ -51,18 +53,27 @@ pub enum Unary {
 /// What makes a value of two, of which the second is on top.
 #[derive(Clone, Copy, Debug, PartialEq, Eq)]
 pub enum Binary {
+    /// The sum.
     Add,
+    /// The difference.
     Subtract,
+    /// The product.
     Multiply,
     /// The quotient, towards 0.
     Divide,
     /// What the exact quotient leaves.
     Remainder,
+    /// Whether two numbers are equal.
     Equal,
+    /// Whether two numbers differ.
     Unequal,
+    /// Whether the first is less.
     Less,
+    /// Whether the first is less or equal.
     AtMost,
+    /// Whether the first is greater.
     Greater,
+    /// Whether the first is greater or equal.
     AtLeast,
     /// Whether two truth values are the same.
     Same,
@@ -92,7 +103,7 @@ pub enum Deed {
     Pop(u16),
 }
 
-/// One instruction. A jump names the place to which it leads, from 0.
+/// One instruction. A jump names the address to which it leads, from 0.
 #[derive(Clone, Copy, Debug, PartialEq, Eq)]
 pub enum Instruction {
     /// One value more.
@@ -105,17 +116,17 @@ pub enum Instruction {
     Perform(Action),
     /// What is done without a value.
     Do(Deed),
-    /// Continues at a place.
+    /// Continues at an address.
     Jump(u32),
-    /// Pops the truth value on top; if it is false, continues at a place.
+    /// Pops the truth value on top; if it is false, continues at an address.
     JumpFalse(u32),
-    /// If the truth value on top is false, keeps it and continues at a place; otherwise pops it.
+    /// If the truth value on top is false, keeps it and continues at an address; otherwise pops it.
     FalseKeep(u32),
-    /// If the truth value on top is true, keeps it and continues at a place; otherwise pops it.
+    /// If the truth value on top is true, keeps it and continues at an address; otherwise pops it.
     TrueKeep(u32),
-    /// Loops over the values of a collection as it is now; if it has none, continues past the loop, at a place.
+    /// Loops over the values of a collection as it is now; if it has none, continues past the loop, at an address.
     Loop(Source, u32),
-    /// Moves the innermost loop to its next value and continues at the first place of its body; ends the loop if there
+    /// Moves the innermost loop to its next value and continues at the first address of its body; ends the loop if there
     /// is none.
     Next(u32),
     /// The program ends.

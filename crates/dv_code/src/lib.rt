@@ -1,4 +1,12 @@
-//! Programs for a stack machine, when they are valid, and the machine that runs them.
+//! Programs for a stack machine: their instructions, when they are valid, and the machine that runs them.
+//!
+//! A program is a list of `Instruction`s over a `Shape`, which says which variables, ports and phases it may speak
+//! of. `Valid` is a program whose type keeps that it is valid, and a `Machine` runs it. It is a law that a valid
+//! program is never stuck, that its run ends, and in one way alone: with an effect or a number, or by a fault. So
+//! what a program gives is a function of the state and of what has arrived, and the machine's answer is that.
+//!
+//! `dv_gen` makes programs from rules, `dv_valid` decides whether a list is one, `dv_coded` runs them as code of
+//! components, and `dv_listing` prints them. What rule a program stands for is not known here.
 #![tactic(auto)]
 
 /// What actions do.

@@ -12,8 +12,8 @@ impl fmt::Display for Source {
 
     fn fmt<W: fmt::Write>(&self, f: &mut fmt::Formatter<W>) -> fmt::Result {
         match self {
-            Source::Own(Discipline::Bag, place) => write!(f, "bag {place}"),
-            Source::Own(Discipline::Queue, place) => write!(f, "queue {place}"),
+            Source::Own(Discipline::Bag, index) => write!(f, "bag {index}"),
+            Source::Own(Discipline::Queue, index) => write!(f, "queue {index}"),
             Source::Port(port) => write!(f, "port {port}"),
         }
     }
@@ -30,15 +30,15 @@ impl fmt::Display for Leaf {
             Leaf::Number(number) => write!(f, "{number}"),
             Leaf::Truth(true) => f.write_str("true"),
             Leaf::Truth(false) => f.write_str("false"),
-            Leaf::Variable(place) => write!(f, "variable {place}"),
-            Leaf::Flag(place) => write!(f, "flag {place}"),
+            Leaf::Variable(index) => write!(f, "variable {index}"),
+            Leaf::Flag(index) => write!(f, "flag {index}"),
             Leaf::Item(number) => write!(f, "item {number}"),
             Leaf::Elapsed => f.write_str("elapsed"),
             Leaf::Size(source) => write!(f, "size of {source}"),
             Leaf::Sum(source) => write!(f, "sum of {source}"),
             Leaf::Least(source) => write!(f, "least of {source}"),
             Leaf::Most(source) => write!(f, "most of {source}"),
-            Leaf::Front(place) => write!(f, "front of queue {place}"),
+            Leaf::Front(index) => write!(f, "front of queue {index}"),
         }
     }
 }
@@ -91,11 +91,11 @@ impl fmt::Display for Action {
 
     fn fmt<W: fmt::Write>(&self, f: &mut fmt::Formatter<W>) -> fmt::Result {
         match self {
-            Action::SetVariable(place) => write!(f, "set variable {place}"),
-            Action::SetFlag(place) => write!(f, "set flag {place}"),
-            Action::Change(Change::Add, place) => write!(f, "add to bag {place}"),
-            Action::Change(Change::Drop, place) => write!(f, "drop from bag {place}"),
-            Action::Change(Change::Push, place) => write!(f, "push to queue {place}"),
+            Action::SetVariable(index) => write!(f, "set variable {index}"),
+            Action::SetFlag(index) => write!(f, "set flag {index}"),
+            Action::Change(Change::Add, index) => write!(f, "add to bag {index}"),
+            Action::Change(Change::Drop, index) => write!(f, "drop from bag {index}"),
+            Action::Change(Change::Push, index) => write!(f, "push to queue {index}"),
             Action::Send(port) => write!(f, "send by port {port}"),
         }
     }
@@ -110,7 +110,7 @@ impl fmt::Display for Deed {
     fn fmt<W: fmt::Write>(&self, f: &mut fmt::Formatter<W>) -> fmt::Result {
         match self {
             Deed::Go(phase) => write!(f, "go to phase {phase}"),
-            Deed::Pop(place) => write!(f, "pop from queue {place}"),
+            Deed::Pop(index) => write!(f, "pop from queue {index}"),
         }
     }
 }

@@ -12,14 +12,18 @@ use std::sync::Arc;
 pub enum Slot {
     /// A number of a range.
     Ranged {
+        /// The least number of the range.
         low: i64,
+        /// The greatest number of the range.
         high: i64,
     },
     /// A truth value.
     Flagged,
     /// A collection of this discipline, of at most so many values, each copy counted.
     Holding {
+        /// Whether it is a bag or a queue.
         discipline: Discipline,
+        /// The most values that it may hold, copies counted.
         capacity: u64,
     },
 }

@@ -15,7 +15,7 @@ use Rattle.dv_eval.specs.Scope.{scope_of}
 use Rattle.dv_flat.specs.Ends.{output_count}
 use Rattle.dv_gen.specs.ModelCode.{phase_codes}
 use Rattle.dv_gen.specs.Resolution.{tables_of}
-use Rattle.dv_share.specs.Places.{RiseFrom}
+use Rattle.dv_share.specs.Indices.{RiseFrom}
 use Rattle.dv_share.specs.Share.{FitsAt, behaviour_of as behaviour_at, member_by, numbers_of}
 use Rattle.dv_share.specs.declared.tables.Member.{Member}
 use Rattle.dv_sound.specs.Members.{member_of, members_from}
@@ -50,17 +50,17 @@ members-pushed limit all answers n k (y ∷ xs) [] x m number there member model
 members-pushed limit all answers n k (y ∷ xs) (i ∷ is) x m number there member model h =
     (h.0, (h.1.0, members-pushed limit all answers (n + 1) k xs is x m (omega (arith, number)) there member model h.1.1))
 
--- one more, whose model has a place
+-- one more, whose model has an index
 pub members-with : (limit : ℕ) (all : List Programs) (answers : List Response) (n k p : ℕ) (xs : List Member) (is : List Instance)
     (x : Member) (m : AtomicTree) → k ≡ n + length xs → slice_get (map (λ (i : Instance). i.model) is) (length xs) ≡ Some m →
     IsMemberOf limit k p m x → IsModelAt all answers p m → AreMembersFrom limit all answers n xs is →
     AreMembersFrom limit all answers n (xs ++ x ∷ []) is
 members-with limit all answers n k p xs is x m number there member model h =
-    let place = sym member.placed in
-    members-pushed limit all answers n k xs is x m number there (subst (λ (q : ℕ). IsMemberOf limit k q m x) place member)
-    (subst (λ (q : ℕ). IsModelAt all answers q m) place model) h
+    let index = sym member.indexed in
+    members-pushed limit all answers n k xs is x m number there (subst (λ (q : ℕ). IsMemberOf limit k q m x) index member)
+    (subst (λ (q : ℕ). IsModelAt all answers q m) index model) h
 
--- the place of a model, and the programs that are read there
+-- the index of a model, and the programs that are read there
 pub model-within : (all : List Programs) (answers : List Response) (k : ℕ) (m : AtomicTree) → IsModelAt all answers k m → k < length all
 model-within all answers k m h = slice_get_within all k h.programs h.there
 

@@ -10,7 +10,7 @@ use Rattle.dv_eval.specs.Scope.{Scope, scope_of}
 use Rattle.dv_gen.specs.ModelCode.{IsCompilable, IsCompilableModel}
 use Rattle.dv_syntax.specs.Trees.{AtomicModel, AtomicTree, ModelTree}
 use Rattle.dv_tree.specs.Instances.{Instance}
-use Rattle.dv_coded.specs.Components.{Adds, AreModelsOf, HasModelAt, IsModelAt, KeepsModels, placed_count}
+use Rattle.dv_coded.specs.Components.{Adds, AreModelsOf, HasModelAt, IsModelAt, KeepsModels, indexed_count}
 use Rattle.dv_coded.specs.declared.models.Models.{Models}
 use Rattle.dv_coded.specs.declared.programs.Programs.{Programs}
 use Rattle.dv_coded.proofs.Lists.{count-set, pushed-there, there-map, there-pushed, there-set}
@@ -21,19 +21,19 @@ pub scope_at : (is : List Instance) (k : ℕ) (m : AtomicTree) (s : Scope) → s
 scope_at is k m s at read =
     let both : Some s ≡ Some (scope_of m) = sym read ∙ there-map (λ (i : Instance). i.model) scope_of is k m at in cc
 
--- at the place of its model in the text stands its model
-pub model_there : (models : List ModelTree) (is : List Instance) (k place : ℕ) (m : AtomicTree) →
-    slice_get (map (λ (i : Instance). AtomicModel i.model) is) k ≡ slice_get models place →
-    slice_get (map (λ (i : Instance). i.model) is) k ≡ Some m → slice_get models place ≡ Some (AtomicModel m)
-model_there models is k place m placed at = sym placed ∙ there-map (λ (i : Instance). i.model) AtomicModel is k m at
+-- at the index of its model in the text stands its model
+pub model_there : (models : List ModelTree) (is : List Instance) (k index : ℕ) (m : AtomicTree) →
+    slice_get (map (λ (i : Instance). AtomicModel i.model) is) k ≡ slice_get models index →
+    slice_get (map (λ (i : Instance). i.model) is) k ≡ Some m → slice_get models index ≡ Some (AtomicModel m)
+model_there models is k index m indexed at = sym indexed ∙ there-map (λ (i : Instance). i.model) AtomicModel is k m at
 
 -- an atomic model among compilable ones
-pub compilable_at : (models : List ModelTree) (place : ℕ) (m : AtomicTree) → All (λ (t : ModelTree). IsCompilableModel t) models →
-    slice_get models place ≡ Some (AtomicModel m) → IsCompilable m
-compilable_at models place m all there =
+pub compilable_at : (models : List ModelTree) (index : ℕ) (m : AtomicTree) → All (λ (t : ModelTree). IsCompilableModel t) models →
+    slice_get models index ≡ Some (AtomicModel m) → IsCompilable m
+compilable_at models index m all there =
     let P : ModelTree → Type 0 = λ t. IsCompilableModel t in
-    subst P (get_or_from_slice_get models place (AtomicModel m) (AtomicModel m) there)
-    (All-get_or P models place (AtomicModel m) (slice_get_within models place (AtomicModel m) there) all)
+    subst P (get_or_from_slice_get models index (AtomicModel m) (AtomicModel m) there)
+    (All-get_or P models index (AtomicModel m) (slice_get_within models index (AtomicModel m) there) all)
 
 model-pushed : (all : List Programs) (answers : List Response) (p : Programs) (r : Response) (k : ℕ) (m : AtomicTree) →
     IsModelAt all answers k m → IsModelAt (all ++ p ∷ []) (answers ++ r ∷ []) k m
@@ -62,11 +62,11 @@ module _ (m : AtomicTree) (before after : Models) (k : ℕ) (adds : Adds m befor
     response = adds.response;
     there =
         ap (λ (all : List Programs). slice_get all k) adds.pushed
-        ∙ (ap (slice_get (before.programs.items ++ adds.programs ∷ [])) adds.place ∙ pushed-there before.programs.items adds.programs);
+        ∙ (ap (slice_get (before.programs.items ++ adds.programs ∷ [])) adds.index ∙ pushed-there before.programs.items adds.programs);
     of_model = adds.of_model;
     answer =
         ap (λ (answers : List Response). slice_get answers k) adds.answered
-        ∙ (ap (slice_get (before.responses.items ++ adds.response ∷ [])) (adds.place ∙ sym both)
+        ∙ (ap (slice_get (before.responses.items ++ adds.response ∷ [])) (adds.index ∙ sym both)
         ∙ pushed-there before.responses.items adds.response);
     soonest = adds.soonest;
     short = adds.short;
@@ -78,23 +78,23 @@ module _ (m : AtomicTree) (before after : Models) (k : ℕ) (adds : Adds m befor
   answered_count : length after.responses.items ≡ length before.responses.items + 1
   answered_count = ap length adds.answered ∙ length-append before.responses.items (adds.response ∷ [])
 
-  -- with its place in the text
-  pub known_with : (models : List ModelTree) (whole : Models) (place : ℕ) → AreModelsOf models before →
-      slice_get models place ≡ Some (AtomicModel m) → slice_get before.places.items place ≡ Some None →
+  -- with its index in the text
+  pub known_with : (models : List ModelTree) (whole : Models) (index : ℕ) → AreModelsOf models before →
+      slice_get models index ≡ Some (AtomicModel m) → slice_get before.indices.items index ≡ Some None →
       whole.programs.items ≡ after.programs.items →
-      whole.responses.items ≡ after.responses.items → whole.places.items ≡ set after.places.items place (Some k) →
+      whole.responses.items ≡ after.responses.items → whole.indices.items ≡ set after.indices.items index (Some k) →
       AreModelsOf models whole
-  known_with models whole place known there free programs responses places = record {
+  known_with models whole index known there free programs responses indices = record {
     count =
-        ap length places ∙ (length-set after.places.items place (Some k)
-        ∙ (ap length adds.places ∙ known.count));
+        ap length indices ∙ (length-set after.indices.items index (Some k)
+        ∙ (ap length adds.indices ∙ known.count));
     both = omega (arith, ap length programs, ap length responses, added_count, answered_count, known.both);
     once =
         omega (
           arith,
-          ap placed_count places,
-          count-set after.places.items place k (ap (λ (ps : List (Option ℕ)). slice_get ps place) adds.places ∙ free),
-          ap placed_count adds.places,
+          ap indexed_count indices,
+          count-set after.indices.items index k (ap (λ (ps : List (Option ℕ)). slice_get ps index) adds.indices ∙ free),
+          ap indexed_count adds.indices,
           ap length programs,
           added_count,
           known.once,
@@ -102,14 +102,14 @@ module _ (m : AtomicTree) (before after : Models) (k : ℕ) (adds : Adds m befor
     known = λ q j t at model.
         let Has : Type 0 = HasModelAt after j t in
         let has : Has =
-        there-set Has after.places.items place q (Some k) (Some j) (ap (λ (ps : List (Option ℕ)). slice_get ps q) (sym places) ∙ at)
+        there-set Has after.indices.items index q (Some k) (Some j) (ap (λ (ps : List (Option ℕ)). slice_get ps q) (sym indices) ∙ at)
         (λ e f. same q j t model e f)
-        (λ old. kept_by_adding j t (known.known q j t (ap (λ (ps : List (Option ℕ)). slice_get ps q) (sym adds.places) ∙ old) model)) in
+        (λ old. kept_by_adding j t (known.known q j t (ap (λ (ps : List (Option ℕ)). slice_get ps q) (sym adds.indices) ∙ old) model)) in
         subst (λ (all : List Programs). IsModelAt all whole.responses.items j t) (sym programs)
         (subst (λ (answers : List Response). IsModelAt after.programs.items answers j t) (sym responses) has);
   }
     where
-      same : (q j : ℕ) (t : AtomicTree) → slice_get models q ≡ Some (AtomicModel t) → place ≡ q → Some k ≡ Some j → HasModelAt after j t
+      same : (q j : ℕ) (t : AtomicTree) → slice_get models q ≡ Some (AtomicModel t) → index ≡ q → Some k ≡ Some j → HasModelAt after j t
       same q j t model e f =
           let one : m ≡ t = cc in
           let number : k ≡ j = cc in

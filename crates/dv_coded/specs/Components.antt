@@ -1,4 +1,4 @@
--- The components of a text, each with the place of its model among those that have programs.
+-- The components of a text, each with the index of its model among those that have programs.
 use Rattle.std.specs.Prelude.{◌≡◌, ℕ, suc, ◌+◌, ◌<◌, List, [], ◌∷◌, ◌++◌, length, slice_get, Option, Some, None}
 use Rattle.dv_bag.specs.declared.response.Response.{Response}
 use Rattle.dv_bound.specs.Response.{response_of, ticks_of}
@@ -23,7 +23,7 @@ pub record StandsAmong (limit : ℕ) (programs : List Programs) (x : Member) : T
   pub wait : IsWaitOfRun limit x.start.wait
   pub fits : FitsAt TakesState programs x.model x.start.state
 
--- at a place stand the programs and the response of a model
+-- at an index stand the programs and the response of a model
 pub record IsModelAt (all : List Programs) (answers : List Response) (k : ℕ) (m : AtomicTree) : Type 0 where
   pub programs : Programs
   pub response : Response
@@ -37,40 +37,40 @@ pub record IsModelAt (all : List Programs) (answers : List Response) (k : ℕ) (
 abbrev pub HasModelAt : Models → ℕ → AtomicTree → Type 0
 HasModelAt all k m = IsModelAt all.programs.items all.responses.items k m
 
--- how many models have a place
-abbrev pub placed_count : List (Option ℕ) → ℕ
-placed_count [] = 0
-placed_count (None ∷ places) = placed_count places
-placed_count (Some k ∷ places) = suc (placed_count places)
+-- how many models have an index
+abbrev pub indexed_count : List (Option ℕ) → ℕ
+indexed_count [] = 0
+indexed_count (None ∷ indices) = indexed_count indices
+indexed_count (Some k ∷ indices) = suc (indexed_count indices)
 
--- what stands for the models of a text: of each that has a place the programs and the response, once
+-- what stands for the models of a text: of each that has an index the programs and the response, once
 pub record AreModelsOf (models : List ModelTree) (all : Models) : Type 0 where
-  pub count : length all.places.items ≡ length models
+  pub count : length all.indices.items ≡ length models
   pub both : length all.responses.items ≡ length all.programs.items
-  pub once : placed_count all.places.items ≡ length all.programs.items
-  pub known : (place k : ℕ) (m : AtomicTree) → slice_get all.places.items place ≡ Some (Some k)
-      → slice_get models place ≡ Some (AtomicModel m) → HasModelAt all k m
+  pub once : indexed_count all.indices.items ≡ length all.programs.items
+  pub known : (index k : ℕ) (m : AtomicTree) → slice_get all.indices.items index ≡ Some (Some k)
+      → slice_get models index ≡ Some (AtomicModel m) → HasModelAt all k m
 
 -- a model more, at the end
 pub record Adds (m : AtomicTree) (before after : Models) (k : ℕ) : Type 0 where
   pub programs : Programs
   pub response : Response
-  pub place : k ≡ length before.programs.items
+  pub index : k ≡ length before.programs.items
   pub pushed : after.programs.items ≡ before.programs.items ++ programs ∷ []
   pub of_model : AreProgramsOf m programs
   pub answered : after.responses.items ≡ before.responses.items ++ response ∷ []
   pub soonest : ticks_of response ≡ response_of m
   pub short : IsShort (ticks_of response)
-  pub places : after.places.items ≡ before.places.items
+  pub indices : after.indices.items ≡ before.indices.items
 
--- what stands at a place still stands there
+-- what stands at an index still stands there
 abbrev pub KeepsModels : Models → Models → Type 0
 KeepsModels before after = (k : ℕ) (m : AtomicTree) → HasModelAt before k m → HasModelAt after k m
 
--- a component of a model, with this number, whose model has this place
-pub record IsMemberOf (limit number place : ℕ) (m : AtomicTree) (x : Member) : Type 0 where
+-- a component of a model, with this number, whose model has this index
+pub record IsMemberOf (limit number index : ℕ) (m : AtomicTree) (x : Member) : Type 0 where
   pub numbered : x.number ≡ number
-  pub placed : x.model ≡ place
+  pub indexed : x.model ≡ index
   pub inputs : x.inputs ≡ input_count m
   pub outputs : x.outputs ≡ output_count m
   pub start : component_of limit x.start ≡ start_by limit m

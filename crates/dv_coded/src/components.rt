@@ -12,7 +12,7 @@ ghost use Rattle.dv_flat.specs.Ends.{output_count};
 ghost use Rattle.dv_gen.specs.ModelCode.{IsCompilable, IsCompilableModel};
 ghost use Rattle.dv_gen.specs.Resolution.{tables_of};
 ghost use Rattle.dv_react.specs.Components.{IsWaitOfRun, component_of};
-ghost use Rattle.dv_share.specs.Places.{AreRising};
+ghost use Rattle.dv_share.specs.Indices.{AreRising};
 ghost use Rattle.dv_share.specs.Share.{member_by, numbers_of};
 ghost use Rattle.dv_share.specs.declared.tables.Member.{Member};
 ghost use Rattle.dv_sound.specs.Members.{members_from};
@@ -34,12 +34,15 @@ use dv_syntax::Atomic;
 use dv_tree::Tree;
 use std::alloc::{AllocError, Global};
 
-/// The components of a text by number: the programs of each model that has one, once; the components with the places of
+/// The components of a text by number: the programs of each model that has one, once; the components with the indices of
 /// their models there; and the response of each component.
 #[derive(Drop)]
 pub struct Components {
+    /// The programs of each model that has a component, once.
     pub models: Vec<Programs>,
+    /// The components, in the order of their numbers.
     pub members: Vec<Member>,
+    /// The response of each component, in the order of their numbers.
     pub responses: Vec<Response>,
 }
 
@@ -108,7 +111,7 @@ fn members(
     Ok(members)
 }
 
-// A component, whose model has a place and programs.
+// A component, whose model has an index and programs.
 fn member(
     bench: &mut Bench,
     tree: &Tree,

@@ -14,6 +14,7 @@ use std::alloc::{AllocError, Global};
 /// The programs of an atomic model, where they lie. A copy is the same programs.
 #[derive(Clone, Copy)]
 pub struct Lent<'m> {
+    /// The programs.
     pub programs: &'m Programs,
     // Where the programs lie by phase, so that a turn finds them at once.
     phases: &'m [PhaseCode],

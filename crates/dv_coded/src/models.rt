@@ -17,12 +17,14 @@ use dv_tree::Tree;
 use std::alloc::{AllocError, Global};
 
 /// The programs and the response of each atomic model that was asked for, once, in the order of the first asking. By
-/// the place of a model in the text stands its place here.
+/// the index of a model in the text stands its index here.
 #[derive(Drop)]
 pub struct Models {
+    /// The programs of each model, in the order of the first asking.
     pub programs: Vec<Programs>,
+    /// The response of each model, in the same order.
     pub responses: Vec<Response>,
-    places: Vec<Option<u32>>,
+    indices: Vec<Option<u32>>,
 }
 
 impl Models {
@@ -30,7 +32,7 @@ impl Models {
     ///
     /// # Errors
     ///
-    /// No memory for their places.
+    /// No memory for their indices.
     pub fn new(alloc: Global, tree: &Tree) -> Result<Self, AllocError>
         ensures known { IfOk result (λ all. AreModelsOf (file_of tree.now.file).models all) }
         ensures none { IfOk result (λ all. all.programs.items ≡ []) }
@@ -38,11 +40,11 @@ impl Models {
         Ok(Models {
             programs: Vec::new(alloc),
             responses: Vec::new(alloc),
-            places: no_places(alloc, &tree.file().models)?,
+            indices: no_indices(alloc, &tree.file().models)?,
         })
     }
 
-    /// The place of the model of a component, whose programs and response are made where it has none yet.
+    /// The index of the model of a component, whose programs and response are made where it has none yet.
     ///
     /// # Errors
     ///
@@ -66,12 +68,12 @@ impl Models {
         ensures few { OnOk result
             (length self.new.programs.items ≤ length self.old.programs.items + 1) }
     {
-        let place = tree.model_place(component);
-        if let Some(known) = self.places[place] {
+        let index = tree.model_index(component);
+        if let Some(known) = self.indices[index] {
             return Ok(known);
         }
         let added = self.add(alloc, tree.atomic(component), tree.scope(component))?;
-        self.places[place] = Some(added);
+        self.indices[index] = Some(added);
         Ok(added)
     }
 
@@ -82,22 +84,22 @@ impl Models {
         requires room { length self.old.programs.items < 2 ^ 32 }
         ensures { IfOk result (λ k. Adds (atomic_of model.now) self.old self.new k) }
     {
-        let place = self.programs.len() as u32;
+        let index = self.programs.len() as u32;
         let programs = Programs::of(alloc, model, scope)?;
         let response = response(alloc, model, scope)?;
         self.programs.push(programs)?;
         self.responses.push(response)?;
-        Ok(place)
+        Ok(index)
     }
 }
 
-// No place for each model of a text.
-fn no_places(alloc: Global, models: &[Model]) -> Result<Vec<Option<u32>>, AllocError>
-    ensures { IfOk result (λ places. places.items ≡ map (λ _. None) models.now) }
+// No index for each model of a text.
+fn no_indices(alloc: Global, models: &[Model]) -> Result<Vec<Option<u32>>, AllocError>
+    ensures { IfOk result (λ indices. indices.items ≡ map (λ _. None) models.now) }
 {
-    let mut places = Vec::with_capacity(alloc, models.len())?;
+    let mut indices = Vec::with_capacity(alloc, models.len())?;
     for _model in models {
-        places.push(None)?;
+        indices.push(None)?;
     }
-    Ok(places)
+    Ok(indices)
 }

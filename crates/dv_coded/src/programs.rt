@@ -23,6 +23,7 @@ use std::sync::Arc;
 /// The programs of an atomic model, over its tables. A copy shares them.
 #[derive(Drop)]
 pub struct Programs {
+    /// The programs and the tables that they share.
     pub code: Arc<ModelCode>,
     ghost over: { AreOver code.value.tables.value code.value.phases.items },
 }

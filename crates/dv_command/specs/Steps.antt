@@ -2,8 +2,8 @@
 use Rattle.std.specs.Prelude.{option_map}
 use Rattle.dv_command.specs.declared.part.Part.{Part}
 use Rattle.dv_command.specs.declared.part.Part.TheVariants as part
-use Rattle.dv_command.specs.declared.part.Place.{Place}
-use Rattle.dv_command.specs.declared.part.Place.TheVariants as place
+use Rattle.dv_command.specs.declared.part.Index.{Index}
+use Rattle.dv_command.specs.declared.part.Index.TheVariants as index
 use Rattle.dv_command.specs.declared.part.Read.{Read}
 use Rattle.dv_command.specs.Words.{Said, Value, Flag, Setting, Reading, Ready, Awaits, Ended, Step}
 
@@ -14,10 +14,10 @@ said_in (part.Flag name) = Flag name.now
 said_in (part.Setting name value) = Setting name.now value.now
 
 -- how the next word is read
-abbrev pub reading_of : Place → Reading
-reading_of place.Ready = Ready
-reading_of (place.Awaits name) = Awaits name.now
-reading_of place.Ended = Ended
+abbrev pub reading_of : Index → Reading
+reading_of index.Ready = Ready
+reading_of (index.Awaits name) = Awaits name.now
+reading_of index.Ended = Ended
 
 -- what a word says
 abbrev pub step_of : Read → Step

@@ -23,7 +23,7 @@ pub(crate) struct WordHelp {
 /// How a word is given, with the name that the help has for its value.
 #[derive(Clone, Copy)]
 pub(crate) enum Form {
-    /// By its place.
+    /// By its index.
     Plain(&'static str),
     /// Behind the word's name.
     Option(&'static str, Value),

@@ -1,4 +1,12 @@
 //! The command line: what its words ask for.
+//!
+//! `request_of` reads the words behind the program's name, by `clap`, and gives a `Request`: a subcommand with its
+//! files and options, whose numbers are within their ranges. The definition in `specs/` says what words ask for, and
+//! a request comes only where they do; words are answered by a text on how the program is used (`Usage`) only where
+//! they ask for nothing.
+//!
+//! The program does what the request says. No file is opened here, and whether a model has the asked component or can
+//! be divided so is not asked.
 #![tactic(auto)]
 
 /// Requests, read from what words say.

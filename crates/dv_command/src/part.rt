@@ -20,7 +20,7 @@ pub(crate) enum Part<'a> {
 
 /// How the next word is read.
 #[derive(Clone, Copy, Debug)]
-pub(crate) enum Place<'a> {
+pub(crate) enum Index<'a> {
     Ready,
     /// As the value of this option.
     Awaits(&'a str),
@@ -32,7 +32,7 @@ pub(crate) enum Place<'a> {
 #[derive(Clone, Copy, Debug)]
 pub(crate) struct Read<'a> {
     pub part: Option<Part<'a>>,
-    pub next: Place<'a>,
+    pub next: Index<'a>,
 }
 
 /// Whether a word is no option.
@@ -47,11 +47,11 @@ pub(crate) fn is_value(word: &str) -> bool
 }
 
 fn says(part: Part<'_>) -> Read<'_>
-    ensures { result ≡ record { part = Some part.entry; next = Place.Ready } }
+    ensures { result ≡ record { part = Some part.entry; next = Index.Ready } }
 {
     Read {
         part: Some(part),
-        next: Place::Ready,
+        next: Index::Ready,
     }
 }
 
@@ -74,14 +74,14 @@ fn option_step(subcommand: Subcommand, word: &str) -> Option<Read<'_>>
     if word == "--" {
         Some(Read {
             part: None,
-            next: Place::Ended,
+            next: Index::Ended,
         })
     } else if is_flag(subcommand, word) {
         Some(says(Part::Flag(word)))
     } else if takes_value(subcommand, word) {
         Some(Read {
             part: None,
-            next: Place::Awaits(word),
+            next: Index::Awaits(word),
         })
     } else {
         joined_step(subcommand, word)
@@ -89,27 +89,27 @@ fn option_step(subcommand: Subcommand, word: &str) -> Option<Read<'_>>
 }
 
 /// A word, as it is read where it stands; nothing where it cannot stand there.
-fn step<'a>(subcommand: Subcommand, place: Place<'a>, word: &'a str) -> Option<Read<'a>>
-    ensures { option_map step_of result ≡ step subcommand (reading_of place.entry) word.now }
+fn step<'a>(subcommand: Subcommand, index: Index<'a>, word: &'a str) -> Option<Read<'a>>
+    ensures { option_map step_of result ≡ step subcommand (reading_of index.entry) word.now }
 {
-    match place {
-        Place::Ready => {
+    match index {
+        Index::Ready => {
             if is_value(word) {
                 Some(says(Part::Value(word)))
             } else {
                 option_step(subcommand, word)
             }
         }
-        Place::Awaits(name) => {
+        Index::Awaits(name) => {
             if is_value(word) {
                 Some(says(Part::Setting(name, word)))
             } else {
                 None
             }
         }
-        Place::Ended => Some(Read {
+        Index::Ended => Some(Read {
             part: Some(Part::Value(word)),
-            next: Place::Ended,
+            next: Index::Ended,
         }),
     }
 }
@@ -139,15 +139,15 @@ pub(crate) fn said_by<'a>(
         ≡ said_by subcommand Ready (map string_bytes words.now)) }
 {
     let mut parts = Vec::new(alloc);
-    let mut place = Place::Ready;
+    let mut index = Index::Ready;
     for word in words {
-        let Some(read) = step(subcommand, place, word.as_str()) else {
+        let Some(read) = step(subcommand, index, word.as_str()) else {
             return Ok(None);
         };
         push_part(&mut parts, read.part)?;
-        place = read.next;
+        index = read.next;
     }
-    if let Place::Awaits(_) = place {
+    if let Index::Awaits(_) = index {
         return Ok(None);
     }
     Ok(Some(parts))

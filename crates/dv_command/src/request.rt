@@ -14,6 +14,7 @@ pub(crate) const USUAL_LIMIT: u32 = 20;
 pub enum Request {
     /// Check a model and print the number of its components.
     Check(Check),
+    /// Run a model and print its trace, or the numbers of it.
     Run(Run),
     /// Print the programs of a model.
     Code(ModelFile),
@@ -45,6 +46,7 @@ pub struct ModelFile {
 /// A model to check.
 #[derive(Debug, Drop)]
 pub struct Check {
+    /// The model.
     pub file: ModelFile,
     /// Whether the warnings are printed.
     pub warned: bool,
@@ -66,6 +68,7 @@ pub struct TraceFiles {
 /// A trace as a value change dump.
 #[derive(Debug, Drop)]
 pub struct Waves {
+    /// The model and the trace.
     pub files: TraceFiles,
     /// The file of the inputs of the run, where it is given.
     pub inputs: Option<String>,
@@ -78,7 +81,9 @@ pub struct Waves {
 /// Count what a trace says of each component.
 #[derive(Debug, Drop)]
 pub struct Stats {
+    /// The model and the trace.
     pub files: TraceFiles,
+    /// What is counted, and how it is printed.
     pub choice: StatsChoice,
 }
 
@@ -100,6 +105,7 @@ pub struct StatsChoice {
 /// A trace as a table.
 #[derive(Debug, Drop)]
 pub struct Table {
+    /// The model and the trace.
     pub files: TraceFiles,
     /// The file of the inputs of the run, where it is given.
     pub inputs: Option<String>,
@@ -130,9 +136,11 @@ pub struct Plan {
 /// A model to print as a graph. It is not divided where phases are shown.
 #[derive(Debug, Drop)]
 pub struct Graph {
+    /// The model.
     pub file: ModelFile,
     /// How it is divided, where that was given; else no processes are shown.
     pub partition: Option<PartitionChoice>,
+    /// What of the model is shown.
     pub choice: GraphChoice,
 }
 
@@ -176,6 +184,7 @@ pub struct Run {
 /// The text to print where the words are no command.
 #[derive(Debug, Drop)]
 pub struct Usage {
+    /// The text, as it is printed.
     pub text: String,
 }
 

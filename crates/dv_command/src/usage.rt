@@ -84,11 +84,11 @@ fn has_stats_choice(matches: &ArgMatches) -> bool {
 /// The first option that has no value that it takes; the first word is the program's name, and the second the subcommand's.
 fn first_misfit(words: &[String]) -> Option<Misfit<'_>> {
     let takes = words_of(words.get(1)?.as_str());
-    for (place, word) in words.iter().enumerate().skip(2) {
+    for (index, word) in words.iter().enumerate().skip(2) {
         if word.as_str() == "--" {
             return None;
         }
-        let next = match words.get(place.saturating_add(1)) {
+        let next = match words.get(index.saturating_add(1)) {
             Some(next) => Some(next.as_str()),
             None => None,
         };

@@ -1,4 +1,7 @@
-//! Reads command lines that are rows, and compares what their words ask for with what the rows say.
+//! A test that is a program: it reads command lines that are rows, and compares what their words ask for, by
+//! `request_of` of `dv_command`, with what the rows say.
+//!
+//! What is wanted was worked out by hand from what the command line means, and never taken from a run.
 //!
 //! Each word names a file of rows, as `data/README.md` describes it.
 #![tactic(auto)]

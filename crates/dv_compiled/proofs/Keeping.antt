@@ -21,12 +21,12 @@ module _ (m : AtomicTree)
     → effect_of (scope_of m) body arrivals s ≡ Ok e → fits m e.state ≡ true)
     (goto : (body : Statements) (arrivals : Arrivals) (s : State) (e : Effect) → fits m s ≡ true
     → effect_of (scope_of m) body arrivals s ≡ Ok e → LeadsToPhase (scope_of m) e.goto)
-    (phase : (s : State) (place : ℕ) → fits m s ≡ true → place < length (scope_of m).phases
-    → fits m (in_phase s place) ≡ true) where
+    (phase : (s : State) (index : ℕ) → fits m s ≡ true → index < length (scope_of m).phases
+    → fits m (in_phase s index) ≡ true) where
   goto_fits : (s : State) (to : Option ℕ) → fits m s ≡ true → LeadsToPhase (scope_of m) to
       → IsTrue (fits m (state_by_goto s to).state)
   goto_fits s None fit leads = fit
-  goto_fits s (Some place) fit leads = phase s place fit leads
+  goto_fits s (Some index) fit leads = phase s index fit leads
 
   change_fits : (body : Statements) (arrivals : Arrivals) (s : State) → fits m s ≡ true
       → IfOk (change_of (effect_of (scope_of m) body arrivals s)) (λ (c : Change). IsTrue (fits m c.state))

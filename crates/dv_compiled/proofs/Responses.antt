@@ -10,14 +10,14 @@ use Rattle.dv_plain.specs.Source.{state_by_goto}
 -- it is the state of an effect, in the phase of the effect's goto
 pub record Goes (effect : Result Effect Fault) (c : Change) : Type 0 where
   pub left : Effect
-  pub place : ℕ
+  pub index : ℕ
   pub is : effect ≡ Ok left
-  pub to : left.goto ≡ Some place
-  pub state : c.state ≡ in_phase left.state place
+  pub to : left.goto ≡ Some index
+  pub state : c.state ≡ in_phase left.state index
 
 by_goto : (e : Effect) (to : Option ℕ) (c : Change) → e.goto ≡ to → state_by_goto e.state to ≡ c → c.goes ≡ true → Goes (Ok e) c
 by_goto e None c same is goes = absurd (cc)
-by_goto e (Some place) c same is goes = record { left = e; place = place; is = refl; to = same; state = cc }
+by_goto e (Some index) c same is goes = record { left = e; index = index; is = refl; to = same; state = cc }
 
 pub goes_by_effect : (effect : Result Effect Fault) (c : Change) → change_of effect ≡ Ok c → c.goes ≡ true → Goes effect c
 goes_by_effect (Ok e) c is goes = by_goto e e.goto c refl (cc) goes

@@ -41,7 +41,7 @@ ticks_by (Some p) s = number_by p nothing_arrived s >>= ticks_from
 abbrev pub arriving : List Counts → ℕ → Arrivals
 arriving bags elapsed = record { received = bags; elapsed = elapsed }
 
--- the behaviour that the programs of the phases give, by the places of the phases
+-- the behaviour that the programs of the phases give, by the indices of the phases
 abbrev pub behaviour_by : List PhaseCode → Behaviour
 behaviour_by codes = record {
   output = λ s. effect_in (slice_get codes s.phase) (λ c. c.output) nothing_arrived s >>= λ e. Ok e.sent;

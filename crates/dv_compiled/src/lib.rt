@@ -1,8 +1,13 @@
-//! The compiled model is the model: its programs give the behaviour of its rules, direct links route as the coupling
-//! tree does, and so a network of programs and links has the trace of the text. Where the program of an external rule
-//! goes to a phase, the hold that begins there is not below the response.
+//! Laws of whole models: the compiled model is the model.
 //!
-//! Nothing here runs: each function of `laws` stands for a law of the definitions.
+//! At the states that fit an accepted model, its programs behave as its rules. Direct links route as the coupling
+//! tree does. So a network of programs and links has the trace of the text, for all inputs, horizons and microstep
+//! limits. Where the program of an external rule goes to a phase, the hold that begins there is not below the
+//! response.
+//!
+//! Nothing here runs: each function of `laws` joins the laws of `dv_gen`, `dv_flat` and `dv_bound` in the words of
+//! `dv_plain`. Whatever runs programs over links rests on them: `dv_sound` for all processes of a text. Processes do
+//! not occur here.
 #![tactic(auto)]
 
 /// What is so of every compiled model.

@@ -20,7 +20,7 @@ use Rattle.dv_conservative.specs.Events.{Event, deliveries_at, delivery_of, in_o
 use Rattle.dv_conservative.specs.Flat.{Flat, Member, behaviours, fed, network, numbers, received, whole}
 use Rattle.dv_conservative.specs.Links.{Delivery, Link, carried, carried_by, delivered, inbox, sent_of}
 use Rattle.dv_conservative.specs.Promise.{AllRespond, BringsOnly}
-use Rattle.dv_conservative.specs.Sound.{AllNumbers, AllSound, are_of_numbers, by_place, is_of_numbers}
+use Rattle.dv_conservative.specs.Sound.{AllNumbers, AllSound, are_of_numbers, by_index, is_of_numbers}
 use Rattle.dv_time.specs.Time.{time_of}
 
 both_true : (a b : Bool) → a ≡ true → b ≡ true → (a && b) ≡ true
@@ -154,7 +154,7 @@ pub numbers_come : (f : Flat) (outs : List Counts) (ds : List Delivery) → IsTr
     BringsOnly are_of_numbers (network f) (outs, ds)
 numbers_come f outs ds o k = numbers_arrive f (nothing_sent (network f)) outs ds (none_sent (behaviours f.members)) o k
 
--- places and numbers of components
+-- indices and numbers of components
 fit_up : (g : ℕ → State → Bool) (k : ℕ) (cs : List Component) → AllFit (λ i. g (suc i)) k cs → AllFit g (suc k) cs
 fit_up g k [] h = tt
 fit_up g k (c ∷ cs) h =
@@ -182,15 +182,15 @@ respond_up comes r g k (b ∷ bs) h =
     (h.0, subst (λ (n : ℕ). AllRespond g comes r n bs) same (respond_up comes r g (k + 1) bs h.1))
 
 module _ (fits : ℕ → State → Bool) (r : ℕ → Option ℕ) where
-  pub all_keep : (ms : List Member) → AllSound fits r ms → AllKeep (by_place fits ms) are_of_numbers 0 (behaviours ms)
+  pub all_keep : (ms : List Member) → AllSound fits r ms → AllKeep (by_index fits ms) are_of_numbers 0 (behaviours ms)
   all_keep [] h = tt
-  all_keep (m ∷ ms) h = let this = h.0 in (this.keeps, keep_up are_of_numbers (by_place fits (m ∷ ms)) 0 (behaviours ms) (all_keep ms h.1))
+  all_keep (m ∷ ms) h = let this = h.0 in (this.keeps, keep_up are_of_numbers (by_index fits (m ∷ ms)) 0 (behaviours ms) (all_keep ms h.1))
 
-  pub all_start : (ms : List Member) → AllSound fits r ms → AllFit (by_place fits ms) 0 (map (λ (m : Member). m.start) ms)
+  pub all_start : (ms : List Member) → AllSound fits r ms → AllFit (by_index fits ms) 0 (map (λ (m : Member). m.start) ms)
   all_start [] h = tt
   all_start (m ∷ ms) h =
       let this = h.0 in
-      (this.start, fit_up (by_place fits (m ∷ ms)) 0 (map (λ (m : Member). m.start) ms) (all_start ms h.1))
+      (this.start, fit_up (by_index fits (m ∷ ms)) 0 (map (λ (m : Member). m.start) ms) (all_start ms h.1))
 
   all_quiet : (ms : List Member) → AllSound fits r ms → AllQuietForGood (map (λ (m : Member). m.start) ms)
   all_quiet [] h = tt
@@ -214,7 +214,7 @@ module _ (fits : ℕ → State → Bool) (r : ℕ → Option ℕ) where
       by_output (Err f) h = refl
   sends_numbers c b now false quiet h e = by_either c.quiet [] [] refl refl
 
-  emissions_numbers : (ms : List Member) (now : ℕ) (cs : List Component) → AllSound fits r ms → AllFit (by_place fits ms) 0 cs →
+  emissions_numbers : (ms : List Member) (now : ℕ) (cs : List Component) → AllSound fits r ms → AllFit (by_index fits ms) 0 cs →
       AllSent (emissions (behaviours ms) now cs)
   emissions_numbers [] now cs h fit = refl
   emissions_numbers (m ∷ ms) now [] h fit = refl
@@ -222,7 +222,7 @@ module _ (fits : ℕ → State → Bool) (r : ℕ → Option ℕ) where
       let this = h.0 in
       both_true (are_of_numbers (sent_by c (emission m.behaviour now c))) (list_all are_of_numbers (emissions (behaviours ms) now cs))
       (sends_numbers c m.behaviour now (is_imminent now c) c.quiet (this.sends c.state fit.0) refl)
-      (emissions_numbers ms now cs h.1 (fit_down (by_place fits (m ∷ ms)) 0 cs fit.1))
+      (emissions_numbers ms now cs h.1 (fit_down (by_index fits (m ∷ ms)) 0 cs fit.1))
 
   -- in a run to which numbers come states stay fit and numbers are sent
   module _ (limit : ℕ) (f : Flat) (sound : AllSound fits r f.members) (inputs : ℕ → List Counts × List Delivery)
@@ -230,7 +230,7 @@ module _ (fits : ℕ → State → Bool) (r : ℕ → Option ℕ) where
     only : ℕ → Type 0
     only n = OnlyArrives are_of_numbers limit (network f) inputs n
 
-    fits_and_comes : (n : ℕ) → AllFit (by_place fits f.members) 0 (components_at limit (network f) inputs n)
+    fits_and_comes : (n : ℕ) → AllFit (by_index fits f.members) 0 (components_at limit (network f) inputs n)
         × OnlyArrives are_of_numbers limit (network f) inputs n
     fits_and_comes zero = (all_start f.members sound, λ j lt. absurd (omega arith))
     fits_and_comes (suc n) =
@@ -245,12 +245,12 @@ module _ (fits : ℕ → State → Bool) (r : ℕ → Option ℕ) where
               subst (λ (i : ℕ). IsTrue
               (list_all are_of_numbers ((network f).arrives (emissions_at limit (network f) inputs i) (inputs i)))) e now
         ] in (
-          states_fit (by_place fits f.members) are_of_numbers limit (network f) inputs (suc n) (all_keep f.members sound)
+          states_fit (by_index fits f.members) are_of_numbers limit (network f) inputs (suc n) (all_keep f.members sound)
               (all_start f.members sound) come,
           come,
         )
 
-    pub states_stay : (n : ℕ) → AllFit (by_place fits f.members) 0 (components_at limit (network f) inputs n)
+    pub states_stay : (n : ℕ) → AllFit (by_index fits f.members) 0 (components_at limit (network f) inputs n)
     states_stay n = let both = fits_and_comes n in both.0
 
     pub sends_stay : (n : ℕ) → AllSent (emissions_at limit (network f) inputs n)
@@ -263,11 +263,11 @@ module _ (fits : ℕ → State → Bool) (r : ℕ → Option ℕ) where
         (λ k. sent_numbers (numbers f.members) (emissions_at limit (network f) inputs n) k (sends_stay n))
 
 pub all_respond : (fits : ℕ → State → Bool) (r : Option ℕ) (ms : List Member) → AllSound fits (λ k. r) ms →
-    AllRespond (by_place fits ms) are_of_numbers r 0 (behaviours ms)
+    AllRespond (by_index fits ms) are_of_numbers r 0 (behaviours ms)
 all_respond fits r [] h = tt
 all_respond fits r (m ∷ ms) h =
     let this = h.0 in
-    (this.responds, respond_up are_of_numbers r (by_place fits (m ∷ ms)) 0 (behaviours ms) (all_respond fits r ms h.1))
+    (this.responds, respond_up are_of_numbers r (by_index fits (m ∷ ms)) 0 (behaviours ms) (all_respond fits r ms h.1))
 
 -- a whole model is a network to which no deliveries come
 pub whole_is : (limit : ℕ) (f : Flat) (outside : ℕ → List Counts) (n : ℕ) →

@@ -7,7 +7,7 @@ use Rattle.dv_devs.specs.Network.{emissions_at}
 use Rattle.dv_conservative.specs.Events.{deliveries_at}
 use Rattle.dv_conservative.specs.Flat.{network}
 use Rattle.dv_conservative.specs.Process.{Packet, Share, all_events, components_by, events_by, inputs_by}
-use Rattle.dv_conservative.specs.Sound.{AllReceivedNumbers, IsSoundShare, are_of_numbers, by_place}
+use Rattle.dv_conservative.specs.Sound.{AllReceivedNumbers, IsSoundShare, are_of_numbers, by_index}
 use Rattle.dv_conservative.proofs.Numbers.{OfNumbers, numbers_arrive, numbers_at, sends_stay, states_stay}
 use Rattle.dv_conservative.proofs.Settled.{received_numbers}
 
@@ -17,7 +17,7 @@ module _ (fits : ℕ → State → Bool) (s : Share) (received : ℕ → List Pa
   come n =
       numbers_at s.limit (all_events s.incoming (events_by received)) n (received_numbers s.limit received s.incoming ours)
 
-  pub states_at : (n : ℕ) → AllFit (by_place fits s.flat.members) 0 (components_by s (events_by received) n)
+  pub states_at : (n : ℕ) → AllFit (by_index fits s.flat.members) 0 (components_by s (events_by received) n)
   states_at n =
       states_stay fits (λ k. s.response) s.limit s.flat sound.sound (inputs_by s (events_by received)) sound.outside come n
 

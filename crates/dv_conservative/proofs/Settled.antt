@@ -16,7 +16,7 @@ use Rattle.dv_conservative.specs.Process.{AllMayCome, IsSettled, MayCome, Outgoi
 use Rattle.dv_conservative.specs.Process.{at_most, brings, channel_clock, end_rank, events_by, first_from, inputs_by}
 use Rattle.dv_conservative.specs.Process.{known_until, least_clock, least_of, promise}
 use Rattle.dv_conservative.specs.Promise.{BringsOnly, IsWaiting, foreseen}
-use Rattle.dv_conservative.specs.Sound.{AllNumbers, AllReceivedNumbers, IsSoundShare, are_of_numbers, by_place}
+use Rattle.dv_conservative.specs.Sound.{AllNumbers, AllReceivedNumbers, IsSoundShare, are_of_numbers, by_index}
 use Rattle.dv_conservative.proofs.Numbers.{all_keep, all_respond, is_ready, numbers_at, numbers_come, states_stay}
 use Rattle.dv_conservative.proofs.Silence.{decided_at, foreseen_later}
 use Rattle.dv_conservative.proofs.Windows.{at_append, same_number}
@@ -149,7 +149,7 @@ module _ (fits : ℕ → State → Bool) (s : Share) (received : ℕ → List Pa
       numbers_come s.flat (s.outside n) (deliveries_at s.limit (all_events s.incoming events) n) (sound.outside n)
       (numbers_at s.limit (all_events s.incoming events) n all)
 
-  waits : IsWaiting (by_place fits s.flat.members) are_of_numbers s.response s.limit (network s.flat)
+  waits : IsWaiting (by_index fits s.flat.members) are_of_numbers s.response s.limit (network s.flat)
       (inputs_by s (events_by received)) k until
   waits = record {
     ready = is_ready fits (λ k. s.response) s.flat sound.sound;
@@ -164,7 +164,7 @@ module _ (fits : ℕ → State → Bool) (s : Share) (received : ℕ → List Pa
 
   pub promise_settled : (out : Outgoing) (u : Time) → rank s.limit u ≤ promise s received k → IsSettled s received out u
   promise_settled out u far further may n lt last =
-      let decided = decided_at (by_place fits s.flat.members) are_of_numbers s.response s.limit (network s.flat)
+      let decided = decided_at (by_index fits s.flat.members) are_of_numbers s.response s.limit (network s.flat)
       (inputs_by s (events_by received)) k until (rank s.limit u) waits
       (below_most (end_rank s) (rank s.limit u)
       (foreseen s.limit k (components_at s.limit (network s.flat) (inputs_by s (events_by received)) k) until s.response) far) in

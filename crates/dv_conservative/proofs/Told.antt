@@ -18,7 +18,7 @@ use Rattle.dv_conservative.specs.Events.{deliveries_at, delivery_cmp, delivery_o
 use Rattle.dv_conservative.proofs.Order.{delivery_tied, delivery_total, event_total, time_tied, time_total}
 use Rattle.dv_conservative.proofs.Windows.{itself, same_number}
 
--- the copies of the events that have the place of one
+-- the copies of the events that have the index of one
 abbrev copies_in : Event → List Event → ℕ
 copies_in x [] = 0
 copies_in x (e ∷ es) = cond (is_eq (event_cmp x e)) e.copies 0 + copies_in x es
@@ -35,8 +35,8 @@ tied x e h =
     halves Equal p h = (refl, h)
     halves Greater p h = absurd (cc)
 
-same_place : (x e : Event) → x.time ≡ e.time → x.component ≡ e.component → x.port ≡ e.port → x.value ≡ e.value → event_cmp x e ≡ Equal
-same_place x e t c p v =
+same_index : (x e : Event) → x.time ≡ e.time → x.component ≡ e.component → x.port ≡ e.port → x.value ≡ e.value → event_cmp x e ≡ Equal
+same_index x e t c p v =
     rw (t, c, p, v)
     (ap (λ (o : Ordering). ordering_then o (delivery_cmp (delivery_of e) (delivery_of e))) (tied_itself time_total e.time)
     ∙ tied_itself delivery_total (delivery_of e))
@@ -63,7 +63,7 @@ module _ (limit : ℕ) (x : Event) (run : IsOfRun limit x.time) where
   abbrev counted : List Event → ℕ
   counted es = count_of x.value (delivered x.component x.port (deliveries_at limit es (rank limit x.time)) [])
 
-  -- an event of another place
+  -- an event of another index
   other_counted : (e : Event) (es : List Event) → counted es ≡ capped (copies_in x es) → (event_cmp x e ≡ Equal → ⊥) → (t : Bool) →
       same_time e.time (time_of limit (rank limit x.time)) ≡ t → (u : Bool) →
       (nat_eq e.component x.component && nat_eq e.port x.port) ≡ u
@@ -78,7 +78,7 @@ module _ (limit : ℕ) (x : Event) (run : IsOfRun limit x.time) where
       let time : x.time ≡ e.time = sym (same_times e.time (time_of limit (rank limit x.time)) at ∙ time_of-rank limit x.time run) in
       let value : x.value ≡ e.value → ⊥
       = λ v. differ
-      (same_place x e time (sym (same_number e.component x.component parts.0)) (sym (same_number e.port x.port parts.1)) v) in
+      (same_index x e time (sym (same_number e.component x.component parts.0)) (sym (same_number e.port x.port parts.1)) v) in
       rw here
       (count_with_other x.value e.value e.copies (delivered x.component x.port (deliveries_at limit es (rank limit x.time)) []) value
       ∙ omega (arith, rest))

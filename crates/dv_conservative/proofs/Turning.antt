@@ -27,8 +27,8 @@ use Rattle.dv_conservative.proofs.Numbers.{OfNumbers, numbers_in_order}
 use Rattle.dv_conservative.proofs.Settled.{events_append, promise_settled}
 
 -- a link with what stands at its sender
-abbrev place : LinkState → Option Packet → LinkState
-place x standing = record { capacity = x.capacity; received = x.received; queued = x.queued; standing = standing }
+abbrev index : LinkState → Option Packet → LinkState
+index x standing = record { capacity = x.capacity; received = x.received; queued = x.queued; standing = standing }
 
 -- the components of a share are sound, with the response of its process
 sound_share : (fits : ℕ → State → Bool) (job : Job) (p : ℕ) (ms : List Member) → AllSound fits (λ k. job.responses (job.owner k)) ms →
@@ -108,7 +108,7 @@ module _ (fits : ℕ → State → Bool) (job : Job) (good : IsJob fits job) whe
         by_become : (l : ℕ) (c : Channel) → slice_get job.channels l ≡ Some c → nat_eq c.source p ≡ true →
             MayBecome (share_of job p) (received_in w) (outgoing_on job l c) (position_in w p) (position_in v p) →
             (v.link l ≡ w.link l) ⊎ IsPreparedOn job p w v l
-        by_become l c e own (inl stays) = inl (beside.own l c e own ∙ ap (place (w.link l)) stays.stands)
+        by_become l c e own (inl stays) = inl (beside.own l c e own ∙ ap (index (w.link l)) stays.stands)
         by_become l c e own (inr made) = inr (record {
           channel = c;
           there = e;
@@ -121,7 +121,7 @@ module _ (fits : ℕ → State → Bool) (job : Job) (good : IsJob fits job) whe
             settled = promise_settled fits (share_of job p) (received_in w) (share_is_sound fits job p good) (received_numbers p)
                 (rank job.limit (v.clock p)) may.heard
                 (outgoing_on job l c) made.upto made.kept;
-            made = beside.own l c e own ∙ ap (place (w.link l)) made.stands;
+            made = beside.own l c e own ∙ ap (index (w.link l)) made.stands;
           };
         })
 

@@ -33,11 +33,11 @@ abbrev pub AllSound : (ℕ → State → Bool) → (ℕ → Option ℕ) → List
 AllSound fits r [] = Unit {0}
 AllSound fits r (m ∷ ms) = IsSound (fits m.number) (r m.number) m × AllSound fits r ms
 
--- the states that fit the component at a place
-abbrev pub by_place : (ℕ → State → Bool) → List Member → ℕ → State → Bool
-by_place fits [] k s = true
-by_place fits (m ∷ ms) zero s = fits m.number s
-by_place fits (m ∷ ms) (suc k) s = by_place fits ms k s
+-- the states that fit the component at an index
+abbrev pub by_index : (ℕ → State → Bool) → List Member → ℕ → State → Bool
+by_index fits [] k s = true
+by_index fits (m ∷ ms) zero s = fits m.number s
+by_index fits (m ∷ ms) (suc k) s = by_index fits ms k s
 
 -- events of numbers of the language
 abbrev pub AllNumbers : List Event → Type 0

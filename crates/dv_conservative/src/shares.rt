@@ -10,7 +10,7 @@ ghost use Rattle.dv_devs.specs.NextTimes.{AllFrom, IsFrom, least_next};
 ghost use Rattle.dv_conservative.specs.Events.{Event};
 ghost use Rattle.dv_conservative.specs.Flat.{network, whole};
 ghost use Rattle.dv_conservative.specs.Process.{Outgoing, Packet, Share, all_events, components_by, events_by, inputs_by, part_by};
-ghost use Rattle.dv_conservative.specs.Sound.{AllReceivedNumbers, IsJob, IsSoundShare, are_of_numbers, by_place};
+ghost use Rattle.dv_conservative.specs.Sound.{AllReceivedNumbers, IsJob, IsSoundShare, are_of_numbers, by_index};
 ghost use Rattle.dv_conservative.specs.World.{Job, share_of};
 
 /// The components of a process of a job are sound, and numbers come to them from outside. None has a next time before
@@ -31,7 +31,7 @@ pub fn processes_start_sound()
 pub fn numbers_stay_in_a_run()
     ensures states { (fits : ℕ → State → Bool) (s : Share) (received : ℕ → List Packet) (n : ℕ)
         → IsSoundShare fits s → AllReceivedNumbers received s.incoming
-        → AllFit (by_place fits s.flat.members) 0 (components_by s (events_by received) n) }
+        → AllFit (by_index fits s.flat.members) 0 (components_by s (events_by received) n) }
     ensures arrive { (fits : ℕ → State → Bool) (s : Share) (received : ℕ → List Packet) (n : ℕ)
         → IsSoundShare fits s → AllReceivedNumbers received s.incoming
         → OnlyArrives are_of_numbers s.limit (network s.flat)

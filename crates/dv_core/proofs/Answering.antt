@@ -48,7 +48,7 @@ use Rattle.dv_core.proofs.Standing.{link_is, reached_by}
 use Rattle.dv_core.proofs.Turns.{is_granted, is_refused, turned_progress, turned_stands, turned_step, with_state}
 
 module _ {X Y : Type 0} (f : X → Y) (xs : List X) (n i : ℕ) (x : X) (long : n ≡ length xs) (within : i < n) (is : x ≡ get_or xs i x) where
-  -- what is seen at a place
+  -- what is seen at an index
   pub seen_at : slice_get (map f xs) i ≡ Some (f x)
   seen_at = slice_get-map f xs i ∙ ap (option_map f) (slice_get_read xs n i x long within is)
 
@@ -107,7 +107,7 @@ module _ {J P : Type 0} {IsValid : P → Type 0} {means : J → Job} {state : P 
     };
   }
 
--- what stands at a place that was read
+-- what stands at an index that was read
 pub read_at : {X : Type 0} (v : Vec X Global) (i : ℕ) (x : X) → i < vec_len v → x ≡ get_or v.items i x → slice_get v.items i ≡ Some x
 read_at v i x within is = slice_get_read v.items (vec_len v) i x v.ok.0 within is
 

@@ -1,4 +1,4 @@
--- Reading a list after one place was written.
+-- Reading a list after one index was written.
 use Rattle.std.proofs.Common.{◌≡◌, ℕ, zero, suc, ◌+◌, ◌<◌, ◌≤◌, Bool, true, false, nat_eq, List, [], ◌∷◌, length, map, drop}
 use Rattle.std.proofs.Common.{Some, refl, sym, ap, subst, ◌∙◌, arith}
 use Rattle.std.specs.List.{slice_get}
@@ -27,16 +27,16 @@ set_other xs i j y h = set_apart xs i j y (apart j i h)
 -- what is so of each item is so after a write of an item of which it is so
 pub set_each : {X : Type 0} (P : ℕ → X → Type 0) (xs : List X) (i : ℕ) (x y : X) → slice_get xs i ≡ Some x →
     ((j : ℕ) (z : X) → slice_get xs j ≡ Some z → P j z) → P i y → (j : ℕ) (z : X) → slice_get (set xs i y) j ≡ Some z → P j z
-set_each {X} P xs i x y there others own j z e = by_place (nat_eq j i) refl
+set_each {X} P xs i x y there others own j z e = by_index (nat_eq j i) refl
   where
-    by_place : (t : Bool) → nat_eq j i ≡ t → P j z
-    by_place true same =
-        let place = same_number j i same in
-        let now : slice_get (set xs i y) i ≡ Some z = subst (λ (n : ℕ). slice_get (set xs i y) n ≡ Some z) place e in
+    by_index : (t : Bool) → nat_eq j i ≡ t → P j z
+    by_index true same =
+        let index = same_number j i same in
+        let now : slice_get (set xs i y) i ≡ Some z = subst (λ (n : ℕ). slice_get (set xs i y) n ≡ Some z) index e in
         let is = sym (set_same xs i x y there) ∙ now in
         let value : y ≡ z = cc in
-        subst (λ (n : ℕ). P n z) (sym place) (subst (P i) value own)
-    by_place false other = others j z (sym (set_other xs i j y other) ∙ e)
+        subst (λ (n : ℕ). P n z) (sym index) (subst (P i) value own)
+    by_index false other = others j z (sym (set_other xs i j y other) ∙ e)
 
 pub map_set : {X Y : Type 0} (f : X → Y) (xs : List X) (i : ℕ) (x : X) → map f (set xs i x) ≡ set (map f xs) i (f x)
 map_set f [] i x = refl

@@ -49,13 +49,13 @@ module _ (job : Job) (k : Kept) (stands : StandsFor job k) (p : ℕ) (x y : Proc
   -- what can be read of a process is as before, unless it is the one that changed
   read_same : {X : Type 0} (f : Option ProcessState → X) → f (Some y) ≡ f (Some x) → (q : ℕ) →
       f (slice_get (set k.states p y) q) ≡ f (slice_get k.states q)
-  read_same {X} f same q = by_place (nat_eq q p) refl
+  read_same {X} f same q = by_index (nat_eq q p) refl
     where
-      by_place : (t : Bool) → nat_eq q p ≡ t → f (slice_get (set k.states p y) q) ≡ f (slice_get k.states q)
-      by_place true own =
+      by_index : (t : Bool) → nat_eq q p ≡ t → f (slice_get (set k.states p y) q) ≡ f (slice_get k.states q)
+      by_index true own =
           subst (λ (n : ℕ). f (slice_get (set k.states p y) n) ≡ f (slice_get k.states n)) (sym (same_number q p own))
           (ap f (set_same k.states p x y there) ∙ same ∙ ap f (sym there))
-      by_place false other = ap f (set_other k.states p q y other)
+      by_index false other = ap f (set_other k.states p q y other)
 
   clocks_stay : y.position.clock ≡ x.position.clock → v.clock ≡ w.clock
   clocks_stay same = fun_ext (λ q. read_same clock_of same q)
@@ -103,11 +103,11 @@ module _ (job : Job) (k : Kept) (stands : StandsFor job k) (p : ℕ) (x y : Proc
     where
       was : (q : ℕ) (s : ProcessState) → slice_get k.states q ≡ Some s → (i : ℕ) (g : Channel) → slice_get job.channels i ≡ Some g
           → g.source ≡ q → s.position.promised i ≡ promised_on (link_of k i (Some g))
-      was q s is i g f place = stands.promised i g s f (subst (λ (n : ℕ). slice_get k.states n ≡ Some s) (sym place) is)
+      was q s is i g f index = stands.promised i g s f (subst (λ (n : ℕ). slice_get k.states n ≡ Some s) (sym index) is)
 
       own : (i : ℕ) (g : Channel) → slice_get job.channels i ≡ Some g → g.source ≡ p
           → y.position.promised i ≡ promised_on (link_of k i (Some g))
-      own i g f place = ap (λ (t : ℕ → Time). t i) promised ∙ was p x there i g f place
+      own i g f index = ap (λ (t : ℕ → Time). t i) promised ∙ was p x there i g f index
 
 -- all packets of each link stay, where one link has the same packets and the others stay
 packets_stay : (w v : World) (l : ℕ) → all_of (v.link l) ≡ all_of (w.link l) → ((m : ℕ) → nat_eq m l ≡ false → v.link m ≡ w.link m) →

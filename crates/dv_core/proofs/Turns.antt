@@ -41,16 +41,16 @@ with_standing_on x standing = record { capacity = x.capacity; received = x.recei
 -- where what it received stays, so does what links say of it
 pub same_received : (k : Kept) (p : ℕ) (x y : ProcessState) → slice_get k.states p ≡ Some x → y.received ≡ x.received →
     (q l : ℕ) → received_of (slice_get (set k.states p y) q) l ≡ received_of (slice_get k.states q) l
-same_received k p x y there same q l = by_place (nat_eq q p) refl
+same_received k p x y there same q l = by_index (nat_eq q p) refl
   where
-    by_place : (t : Bool) → nat_eq q p ≡ t → received_of (slice_get (set k.states p y) q) l ≡ received_of (slice_get k.states q) l
-    by_place true own =
+    by_index : (t : Bool) → nat_eq q p ≡ t → received_of (slice_get (set k.states p y) q) l ≡ received_of (slice_get k.states q) l
+    by_index true own =
         let e = same_number q p own in
         subst (λ (n : ℕ). received_of (slice_get (set k.states p y) n) l ≡ received_of (slice_get k.states n) l) (sym e)
         (ap (λ (o : Option ProcessState). received_of o l) (set_same k.states p x y there)
         ∙ ap (λ (f : ℕ → List Packet). f l) same
         ∙ ap (λ (o : Option ProcessState). received_of o l) (sym there))
-    by_place false other = ap (λ (o : Option ProcessState). received_of o l) (set_other k.states p q y other)
+    by_index false other = ap (λ (o : Option ProcessState). received_of o l) (set_other k.states p q y other)
 
 pub link_with_state : (k : Kept) (p : ℕ) (x y : ProcessState) → slice_get k.states p ≡ Some x → y.received ≡ x.received →
     (l : ℕ) (c : Channel) →
@@ -116,8 +116,8 @@ module _ (job : Job) (k : Kept) (stands : StandsFor job k) (p : ℕ) (x y : Proc
   was_promised : (l : ℕ) (c : Channel) → slice_get job.channels l ≡ Some c → nat_eq c.source p ≡ true →
       x.position.promised l ≡ promised_on (link_of k l (Some c))
   was_promised l c e own =
-      let place = sym (same_number c.source p own) in
-      stands.promised l c x e (subst (λ (q : ℕ). slice_get k.states q ≡ Some x) place there)
+      let index = sym (same_number c.source p own) in
+      stands.promised l c x e (subst (λ (q : ℕ). slice_get k.states q ≡ Some x) index there)
 
   now_promised : (l : ℕ) (c : Channel) → slice_get job.channels l ≡ Some c → nat_eq c.source p ≡ true →
       y.position.promised l ≡ promised_on (link_of after l (Some c))
@@ -155,8 +155,8 @@ module _ (job : Job) (k : Kept) (stands : StandsFor job k) (p : ℕ) (x y : Proc
           → slice_get (set k.states p y) c.source ≡ Some z →
           (t : Bool) → nat_eq c.source p ≡ t → z.position.promised l ≡ promised_on (link_of after l (Some c))
       by_source l c z e at true own =
-          let place = same_number c.source p own in
-          let now = sym now_there ∙ subst (λ (q : ℕ). slice_get (set k.states p y) q ≡ Some z) place at in
+          let index = same_number c.source p own in
+          let now = sym now_there ∙ subst (λ (q : ℕ). slice_get (set k.states p y) q ≡ Some z) index at in
           let value : y ≡ z = cc in
           subst (λ (s : ProcessState). s.position.promised l ≡ promised_on (link_of after l (Some c))) value (now_promised l c e own)
       by_source l c z e at false other =

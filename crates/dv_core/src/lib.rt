@@ -1,4 +1,14 @@
-//! The world of logical processes: what may happen to them, in any order, and the driver that runs them in rounds.
+//! The world of logical processes, and the driver that runs them in rounds on one thread.
+//!
+//! A `World` has the processes of a job and the links between them, with the packets on their way. A `Step` is a turn
+//! of a process, a packet put on a link or taken from it, or a process stopped; steps may come in any order. After
+//! any of them every packet is true, each process has committed its part of the trace before its clock, and no packet
+//! on its way is refused. Rounds take all steps in turn: with room on each link, one round more than there are times
+//! before the end brings every clock to the end, unless memory is refused.
+//!
+//! `LogicalProcess` and `PlannedJob` are what a world asks of processes and jobs; `dv_plan` makes a world of a plan,
+//! `dv_stream` drives its rounds, and `dv_work` takes the same processes to threads. Nothing here starts a thread or
+//! writes a trace.
 #![tactic(auto)]
 
 /// What a world asks of its processes and of their job.

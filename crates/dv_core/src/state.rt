@@ -107,14 +107,14 @@ impl<J: PlannedJob, P: LogicalProcess> WorldState<J, P> {
         ensures handed { map P.handed self.new.processes.items
             ≡ map P.handed self.old.processes.items }
     {
-        let place = process as usize;
-        if place >= self.processes.len() {
+        let index = process as usize;
+        if index >= self.processes.len() {
             return Reply::Refused;
         }
-        if self.stopped[place] {
+        if self.stopped[index] {
             return Reply::Stopped;
         }
-        let owner = &mut self.processes[place];
+        let owner = &mut self.processes[index];
         let Ok(_answer) = owner.turn(work) else {
             return Reply::Memory;
         };
@@ -129,18 +129,18 @@ impl<J: PlannedJob, P: LogicalProcess> WorldState<J, P> {
         ensures handed { map P.handed self.new.processes.items
             ≡ map P.handed self.old.processes.items }
     {
-        let place = link as usize;
-        if place >= self.channels.len() {
+        let index = link as usize;
+        if index >= self.channels.len() {
             return Reply::Refused;
         }
-        let source = self.channels[place].source as usize;
+        let source = self.channels[index].source as usize;
         if self.stopped[source] {
             return Reply::Stopped;
         }
         let Some(_standing) = self.processes[source].out(link) else {
             return Reply::Empty;
         };
-        let queue = &mut self.queues[place];
+        let queue = &mut self.queues[index];
         if queue.len() >= self.capacity {
             return Reply::Full;
         }
@@ -161,15 +161,15 @@ impl<J: PlannedJob, P: LogicalProcess> WorldState<J, P> {
         ensures handed { map P.handed self.new.processes.items
             ≡ map P.handed self.old.processes.items }
     {
-        let place = link as usize;
-        if place >= self.channels.len() {
+        let index = link as usize;
+        if index >= self.channels.len() {
             return Reply::Refused;
         }
-        let target = self.channels[place].target as usize;
+        let target = self.channels[index].target as usize;
         if self.stopped[target] {
             return Reply::Stopped;
         }
-        let queue = &mut self.queues[place];
+        let queue = &mut self.queues[index];
         let Some(packet) = queue.pop_front() else {
             return Reply::Empty;
         };
@@ -193,11 +193,11 @@ impl<J: PlannedJob, P: LogicalProcess> WorldState<J, P> {
         ensures { IsStepped J.means P.state P.valid (step.Stop process) result
             self.old self.new }
     {
-        let place = process as usize;
-        if place >= self.processes.len() {
+        let index = process as usize;
+        if index >= self.processes.len() {
             return Reply::Refused;
         }
-        self.stopped[place] = true;
+        self.stopped[index] = true;
         Reply::Done
     }
 

@@ -14,17 +14,17 @@ module _ (graph : List (List ℕ)) (s : State) (h : IsValid graph s) (begun : 0 
     (joined : (i : ℕ) → k ≤ i → i < s.segments → position < (s.segment i).first_node)
     (last : 0 < k → (s.segment (k - 1)).first_node ≤ position)
     (back : Reaches graph (beginning s (s.segments - 1)) (s.node position)) where
-  -- the place of the segment that has the position
-  close_place : (place : ℕ) → place < s.segments → (s.segment place).first_node ≤ position
-      → ((i : ℕ) → place < i → i < s.segments → position < (s.segment i).first_node) → place + 1 ≡ k
-  close_place place l b n =
-      elim (cases_lt place k) [
-        | inl less ↦ elim (cases_lt (place + 1) k) [
+  -- the index of the segment that has the position
+  close_index : (index : ℕ) → index < s.segments → (s.segment index).first_node ≤ position
+      → ((i : ℕ) → index < i → i < s.segments → position < (s.segment i).first_node) → index + 1 ≡ k
+  close_index index l b n =
+      elim (cases_lt index k) [
+        | inl less ↦ elim (cases_lt (index + 1) k) [
           | inl before ↦ let a : position < (s.segment (k - 1)).first_node = n (k - 1) (omega arith) (omega arith) in
               let c : (s.segment (k - 1)).first_node ≤ position = last (omega arith) in absurd (omega arith)
           | inr after ↦ omega arith
         ]
-        | inr more ↦ let a : position < (s.segment place).first_node = joined place more l in absurd (omega arith)
+        | inr more ↦ let a : position < (s.segment index).first_node = joined index more l in absurd (omega arith)
       ]
 
   -- the segment of the position
@@ -32,15 +32,15 @@ module _ (graph : List (List ℕ)) (s : State) (h : IsValid graph s) (begun : 0 
   close_at = h.covered position on
 
   -- it is the last one that is left
-  close_is : close_at.place + 1 ≡ k
+  close_is : close_at.index + 1 ≡ k
   unfolding close_at
   close_is =
       let o : HasSegment graph s position = h.covered position on in
-      close_place o.place o.is_segment o.begun o.not_ended
+      close_index o.index o.is_segment o.begun o.not_ended
 
   -- some segment is left
   pub close_begun : 0 < k
-  close_begun = let e : close_at.place + 1 ≡ k = close_is in omega arith
+  close_begun = let e : close_at.index + 1 ≡ k = close_is in omega arith
 
   -- the last one that is left begins no later than the position
   pub close_last : (s.segment (k - 1)).first_node ≤ position
@@ -49,16 +49,16 @@ module _ (graph : List (List ℕ)) (s : State) (h : IsValid graph s) (begun : 0 
   -- every position from the joined segment on leads back to where it begins
   close_back : (p : ℕ) → (s.segment (k - 1)).first_node ≤ p → p < s.nodes → Reaches graph (s.node p) (beginning s (k - 1))
   close_back p a l =
-      let e : close_at.place + 1 ≡ k = close_is in
-      let f : close_at.place ≡ k - 1 = omega arith in
+      let e : close_at.index + 1 ≡ k = close_is in
+      let f : close_at.index ≡ k - 1 = omega arith in
       let o : HasSegment graph s p = h.covered p l in
-      let is : o.place < s.segments = o.is_segment in
+      let is : o.index < s.segments = o.is_segment in
       let end : IsSegment graph s (s.segments - 1) = h.segment (s.segments - 1) (omega arith) in
       let here : Reaches graph (s.node position) (beginning s (k - 1)) =
       subst (λ x. Reaches graph (s.node position) (beginning s x)) f close_at.leads_back in
-      let on_to : Reaches graph (beginning s o.place) (beginning s (s.segments - 1)) =
-      (h.segment o.place is).leads_on (last_segment s).first_node
-      (first_node_le graph s h o.place (s.segments - 1) (omega arith) (omega arith)) end.on_path in
+      let on_to : Reaches graph (beginning s o.index) (beginning s (s.segments - 1)) =
+      (h.segment o.index is).leads_on (last_segment s).first_node
+      (first_node_le graph s h o.index (s.segments - 1) (omega arith) (omega arith)) end.on_path in
       reaches_on o.leads_back (reaches_on on_to (reaches_on back here))
 
   -- each position has one of the segments that are left
@@ -67,21 +67,21 @@ module _ (graph : List (List ℕ)) (s : State) (h : IsValid graph s) (begun : 0 
       let b : 0 < k = close_begun in
       elim (cases_lt p (s.segment (k - 1)).first_node) [
         | inl less ↦ let o : HasSegment graph s p = h.covered p l in
-            let begins : (s.segment o.place).first_node ≤ p = o.begun in
-            let is : o.place < k = elim (cases_lt o.place k) [
+            let begins : (s.segment o.index).first_node ≤ p = o.begun in
+            let is : o.index < k = elim (cases_lt o.index k) [
               | inl y ↦ y
-              | inr n ↦ let le : (s.segment (k - 1)).first_node ≤ (s.segment o.place).first_node =
-                  first_node_le graph s h (k - 1) o.place (omega arith) o.is_segment in absurd (omega arith)
+              | inr n ↦ let le : (s.segment (k - 1)).first_node ≤ (s.segment o.index).first_node =
+                  first_node_le graph s h (k - 1) o.index (omega arith) o.is_segment in absurd (omega arith)
             ] in
             record {
-              place = o.place;
+              index = o.index;
               is_segment = is;
               begun = begins;
               not_ended = λ i a c. o.not_ended i a (omega arith);
               leads_back = o.leads_back;
             }
         | inr more ↦ record {
-          place = k - 1;
+          index = k - 1;
           is_segment = omega arith;
           begun = more;
           not_ended = λ i a c. absurd (omega arith);

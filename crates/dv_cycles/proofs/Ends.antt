@@ -1,7 +1,7 @@
 -- At its end a search knows the components.
 use Rattle.std.proofs.Common.{◌≡◌, ◌↔◌, ℕ, ◌<◌, ◌≤◌, List, true, sym, subst, ap, arith, ◌∙◌}
 use Rattle.dv_cycles.specs.Ways.{has_way}
-use Rattle.dv_cycles.specs.Search.{HasSegment, IsDoneBy, IsPlaced, IsValid, State, number_of}
+use Rattle.dv_cycles.specs.Search.{HasSegment, IsDoneBy, IsPositioned, IsValid, State, number_of}
 use Rattle.dv_cycles.specs.declared.search.Mark.TheVariants.{New, OnPath, Done}
 use Rattle.dv_cycles.proofs.Marks.{component_by, component_of, done_by_weaker}
 use Rattle.dv_cycles.proofs.Ways.{way_kept}
@@ -24,9 +24,9 @@ module _ (graph : List (List ℕ)) (s : State) (h : IsValid graph s) where
     -- with no segment left there is no path
     off_path : (v position : ℕ) → s.mark v ≡ OnPath position → ⊥
     off_path v position e =
-        let at : IsPlaced s.nodes s.node v position = h.path.placed v position e in
+        let at : IsPositioned s.nodes s.node v position = h.path.positioned v position e in
         let o : HasSegment graph s position = h.covered position at.on_path in
-        let is : o.place < s.segments = o.is_segment in omega arith
+        let is : o.index < s.segments = o.is_segment in omega arith
 
     -- two nodes have the same number where each leads to the other
     pub numbers_together : (u v : ℕ) → (s.mark u ≡ New → ⊥) → (s.mark v ≡ New → ⊥)

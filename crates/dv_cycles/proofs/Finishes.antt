@@ -2,7 +2,7 @@
 use Rattle.std.proofs.Common.{◌≡◌, ℕ, ◌+◌, ◌-◌, ◌<◌, ◌≤◌, ◌⊎◌, inl, inr, List, true, sym, subst, ap, arith, ◌∙◌}
 use Rattle.std.proofs.lemmas.Bool.{cases_lt}
 use Rattle.dv_cycles.specs.Ways.{leads}
-use Rattle.dv_cycles.specs.Search.{HasSegment, IsBefore, IsSettled, IsDoneBy, IsHeld, IsPath, IsPending, IsPlaced, IsSegment}
+use Rattle.dv_cycles.specs.Search.{HasSegment, IsBefore, IsSettled, IsDoneBy, IsHeld, IsPath, IsPending, IsPositioned, IsSegment}
 use Rattle.dv_cycles.specs.Search.{IsValid, Reaches, State, beginning, last_segment, settled}
 use Rattle.dv_cycles.specs.declared.search.Mark.TheVariants.{OnPath, Done}
 use Rattle.dv_cycles.proofs.Marks.{held_done_by, settled_before, settled_done, settled_done_by, settled_held, settled_on_path}
@@ -28,25 +28,25 @@ module _ (graph : List (List ℕ)) (s : State) (h : IsValid graph s) (begun : 0 
   finish_back : (p : ℕ) → (last_segment s).first_node ≤ p → p < s.nodes → Reaches graph (s.node p) (beginning s (s.segments - 1))
   finish_back p a l =
       let o : HasSegment graph s p = h.covered p l in
-      let is : o.place < s.segments = o.is_segment in
-      elim (cases_lt o.place (s.segments - 1)) [
+      let is : o.index < s.segments = o.is_segment in
+      elim (cases_lt o.index (s.segments - 1)) [
         | inl less ↦ let b : p < (last_segment s).first_node = o.not_ended (s.segments - 1) less (omega arith) in absurd (omega arith)
-        | inr more ↦ let e : o.place ≡ s.segments - 1 = omega arith in subst (λ x. Reaches graph (s.node p) (beginning s x)) e o.leads_back
+        | inr more ↦ let e : o.index ≡ s.segments - 1 = omega arith in subst (λ x. Reaches graph (s.node p) (beginning s x)) e o.leads_back
       ]
 
   -- two nodes of the component lead to each other
   finish_reaches : (u v p q : ℕ) → s.mark u ≡ OnPath p → s.mark v ≡ OnPath q
       → (last_segment s).first_node ≤ p → (last_segment s).first_node ≤ q → Reaches graph u v
   finish_reaches u v p q a b f g =
-      let x : IsPlaced s.nodes s.node u p = h.path.placed u p a in
-      let y : IsPlaced s.nodes s.node v q = h.path.placed v q b in
+      let x : IsPositioned s.nodes s.node u p = h.path.positioned u p a in
+      let y : IsPositioned s.nodes s.node v q = h.path.positioned v q b in
       reaches_same x.there y.there (reaches_on (finish_back p f x.on_path) (finish_last.leads_on q g y.on_path))
 
   -- the marks say what is left of the path
   finish_path : IsPath (finished s).mark (last_segment s).first_node s.node
   finish_path = record {
-    placed = λ v position e. let m = settled_on_path s.components (last_segment s).first_node (s.mark v) position e in
-        let o : IsPlaced s.nodes s.node v position = h.path.placed v position m.0 in
+    positioned = λ v position e. let m = settled_on_path s.components (last_segment s).first_node (s.mark v) position e in
+        let o : IsPositioned s.nodes s.node v position = h.path.positioned v position m.0 in
         record { on_path = m.1; there = o.there };
     on_path = λ p l. let f : (last_segment s).first_node < s.nodes = finish_last.on_path in
         let e : s.mark (s.node p) ≡ OnPath p = h.path.on_path p (omega arith) in
@@ -78,14 +78,14 @@ module _ (graph : List (List ℕ)) (s : State) (h : IsValid graph s) (begun : 0 
   finish_covered p l =
       let f : (last_segment s).first_node < s.nodes = finish_last.on_path in
       let o : HasSegment graph s p = h.covered p (omega arith) in
-      let begins : (s.segment o.place).first_node ≤ p = o.begun in
-      let is : o.place < s.segments - 1 = elim (cases_lt o.place (s.segments - 1)) [
+      let begins : (s.segment o.index).first_node ≤ p = o.begun in
+      let is : o.index < s.segments - 1 = elim (cases_lt o.index (s.segments - 1)) [
         | inl y ↦ y
-        | inr n ↦ let le : (last_segment s).first_node ≤ (s.segment o.place).first_node =
-            first_node_le graph s h (s.segments - 1) o.place n o.is_segment in absurd (omega arith)
+        | inr n ↦ let le : (last_segment s).first_node ≤ (s.segment o.index).first_node =
+            first_node_le graph s h (s.segments - 1) o.index n o.is_segment in absurd (omega arith)
       ] in
       record {
-        place = o.place;
+        index = o.index;
         is_segment = is;
         begun = begins;
         not_ended = λ i a c. o.not_ended i a (omega arith);
@@ -96,12 +96,12 @@ module _ (graph : List (List ℕ)) (s : State) (h : IsValid graph s) (begun : 0 
   finish_leads_down : (u p v : ℕ) → s.mark u ≡ OnPath p → (last_segment s).first_node ≤ p → leads graph u v ≡ true
       → IsDoneBy s.components ((finished s).mark v)
   finish_leads_down u p v a f l =
-      let x : IsPlaced s.nodes s.node u p = h.path.placed u p a in
+      let x : IsPositioned s.nodes s.node u p = h.path.positioned u p a in
       let below : (earlier : ℕ) → s.mark v ≡ Done earlier → earlier ≤ s.components =
       λ earlier e. let o : earlier < s.components = (h.done v earlier e).numbered in omega arith in
       elim (finish_last.closed p v f x.on_path (subst (λ w. leads graph w v ≡ true) (sym x.there) l)) [
         | inl held ↦ held_done_by s.components (last_segment s).first_node (s.mark v) held below
-        | inr e ↦ let y : (last_segment s).first_edge ≤ e.place = e.after in let z : e.place < s.edges = e.within in absurd (omega arith)
+        | inr e ↦ let y : (last_segment s).first_edge ≤ e.index = e.after in let z : e.index < s.edges = e.within in absurd (omega arith)
       ]
 
   -- what is done leads down

@@ -5,7 +5,7 @@ use Rattle.std.proofs.lemmas.List.{get_or-append-add, get_or-append_right, get_o
 use Rattle.std.proofs.lemmas.List.{get_or_push, length-append, length_push}
 use Rattle.std.proofs.lemmas.List.Folds.{list_any_at}
 use Rattle.dv_cycles.specs.Ways.{IsGraph, is_in, leads}
-use Rattle.dv_cycles.specs.Search.{IsHeld, IsOpen, IsPending, IsPlaced, IsSegment, IsValid, LeadTo, Reaches, State, beginning}
+use Rattle.dv_cycles.specs.Search.{IsHeld, IsOpen, IsPending, IsPositioned, IsSegment, IsValid, LeadTo, Reaches, State, beginning}
 use Rattle.dv_cycles.specs.Search.{last_segment, last_target, mark_at, nowhere, segment_at, settled, state, state_of}
 use Rattle.dv_cycles.specs.declared.search.Mark.{Mark}
 use Rattle.dv_cycles.specs.declared.search.Mark.TheVariants.{New, OnPath}
@@ -17,7 +17,7 @@ use Rattle.dv_cycles.proofs.Finishes.{finished, finish_valid}
 use Rattle.dv_cycles.proofs.Order.{first_edge_le}
 use Rattle.dv_cycles.proofs.Passes.{passed, pass_valid}
 use Rattle.dv_cycles.proofs.Visits.{IsVisit, visited, visit_valid}
-use Rattle.dv_cycles.proofs.Ways.{is_in_place, reaches_same}
+use Rattle.dv_cycles.proofs.Ways.{is_in_index, reaches_same}
 
 -- an element of a list is in it
 edge_at : (targets : List ℕ) (k : ℕ) → k < length targets → is_in (get_or targets k 0) targets ≡ true
@@ -56,8 +56,8 @@ module _ (graph : List (List ℕ)) (search : Search) (h : IsValid graph (state_o
       (last : 0 < length joined → (segment_at joined (length joined - 1)).first_node ≤ position)
       (rest : less ≡ take (length search.pending.items - 1) search.pending.items) where
     -- the last pending edge leads to the position
-    close_at : IsPlaced before.nodes before.node (last_target before) position
-    close_at = h.path.placed (last_target before) position on_path
+    close_at : IsPositioned before.nodes before.node (last_target before) position
+    close_at = h.path.positioned (last_target before) position on_path
 
     -- the last segment leads to the position
     close_back : Reaches graph (beginning before (before.segments - 1)) (before.node position)
@@ -174,13 +174,13 @@ module _ (graph : List (List ℕ)) (search : Search) (h : IsValid graph (state_o
         subst (λ w. is_in w targets ≡ true) (sym is) (edge_at targets (k - length pending) (omega arith))
 
     -- each edge of the node is a new pending edge
-    target_place : (v : ℕ) → leads graph n v ≡ true → IsPending longer.edges longer.target before.edges v
-    target_place v e =
+    target_index : (v : ℕ) → leads graph n v ≡ true → IsPending longer.edges longer.target before.edges v
+    target_index v e =
         let pending : List ℕ = search.pending.items in
         let long : longer.edges ≡ length pending + length targets = length-append pending targets in
-        let at = is_in_place v targets e in
+        let at = is_in_index v targets e in
         record {
-          place = length pending + at.0;
+          index = length pending + at.0;
           after = omega arith;
           within = omega arith;
           there = get_or-append-add pending targets at.0 0 ∙ at.2;
@@ -202,7 +202,7 @@ module _ (graph : List (List ℕ)) (search : Search) (h : IsValid graph (state_o
           first_edge = ap (λ (x : Segment). x.first_edge) is;
           more = omega arith;
           targets = target_at;
-          all_targets = target_place;
+          all_targets = target_index;
         }
 
     -- and all that they have is of the visit

@@ -66,11 +66,11 @@ module _ (component first : ℕ) where
   pub settled_on_path : (m : Mark) (position : ℕ) → settled component first m ≡ OnPath position → (m ≡ OnPath position) × (position < first)
   settled_on_path New position h = absurd (cc)
   settled_on_path (Done earlier) position h = absurd (cc)
-  settled_on_path (OnPath place) position h =
-      elim (cases_lt place first) [
-        | inl l ↦ let e : OnPath place ≡ OnPath position = sym (settled_before place l) ∙ h in
-            let f : place ≡ position = cc in (e, subst (λ x. x < first) f l)
-        | inr g ↦ let e : Done component ≡ OnPath position = sym (settled_after place g) ∙ h in absurd (cc)
+  settled_on_path (OnPath index) position h =
+      elim (cases_lt index first) [
+        | inl l ↦ let e : OnPath index ≡ OnPath position = sym (settled_before index l) ∙ h in
+            let f : index ≡ position = cc in (e, subst (λ x. x < first) f l)
+        | inr g ↦ let e : Done component ≡ OnPath position = sym (settled_after index g) ∙ h in absurd (cc)
       ]
 
   -- what is done, and what was done before
@@ -78,27 +78,27 @@ module _ (component first : ℕ) where
       → (m ≡ Done number) ⊎ ((position : ℕ) × (m ≡ OnPath position) × (first ≤ position) × (component ≡ number))
   settled_done New number h = absurd (cc)
   settled_done (Done earlier) number h = inl h
-  settled_done (OnPath place) number h =
-      elim (cases_lt place first) [
-        | inl l ↦ let e : OnPath place ≡ Done number = sym (settled_before place l) ∙ h in absurd (cc)
-        | inr g ↦ let e : Done component ≡ Done number = sym (settled_after place g) ∙ h in
-            let f : component ≡ number = cc in inr (place, refl, g, f)
+  settled_done (OnPath index) number h =
+      elim (cases_lt index first) [
+        | inl l ↦ let e : OnPath index ≡ Done number = sym (settled_before index l) ∙ h in absurd (cc)
+        | inr g ↦ let e : Done component ≡ Done number = sym (settled_after index g) ∙ h in
+            let f : component ≡ number = cc in inr (index, refl, g, f)
       ]
 
   -- what was held still is, or is done
   pub settled_held : (m : Mark) (a : ℕ) → IsHeld a m → IsHeld a (settled component first m)
   settled_held New a h = h
   settled_held (Done earlier) a h = tt
-  settled_held (OnPath place) a h =
-      elim (cases_lt place first) [
-        | inl l ↦ subst (IsHeld a) (sym (settled_before place l)) h
-        | inr g ↦ subst (IsHeld a) (sym (settled_after place g)) tt
+  settled_held (OnPath index) a h =
+      elim (cases_lt index first) [
+        | inl l ↦ subst (IsHeld a) (sym (settled_before index l)) h
+        | inr g ↦ subst (IsHeld a) (sym (settled_after index g)) tt
       ]
 
   -- a component that was done stays so
   pub settled_done_by : (m : Mark) (number : ℕ) → IsDoneBy number m → IsDoneBy number (settled component first m)
   settled_done_by New number h = h
-  settled_done_by (OnPath place) number h = absurd h
+  settled_done_by (OnPath index) number h = absurd h
   settled_done_by (Done earlier) number h = h
 
   -- what is held from the first position on is done now
@@ -106,4 +106,4 @@ module _ (component first : ℕ) where
       → IsDoneBy component (settled component first m)
   held_done_by New h below = h
   held_done_by (Done earlier) h below = below earlier refl
-  held_done_by (OnPath place) h below = subst (IsDoneBy component) (sym (settled_after place h)) (omega arith)
+  held_done_by (OnPath index) h below = subst (IsDoneBy component) (sym (settled_after index h)) (omega arith)

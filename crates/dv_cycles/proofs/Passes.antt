@@ -17,14 +17,14 @@ module _ (graph : List (List ℕ)) (s : State) (h : IsValid graph s) (begun : 0 
       → IsHeld (s.segment i).first_node (s.mark v) ⊎ IsPending (s.edges - 1) s.target (s.segment i).first_edge v
   pass_closed i v l (inl a) = inl a
   pass_closed i v l (inr a) =
-      elim (cases_eq a.place (s.edges - 1)) [
+      elim (cases_eq a.index (s.edges - 1)) [
         | inl e ↦ let first : (s.segment i).first_node ≤ (last_segment s).first_node =
             first_node_le graph s h i (s.segments - 1) (omega arith) (omega arith) in
             let is : last_target s ≡ v = subst (λ k. s.target k ≡ v) e a.there in
             inl (subst (λ w. IsHeld (s.segment i).first_node (s.mark w)) is
             (held_weaker (s.mark (last_target s)) (s.segment i).first_node (last_segment s).first_node first held))
-        | inr ne ↦ let w : a.place < s.edges = a.within in
-            inr (record { place = a.place; after = a.after; within = omega arith; there = a.there })
+        | inr ne ↦ let w : a.index < s.edges = a.within in
+            inr (record { index = a.index; after = a.after; within = omega arith; there = a.there })
       ]
 
   -- each segment keeps what is known of it
@@ -49,7 +49,7 @@ module _ (graph : List (List ℕ)) (s : State) (h : IsValid graph s) (begun : 0 
     segment = pass_segment;
     before = h.before;
     covered = λ p l. let o : HasSegment graph s p = h.covered p l in
-        record { place = o.place; is_segment = o.is_segment; begun = o.begun; not_ended = o.not_ended; leads_back = o.leads_back };
+        record { index = o.index; is_segment = o.is_segment; begun = o.begun; not_ended = o.not_ended; leads_back = o.leads_back };
     done = λ u n e. let o : IsSettled graph s u n = h.done u n e in record { numbered = o.numbered; leads_down = o.leads_down };
     together = h.together;
   }

@@ -2,7 +2,7 @@
 use Rattle.std.proofs.Common.{◌≡◌, ℕ, ◌<◌, ◌≤◌, ◌⊎◌, inl, inr, List, length, take, get_or, true, refl, sym, subst, ap, arith, ◌∙◌}
 use Rattle.std.proofs.lemmas.List.{get_or-take, length-take-le}
 use Rattle.dv_cycles.specs.Ways.{leads}
-use Rattle.dv_cycles.specs.Search.{HasSegment, IsBefore, IsSettled, IsDoneBy, IsHeld, IsPath, IsPending, IsPlaced, IsSegment}
+use Rattle.dv_cycles.specs.Search.{HasSegment, IsBefore, IsSettled, IsDoneBy, IsHeld, IsPath, IsPending, IsPositioned, IsSegment}
 use Rattle.dv_cycles.specs.Search.{IsValid, LeadTo, State, beginning}
 use Rattle.dv_cycles.specs.declared.search.Mark.TheVariants.{Done}
 use Rattle.dv_cycles.specs.declared.search.Segment.{Segment}
@@ -20,7 +20,7 @@ pub record IsSame (s t : State) : Type 0 where
   pub components : s.components ≡ t.components
 
 module _ (graph : List (List ℕ)) (s t : State) (same : IsSame s t) (h : IsValid graph s) where
-  -- a place below a count of the one state is one below that of the other
+  -- an index below a count of the one state is one below that of the other
   of_nodes : {p : ℕ} → p < t.nodes → p < s.nodes
   of_nodes {p} l = subst (λ n. p < n) (sym same.nodes) l
 
@@ -47,7 +47,7 @@ module _ (graph : List (List ℕ)) (s t : State) (same : IsSame s t) (h : IsVali
   -- the marks say which nodes are on the path
   same_path : IsPath t.mark t.nodes t.node
   same_path = record {
-    placed = λ v position e. let o : IsPlaced s.nodes s.node v position = h.path.placed v position (same.mark v ∙ e) in
+    positioned = λ v position e. let o : IsPositioned s.nodes s.node v position = h.path.positioned v position (same.mark v ∙ e) in
         record { on_path = subst (λ n. position < n) same.nodes o.on_path; there = sym (same.node position o.on_path) ∙ o.there };
     on_path = λ p l. let k : p < s.nodes = of_nodes l in
         ap t.mark (sym (same.node p k)) ∙ sym (same.mark (s.node p)) ∙ h.path.on_path p k;
@@ -56,10 +56,10 @@ module _ (graph : List (List ℕ)) (s t : State) (same : IsSame s t) (h : IsVali
   -- the same edges are pending
   same_pending : (first v : ℕ) → IsPending s.edges s.target first v → IsPending t.edges t.target first v
   same_pending first v a = record {
-    place = a.place;
+    index = a.index;
     after = a.after;
-    within = subst (λ n. a.place < n) same.edges a.within;
-    there = sym (same.target a.place a.within) ∙ a.there;
+    within = subst (λ n. a.index < n) same.edges a.within;
+    there = sym (same.target a.index a.within) ∙ a.there;
   }
 
   -- the same edges are held or pending
@@ -105,11 +105,11 @@ module _ (graph : List (List ℕ)) (s t : State) (same : IsSame s t) (h : IsVali
       let k : p < s.nodes = of_nodes l in
       let o : HasSegment graph s p = h.covered p k in
       record {
-        place = o.place;
-        is_segment = subst (λ n. o.place < n) same.segments o.is_segment;
-        begun = subst (λ x. x ≤ p) (first_same o.place o.is_segment) o.begun;
+        index = o.index;
+        is_segment = subst (λ n. o.index < n) same.segments o.is_segment;
+        begun = subst (λ x. x ≤ p) (first_same o.index o.is_segment) o.begun;
         not_ended = λ i a b. let c : i < s.segments = of_segments b in subst (λ x. p < x) (first_same i c) (o.not_ended i a c);
-        leads_back = reaches_same (same.node p k) (beginning_same o.place o.is_segment) o.leads_back;
+        leads_back = reaches_same (same.node p k) (beginning_same o.index o.is_segment) o.leads_back;
       }
 
   -- what is done leads down
@@ -141,6 +141,6 @@ module _ (graph : List (List ℕ)) (s t : State) (same : IsSame s t) (h : IsVali
 pub length_front : {X : Type 0} (xs ys : List X) (n : ℕ) → ys ≡ take n xs → n ≤ length xs → n ≡ length ys
 length_front xs ys n e l = sym (ap length e ∙ length-take-le n xs l)
 
--- the places of the front
+-- the indices of the front
 pub at_front : {X : Type 0} (xs ys : List X) (n k : ℕ) (d : X) → ys ≡ take n xs → k < n → get_or xs k d ≡ get_or ys k d
 at_front xs ys n k d e l = sym (ap (λ zs. get_or zs k d) e ∙ get_or-take n xs k d l)

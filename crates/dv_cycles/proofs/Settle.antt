@@ -30,7 +30,7 @@ settled_less component last (OnPath position) other =
 module _ (component : ℕ) (old : List Mark) (nodes : ℕ) (path : List ℕ) (h : IsPath (mark_at old) nodes (node_at path)) where
   -- at first the whole path stays
   pub settle_start : (v : ℕ) → mark_at old v ≡ settled component nodes (mark_at old v)
-  settle_start v = settled_none component nodes (mark_at old v) (λ position e. (h.placed v position e).on_path)
+  settle_start v = settled_none component nodes (mark_at old v) (λ position e. (h.positioned v position e).on_path)
 
   -- one node more is done, the last one of what is left of the path
   module _ (now : List Mark) (size last v : ℕ) (next : last + 1 ≡ size) (on : size ≤ nodes) (there : node_at path last ≡ v)
@@ -62,7 +62,7 @@ module _ (component : ℕ) (old : List Mark) (nodes : ℕ) (path : List ℕ) (h 
               ∙ ap (λ x. settled component last (mark_at old x)) (sym e)
           | inr ne ↦ get_or-set_other now v w (Done component) New ne
               ∙ marked w
-              ∙ settled_less component last (mark_at old w) (λ e. ne (sym (h.placed w last e).there ∙ there))
+              ∙ settled_less component last (mark_at old w) (λ e. ne (sym (h.positioned w last e).there ∙ there))
         ]
 
     -- no node is new that was not, and the other way round

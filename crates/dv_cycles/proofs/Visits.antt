@@ -2,7 +2,7 @@
 use Rattle.std.proofs.Common.{◌≡◌, ℕ, ◌+◌, ◌<◌, ◌≤◌, ◌⊎◌, inl, inr, List, length, true, refl, sym, subst, ap, arith, ◌∙◌}
 use Rattle.std.proofs.lemmas.Bool.{cases_eq, cases_lt}
 use Rattle.dv_cycles.specs.Ways.{IsGraph, leads}
-use Rattle.dv_cycles.specs.Search.{HasSegment, IsBefore, IsSettled, IsDoneBy, IsHeld, IsPath, IsPending, IsPlaced, IsSegment}
+use Rattle.dv_cycles.specs.Search.{HasSegment, IsBefore, IsSettled, IsDoneBy, IsHeld, IsPath, IsPending, IsPositioned, IsSegment}
 use Rattle.dv_cycles.specs.Search.{IsValid, LeadTo, State, beginning}
 use Rattle.dv_cycles.specs.declared.search.Mark.{Mark}
 use Rattle.dv_cycles.specs.declared.search.Mark.TheVariants.{New, OnPath, Done}
@@ -55,11 +55,11 @@ module _ (graph : List (List ℕ)) (g : IsGraph graph) (s : State) (h : IsValid 
   -- the marks say which nodes are on the path now
   visit_path : IsPath mark (s.nodes + 1) s.node
   visit_path = record {
-    placed = λ v position e. elim (cases_eq v n) [
+    positioned = λ v position e. elim (cases_eq v n) [
       | inl is ↦ let f : OnPath s.nodes ≡ OnPath position = sym visit.marked ∙ ap mark (sym is) ∙ e in
           let at : s.nodes ≡ position = cc in
           record { on_path = omega arith; there = ap s.node (sym at) ∙ visit.node ∙ sym is }
-      | inr ne ↦ let o : IsPlaced s.nodes s.node v position = h.path.placed v position (sym (visit.others v ne) ∙ e) in
+      | inr ne ↦ let o : IsPositioned s.nodes s.node v position = h.path.positioned v position (sym (visit.others v ne) ∙ e) in
           let l : position < s.nodes = o.on_path in
           record { on_path = omega arith; there = o.there }
     ];
@@ -80,13 +80,13 @@ module _ (graph : List (List ℕ)) (g : IsGraph graph) (s : State) (h : IsValid 
   -- what was pending still is
   pending_more : (first v : ℕ) → IsPending s.edges s.target first v → IsPending edges s.target first v
   pending_more first v a =
-      let l : a.place < s.edges = a.within in let m : s.edges ≤ edges = visit.more in
-      record { place = a.place; after = a.after; within = omega arith; there = a.there }
+      let l : a.index < s.edges = a.within in let m : s.edges ≤ edges = visit.more in
+      record { index = a.index; after = a.after; within = omega arith; there = a.there }
 
-  -- what is pending from a place on is so from an earlier one on
+  -- what is pending from an index on is so from an earlier one on
   pending_from : (first v : ℕ) → first ≤ s.edges → IsPending edges s.target s.edges v → IsPending edges s.target first v
   pending_from first v l a =
-      let m : s.edges ≤ a.place = a.after in record { place = a.place; after = omega arith; within = a.within; there = a.there }
+      let m : s.edges ≤ a.index = a.after in record { index = a.index; after = omega arith; within = a.within; there = a.there }
 
   -- the new node at the end of the path
   at_end : (p : ℕ) → s.nodes ≤ p → p < s.nodes + 1 → s.node p ≡ n
@@ -172,10 +172,10 @@ module _ (graph : List (List ℕ)) (g : IsGraph graph) (s : State) (h : IsValid 
   visit_covered p l =
       elim (cases_lt p s.nodes) [
         | inl less ↦ let o : HasSegment graph s p = h.covered p less in
-            let is : o.place < s.segments = o.is_segment in
+            let is : o.index < s.segments = o.is_segment in
             let first : (s.segment s.segments).first_node ≡ s.nodes = visit.first_node in
             record {
-              place = o.place;
+              index = o.index;
               is_segment = omega arith;
               begun = o.begun;
               not_ended = λ i a b. elim (cases_lt i s.segments) [
@@ -187,7 +187,7 @@ module _ (graph : List (List ℕ)) (g : IsGraph graph) (s : State) (h : IsValid 
             }
         | inr more ↦ let first : (s.segment s.segments).first_node ≡ s.nodes = visit.first_node in
             record {
-              place = s.segments;
+              index = s.segments;
               is_segment = omega arith;
               begun = omega arith;
               not_ended = λ i a b. absurd (omega arith);

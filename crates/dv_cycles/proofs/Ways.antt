@@ -103,8 +103,8 @@ module _ (graph : List (List ℕ)) where
   way_kept R here edge on u v h = below_kept R here edge on (length graph) u v h
 
 -- where a node stands in a list
-pub is_in_place : (v : ℕ) (nodes : List ℕ) → is_in v nodes ≡ true → (k : ℕ) × (k < length nodes) × (get_or nodes k 0 ≡ v)
-is_in_place v nodes h =
+pub is_in_index : (v : ℕ) (nodes : List ℕ) → is_in v nodes ≡ true → (k : ℕ) × (k < length nodes) × (get_or nodes k 0 ≡ v)
+is_in_index v nodes h =
     let a : Any (λ w. nat_eq w v ≡ true) nodes = Any-from_list_any (λ w. nat_eq w v) nodes h in
     let e : get_or nodes a.0 a.1 ≡ v = a.3 ∙ eqb-true a.1 v a.4 in
     (a.0, a.2, get_or_default nodes a.0 0 a.1 a.2 ∙ e)
@@ -120,7 +120,7 @@ from_within graph u v h =
 -- an edge leads to a node of the graph
 pub edge_within : (graph : List (List ℕ)) (u v : ℕ) → IsGraph graph → leads graph u v ≡ true → v < length graph
 edge_within graph u v g h =
-    let at = is_in_place v (get_or graph u []) h in
+    let at = is_in_index v (get_or graph u []) h in
     subst (λ w. w < length graph) at.2 (g u [] (from_within graph u v h) at.0 0 at.1)
 
 -- ways of a graph

@@ -19,7 +19,7 @@ node_at path position = slice_index_or path position 0
 abbrev pub nowhere : Segment
 nowhere = record { first_node = 0; first_edge = 0 }
 
--- the segment at a place
+-- the segment at an index
 abbrev pub segment_at : List Segment → ℕ → Segment
 segment_at segments i = slice_index_or segments i nowhere
 
@@ -66,7 +66,7 @@ settled component first New = New
 settled component first (OnPath position) = if nat_lt position first then OnPath position else Done component
 settled component first (Done earlier) = Done earlier
 
--- where a search has come to: its marks, and its path, pending edges and segments as counts and functions of places
+-- where a search has come to: its marks, and its path, pending edges and segments as counts and functions of indices
 pub record State : Type 0 where
   pub mark : ℕ → Mark
   pub nodes : ℕ
@@ -98,12 +98,12 @@ state_of s = state s.marks.items s.path.items s.pending.items s.segments.items s
 abbrev pub beginning : State → ℕ → ℕ
 beginning s i = s.node (s.segment i).first_node
 
--- a pending edge, from a place on, leads to a node
+-- a pending edge, from an index on, leads to a node
 pub record IsPending (edges : ℕ) (target : ℕ → ℕ) (first v : ℕ) : Type 0 where
-  pub place : ℕ
-  pub after : first ≤ place
-  pub within : place < edges
-  pub there : target place ≡ v
+  pub index : ℕ
+  pub after : first ≤ index
+  pub within : index < edges
+  pub there : target index ≡ v
 
 -- what is known of a segment, and of all that the path and the pending edges have after its beginning
 pub record IsSegment (graph : List (List ℕ)) (s : State) (i : ℕ) : Type 0 where
@@ -121,11 +121,11 @@ pub record IsBefore (s t : Segment) : Type 0 where
 
 -- the segment of a position, which leads back to where the segment begins
 pub record HasSegment (graph : List (List ℕ)) (s : State) (p : ℕ) : Type 0 where
-  pub place : ℕ
-  pub is_segment : place < s.segments
-  pub begun : (s.segment place).first_node ≤ p
-  pub not_ended : (i : ℕ) → place < i → i < s.segments → p < (s.segment i).first_node
-  pub leads_back : Reaches graph (s.node p) (beginning s place)
+  pub index : ℕ
+  pub is_segment : index < s.segments
+  pub begun : (s.segment index).first_node ≤ p
+  pub not_ended : (i : ℕ) → index < i → i < s.segments → p < (s.segment i).first_node
+  pub leads_back : Reaches graph (s.node p) (beginning s index)
 
 -- a node of a component leads to nodes of components that were done no later
 pub record IsSettled (graph : List (List ℕ)) (s : State) (u component : ℕ) : Type 0 where
@@ -133,13 +133,13 @@ pub record IsSettled (graph : List (List ℕ)) (s : State) (u component : ℕ) :
   pub leads_down : (v : ℕ) → leads graph u v ≡ true → IsDoneBy component (s.mark v)
 
 -- a node is at the position of a path that its mark says
-pub record IsPlaced (nodes : ℕ) (node : ℕ → ℕ) (v position : ℕ) : Type 0 where
+pub record IsPositioned (nodes : ℕ) (node : ℕ → ℕ) (v position : ℕ) : Type 0 where
   pub on_path : position < nodes
   pub there : node position ≡ v
 
 -- marks say which nodes are on a path, and where
 pub record IsPath (mark : ℕ → Mark) (nodes : ℕ) (node : ℕ → ℕ) : Type 0 where
-  pub placed : (v position : ℕ) → mark v ≡ OnPath position → IsPlaced nodes node v position
+  pub positioned : (v position : ℕ) → mark v ≡ OnPath position → IsPositioned nodes node v position
   pub on_path : (p : ℕ) → p < nodes → mark (node p) ≡ OnPath p
 
 -- what holds between the steps of a search

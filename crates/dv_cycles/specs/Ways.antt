@@ -1,4 +1,4 @@
--- Directed graphs: the node at a place leads to the nodes of its list. (Warshall 1962: ways through the nodes below a place.)
+-- Directed graphs: the node at an index leads to the nodes of its list. (Warshall 1962: ways through the nodes below an index.)
 use Rattle.std.specs.Prelude.{◌≡◌, ℕ, zero, suc, ◌<◌, ◌==◌, ◌&&◌, ◌||◌, Bool, true, List, [], length, slice_index_or, All}
 use Rattle.std.specs.List.{list_any}
 
@@ -10,7 +10,7 @@ is_in v nodes = list_any (λ w. w == v) nodes
 abbrev pub leads : List (List ℕ) → ℕ → ℕ → Bool
 leads graph u v = is_in v (slice_index_or graph u [])
 
--- a way of one node, of one edge, or through nodes below a place alone
+-- a way of one node, of one edge, or through nodes below an index alone
 abbrev pub has_way_below : ℕ → List (List ℕ) → ℕ → ℕ → Bool
 has_way_below zero graph u v = u == v || leads graph u v
 has_way_below (suc k) graph u v = has_way_below k graph u v || (has_way_below k graph u k && has_way_below k graph k v)

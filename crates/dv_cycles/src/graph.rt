@@ -10,7 +10,7 @@ use std::marker::Model;
 /// A directed graph: for each node the nodes that its edges lead to.
 #[derive(Drop)]
 pub struct Graph {
-    /// For each node the place where its edges begin; they end where those of the next one begin.
+    /// For each node the index where its edges begin; they end where those of the next one begin.
     starts: Vec<usize>,
     /// The nodes that the edges lead to.
     targets: Vec<usize>,
@@ -83,27 +83,27 @@ impl Graph {
     }
 }
 
-/// The part of a list that begins at a place of a cut.
-fn part<'a>(starts: &[usize], targets: &'a [usize], place: usize) -> &'a [usize]
-    requires place { place < length starts.now }
+/// The part of a list that begins at an index of a cut.
+fn part<'a>(starts: &[usize], targets: &'a [usize], index: usize) -> &'a [usize]
+    requires index { index < length starts.now }
     requires cut { IsCut starts.now (length targets.now) }
-    ensures { result.now ≡ slice_range targets.now (slice_index_or starts.now place 0)
-        (slice_index_or starts.now (place + 1) (length targets.now)) }
+    ensures { result.now ≡ slice_range targets.now (slice_index_or starts.now index 0)
+        (slice_index_or starts.now (index + 1) (length targets.now)) }
 {
-    let start = starts[place];
-    let end = end_of(starts, place, targets.len());
+    let start = starts[index];
+    let end = end_of(starts, index, targets.len());
     &targets[start..end]
 }
 
-/// The place at which the part that begins at a place of a cut ends.
-fn end_of(starts: &[usize], place: usize, total: usize) -> usize
-    requires place { place < length starts.now }
+/// The index at which the part that begins at an index of a cut ends.
+fn end_of(starts: &[usize], index: usize, total: usize) -> usize
+    requires index { index < length starts.now }
     requires cut { IsCut starts.now total }
-    ensures end { result ≡ slice_index_or starts.now (place + 1) total }
+    ensures end { result ≡ slice_index_or starts.now (index + 1) total }
     ensures within { result ≤ total }
 {
-    if place + 1 < starts.len() {
-        starts[place + 1]
+    if index + 1 < starts.len() {
+        starts[index + 1]
     } else {
         total
     }

@@ -30,7 +30,7 @@ pub enum Mark {
 pub struct Segment {
     /// The position in the path at which it begins; it ends where the next one begins.
     pub first_node: usize,
-    /// The place in the pending edges at which its own begin.
+    /// The index in the pending edges at which its own begin.
     pub first_edge: usize,
 }
 

@@ -70,20 +70,20 @@ fn beginnings(
     Ok(count)
 }
 
-/// Of the texts that differ from a text by this byte at one place, those answered as is wanted.
+/// Of the texts that differ from a text by this byte at one offset, those answered as is wanted.
 fn replaced(alloc: Global, text: &[u8], byte: u8, wanted: Wanted) -> Result<Count, AllocError> {
     let mut count = Count::new();
     let mut damaged = Vec::from_slice(alloc, text)?;
-    for (place, kept) in text.iter().enumerate() {
-        put(&mut damaged, place, byte);
+    for (offset, kept) in text.iter().enumerate() {
+        put(&mut damaged, offset, byte);
         count.add(is_wanted(alloc, &damaged, wanted)?);
-        put(&mut damaged, place, *kept);
+        put(&mut damaged, offset, *kept);
     }
     Ok(count)
 }
 
-fn put(text: &mut Vec<u8>, place: usize, byte: u8) {
-    if let Some(there) = text.get_mut(place) {
+fn put(text: &mut Vec<u8>, offset: usize, byte: u8) {
+    if let Some(there) = text.get_mut(offset) {
         *there = byte;
     }
 }
@@ -95,7 +95,7 @@ pub fn is_as_known<R: AllocGlobal + Files + Print>(rt: &R, name: &str) -> io::Re
     let alloc = rt.alloc();
     let whole = text.len().saturating_add(1);
     let ended = match text.iter().rposition(|byte| *byte == b';') {
-        Some(place) => place.saturating_add(1),
+        Some(offset) => offset.saturating_add(1),
         None => whole,
     };
     let early = beginnings(alloc, &text, 0, ended, Wanted::Refusal("E4"))?;

@@ -24,9 +24,9 @@ pub fn damaged(alloc: Global, source: &mut Source, text: &[u8]) -> Result<Vec<u8
 
 /// A text with one random change.
 fn changed(alloc: Global, source: &mut Source, text: &[u8]) -> Result<Vec<u8>, AllocError> {
-    let first = source.place(text.len());
+    let first = source.offset(text.len());
     let last = first
-        .saturating_add(source.place(MOST_BYTES))
+        .saturating_add(source.offset(MOST_BYTES))
         .min(text.len());
     match source.below(6) {
         0 => joined(alloc, text, first, &[any_byte(source)], first),
@@ -41,14 +41,14 @@ fn changed(alloc: Global, source: &mut Source, text: &[u8]) -> Result<Vec<u8>, A
             last,
         ),
         _ => {
-            let place = source.place(text.len());
+            let offset = source.offset(text.len());
             let piece = text.get(first..last).unwrap_or(&[]);
-            joined(alloc, text, place, piece, place)
+            joined(alloc, text, offset, piece, offset)
         }
     }
 }
 
-/// What stands in a text before a place, a piece, and what stands from another place on.
+/// What stands in a text before an offset, a piece, and what stands from another offset on.
 fn joined(
     alloc: Global,
     text: &[u8],
@@ -67,6 +67,6 @@ fn any_byte(source: &mut Source) -> u8 {
 }
 
 fn sign(source: &mut Source) -> u8 {
-    let place = source.place(SIGNS.len().saturating_sub(1));
-    SIGNS.as_slice().get(place).copied().unwrap_or(b' ')
+    let offset = source.offset(SIGNS.len().saturating_sub(1));
+    SIGNS.as_slice().get(offset).copied().unwrap_or(b' ')
 }

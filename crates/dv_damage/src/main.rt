@@ -1,7 +1,13 @@
-//! Throws damaged texts at the checks and the runs: each has to be answered, by one line where it is refused.
+//! A test that is a program: it throws damaged texts at the checks and the runs of `dv_job`. Each has to be answered,
+//! by one line where it is refused, and a check and a run have to agree.
 //!
-//! The first word names a model that is cut and damaged byte by byte, where it is known what has to be answered; the second a
-//! file of throws, and each other word a model that is cut and damaged byte by byte. `data/README.md` says more.
+//! What is wanted follows from the damage: of one model it is known what each beginning and each replaced byte is
+//! answered with, and of all others only that there is an answer. The counts that are printed follow from the lengths
+//! of the files.
+//!
+//! The first word names a model that is cut and damaged byte by byte, where it is known what has to be answered; the
+//! second a file of throws, and each other word a model that is cut and damaged byte by byte. `data/README.md` says
+//! more.
 #![tactic(auto)]
 
 /// Whether an answer is one.

@@ -22,8 +22,8 @@ impl Source {
         if bound == 0 { 0 } else { next % bound }
     }
 
-    /// A place in a list of this length, or its end.
-    pub fn place(&mut self, length: usize) -> usize {
+    /// An offset in a list of this length, or its end.
+    pub fn offset(&mut self, length: usize) -> usize {
         let bound = u32::try_from(length).unwrap_or(u32::MAX).saturating_add(1);
         usize::try_from(self.below(bound)).unwrap_or(0)
     }

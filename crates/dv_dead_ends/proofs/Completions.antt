@@ -9,7 +9,7 @@ use Rattle.dv_lex.specs.declared.token.Keyword.{Keyword}
 use Rattle.dv_lex.specs.declared.token.Symbol.{Symbol}
 use Rattle.dv_lex.specs.declared.token.Symbol.TheVariants as symbol
 use Rattle.dv_parser.specs.Reading.{Obstacle, Unexpected, TooDeep, TooShort, Read, read_then, choose, same_kind, begins, after}
-use Rattle.dv_parser.specs.Reading.{Reader, place_at, name_of, name_at, number_of, number_at, many_at, braces_at}
+use Rattle.dv_parser.specs.Reading.{Reader, offset_at, name_of, name_at, number_of, number_at, many_at, braces_at}
 use Rattle.dv_parser.proofs.Tokens.{ok_is, err_ok, then_is, same_kind-same, err_is}
 use Rattle.dv_parser.proofs.Readers.{Shortens, Always}
 use Rattle.dv_dead_ends.proofs.Steady.{IsAt, SteadyAt, IsSteady, ByFirst, ReadsOn, Leaves, StopsThere, known_by_first, AtEnd}
@@ -18,7 +18,7 @@ use Rattle.dv_dead_ends.proofs.Steady.{IsOfFirst, begins_of_first, ok_err, many_
 
 -- a token of a kind
 abbrev pub of_kind : TokenKind → Token
-of_kind k = record { kind = k; place = 0 }
+of_kind k = record { kind = k; offset = 0 }
 
 abbrev pub a_number : Token
 a_number = of_kind (kind.Number 0)
@@ -99,7 +99,7 @@ on_first read Ends t (ReadsOn next c h) us = record {
       record { more = m.more; reads = λ rest e. let r = m.reads rest e in (r.0, h (us ++ (m.more ++ rest)) ∙ r.1) };
 }
 on_first read Ends t (Leaves x h) us = record { completion = λ u. absurd (left_over x t us (subst Unfinished (h us) u)) }
-on_first read Ends t (StopsThere o at h) us = record { completion = λ u. absurd (stopped o t.place at (subst Unfinished (h us) u)) }
+on_first read Ends t (StopsThere o at h) us = record { completion = λ u. absurd (stopped o t.offset at (subst Unfinished (h us) u)) }
 
 pub some_by_first : {A : Type 0} (read : Reader A) (Ends : List Token → Type 0) → AtEnd read → ((t : Token) → OnFirst read Ends t)
     → CompletesSome read Ends
@@ -142,7 +142,7 @@ parted_unfinished (Err o) f h = parted_err o f h
 -- the second reader reads what fills it behind a completion of the first
 filled_behind : {A B : Type 0} (first : Reader A) (second : ℕ → A → Reader B) (Ends1 Ends2 : List Token → Type 0) (fill2 ts : List Token)
     → Completion first Ends1 ts
-    → ((place : ℕ) (x : A) (rest : List Token) → Ends2 rest → (y : B) × (second place x (fill2 ++ rest) ≡ Ok (y, rest)))
+    → ((offset : ℕ) (x : A) (rest : List Token) → Ends2 rest → (y : B) × (second offset x (fill2 ++ rest) ≡ Ok (y, rest)))
     → ((rest : List Token) → Ends2 rest → Ends1 (fill2 ++ rest))
     → Completion (one_then first second) Ends2 ts
 filled_behind first second Ends1 Ends2 fill2 ts c filled follows = record {
@@ -151,23 +151,23 @@ filled_behind first second Ends1 Ends2 fill2 ts c filled follows = record {
       let us : List Token = ts ++ ((c.more ++ fill2) ++ rest) in
       let r = c.reads (fill2 ++ rest) (follows rest h) in
       let here : first us ≡ Ok (r.0, fill2 ++ rest) = ap (λ (v : List Token). first (ts ++ v)) (append_assoc c.more fill2 rest) ∙ r.1 in
-      let f = filled (place_at us) r.0 rest h in
+      let f = filled (offset_at us) r.0 rest h in
       (f.0, then_is (first us) _ (r.0, fill2 ++ rest) here ∙ f.1);
 }
 
 then_at : {A B : Type 0} (first : Reader A) (second : ℕ → A → Reader B) (Ends1 Ends2 : List Token → Type 0) (fill2 ts : List Token)
     → SteadyAt first ts → CompletesAt first Ends1 ts
-    → ((place : ℕ) (x : A) (rest : List Token) → Ends2 rest → (y : B) × (second place x (fill2 ++ rest) ≡ Ok (y, rest)))
+    → ((offset : ℕ) (x : A) (rest : List Token) → Ends2 rest → (y : B) × (second offset x (fill2 ++ rest) ≡ Ok (y, rest)))
     → ((rest : List Token) → Ends2 rest → Ends1 (fill2 ++ rest))
-    → ((x : A) (rest : List Token) → first ts ≡ Ok (x, rest) → CompletesAt (second (place_at ts) x) Ends2 rest)
+    → ((x : A) (rest : List Token) → first ts ≡ Ok (x, rest) → CompletesAt (second (offset_at ts) x) Ends2 rest)
     → CompletesAt (one_then first second) Ends2 ts
 unfolding Parted
 then_at first second Ends1 Ends2 fill2 ts s c filled follows each2 = record {
-  completion = λ u. elim (parted_unfinished (first ts) (λ x. second (place_at ts) x.0 x.1) u) [
+  completion = λ u. elim (parted_unfinished (first ts) (λ x. second (offset_at ts) x.0 x.1) u) [
     | inl f ↦ filled_behind first second Ends1 Ends2 fill2 ts (c.completion f) filled follows
     | inr a ↦
         let m = (each2 a.0 (a.1 ∷ a.2) a.3).completion a.4 in
-        let on = itself_to (second (place_at ts) a.0) [] a.1 a.2 refl in
+        let on = itself_to (second (offset_at ts) a.0) [] a.1 a.2 refl in
         let g = behind_read first second ts (a.1 ∷ a.2) a.0 a.1 a.2 _ s a.3 on in
         record {
           more = m.more;
@@ -183,17 +183,17 @@ then_at first second Ends1 Ends2 fill2 ts s c filled follows each2 = record {
 
 pub then_completes : {A B : Type 0} {first : Reader A} (second : ℕ → A → Reader B) {Ends1 Ends2 : List Token → Type 0}
     {fill1 fill2 : List Token} → Completes first Ends1 fill1
-    → ((rest : List Token) → Ends2 rest → Ends1 (fill2 ++ rest)) → ((place : ℕ) (x : A) → Completes (second place x) Ends2 fill2)
+    → ((rest : List Token) → Ends2 rest → Ends1 (fill2 ++ rest)) → ((offset : ℕ) (x : A) → Completes (second offset x) Ends2 fill2)
     → Completes (one_then first second) Ends2 (fill1 ++ fill2)
 unfolding filled_behind
 then_completes {first = first} second {Ends1 = Ends1} {Ends2 = Ends2} {fill1 = fill1} {fill2 = fill2} c follows c2 = record {
   some = record {
-    steady = then_steady first second c.some.steady (λ place x. (c2 place x).some.steady);
+    steady = then_steady first second c.some.steady (λ offset x. (c2 offset x).some.steady);
     behind = λ t us. then_at first second Ends1 Ends2 fill2 (t ∷ us) (c.some.steady (t ∷ us)) (c.some.behind t us)
-        (λ place x. (c2 place x).filled) follows (λ x rest e. each (c2 (place_at (t ∷ us)) x) rest);
+        (λ offset x. (c2 offset x).filled) follows (λ x rest e. each (c2 (offset_at (t ∷ us)) x) rest);
   };
   filled = (filled_behind first second Ends1 Ends2 fill2 [] (record { more = fill1; reads = c.filled })
-      (λ place x. (c2 place x).filled) follows).reads;
+      (λ offset x. (c2 offset x).filled) follows).reads;
 }
 
 -- ---- A choice by the first token
@@ -229,50 +229,50 @@ choose_completes k c other d = choose_completes_by (begins k) (begins_of_first k
 -- ---- Single tokens
 
 pub after_completes : {B : Type 0} (k : TokenKind) (second : ℕ → Reader B) {Ends : List Token → Type 0} {fill : List Token}
-    → ((place : ℕ) → Completes (second place) Ends fill)
-    → Completes (λ us. read_then (after k us) (λ rest. second (place_at us) rest)) Ends (of_kind k ∷ fill)
-unfolding after place_at choose read_then
+    → ((offset : ℕ) → Completes (second offset) Ends fill)
+    → Completes (λ us. read_then (after k us) (λ rest. second (offset_at us) rest)) Ends (of_kind k ∷ fill)
+unfolding after offset_at choose read_then
 after_completes k second {Ends = Ends} {fill = fill} c = record {
   some = some_by_first _ Ends (inl refl) (λ t. elim (cases_Bool (same_kind t.kind k)) [
-    | inl e ↦ ReadsOn (second t.place) (fill, c t.place) (λ ts. rw e refl)
-    | inr e ↦ StopsThere (Unexpected t.place) refl (λ ts. rw e refl)
+    | inl e ↦ ReadsOn (second t.offset) (fill, c t.offset) (λ ts. rw e refl)
+    | inr e ↦ StopsThere (Unexpected t.offset) refl (λ ts. rw e refl)
   ]);
   filled = λ rest h. rw (same_kind-same k) ((c 0).filled rest h);
 }
 
 -- where there is no room behind a token
 pub deep_completes : {B : Type 0} (k : TokenKind) (Ends : List Token → Type 0)
-    → CompletesSome {A = B} (λ us. read_then (after k us) (λ rest. Err (TooDeep (place_at us)))) Ends
-unfolding after place_at choose read_then
+    → CompletesSome {A = B} (λ us. read_then (after k us) (λ rest. Err (TooDeep (offset_at us)))) Ends
+unfolding after offset_at choose read_then
 deep_completes k Ends =
     some_by_first _ Ends (inl refl) (λ t. elim (cases_Bool (same_kind t.kind k)) [
-      | inl e ↦ StopsThere (TooDeep t.place) refl (λ ts. rw e refl)
-      | inr e ↦ StopsThere (Unexpected t.place) refl (λ ts. rw e refl)
+      | inl e ↦ StopsThere (TooDeep t.offset) refl (λ ts. rw e refl)
+      | inr e ↦ StopsThere (Unexpected t.offset) refl (λ ts. rw e refl)
     ])
 
 pub name_completes : Completes name_at Always (a_name ∷ [])
 unfolding name_at
 name_completes = record {
-  some = some_by_first name_at Always (inl refl) (λ t. one t.kind t.place t (λ ts. refl) refl);
-  filled = λ rest h. (record { number = 0; place = 0 }, refl);
+  some = some_by_first name_at Always (inl refl) (λ t. one t.kind t.offset t (λ ts. refl) refl);
+  filled = λ rest h. (record { number = 0; offset = 0 }, refl);
 }
   where
-    one : (k : TokenKind) (place : ℕ) (t : Token) → ((ts : List Token) → name_at (t ∷ ts) ≡ name_of k place ts) → t.place ≡ place
+    one : (k : TokenKind) (offset : ℕ) (t : Token) → ((ts : List Token) → name_at (t ∷ ts) ≡ name_of k offset ts) → t.offset ≡ offset
         → OnFirst name_at Always t
-    one (kind.Name n) place t h at = ReadsOn _ ([], leaves_complete (record { number = n; place = place }) Always) h
-    one _ place t h at = StopsThere (Unexpected place) at h
+    one (kind.Name n) offset t h at = ReadsOn _ ([], leaves_complete (record { number = n; offset = offset }) Always) h
+    one _ offset t h at = StopsThere (Unexpected offset) at h
 
 pub number_completes : Completes number_at Always (a_number ∷ [])
 unfolding number_at
 number_completes = record {
-  some = some_by_first number_at Always (inl refl) (λ t. one t.kind t.place t (λ ts. refl) refl);
-  filled = λ rest h. (record { value = 0; place = 0 }, refl);
+  some = some_by_first number_at Always (inl refl) (λ t. one t.kind t.offset t (λ ts. refl) refl);
+  filled = λ rest h. (record { value = 0; offset = 0 }, refl);
 }
   where
-    one : (k : TokenKind) (place : ℕ) (t : Token) → ((ts : List Token) → number_at (t ∷ ts) ≡ number_of k place ts) → t.place ≡ place
+    one : (k : TokenKind) (offset : ℕ) (t : Token) → ((ts : List Token) → number_at (t ∷ ts) ≡ number_of k offset ts) → t.offset ≡ offset
         → OnFirst number_at Always t
-    one (kind.Number n) place t h at = ReadsOn _ ([], leaves_complete (record { value = n; place = place }) Always) h
-    one _ place t h at = StopsThere (Unexpected place) at h
+    one (kind.Number n) offset t h at = ReadsOn _ ([], leaves_complete (record { value = n; offset = offset }) Always) h
+    one _ offset t h at = StopsThere (Unexpected offset) at h
 
 -- ---- Lists
 
@@ -295,12 +295,12 @@ many_within {A = A} one stop Ends fill short c ends (suc n) (t ∷ us) lt =
     agree (many_at one stop) _ (Begins stop) t (λ other. many_step one stop short (t ∷ other)) us
     (choose_at (begins stop) (λ ts. Ok ([], ts)) _ (Begins stop) t us (begins_of_first stop)
     ((leaves_complete [] (Begins stop)).some.behind t us)
-    (then_at one (λ place x ts. read_then (many_at one stop ts) (λ xs. Ok (x ∷ xs.0, xs.1))) Ends (Begins stop) [] (t ∷ us)
-    (c.some.steady (t ∷ us)) (c.some.behind t us) (λ place x rest h. (x ∷ [], one_read one stop x rest h)) ends (λ x rest e.
-    then_at (many_at one stop) (λ place xs ts. Ok (x ∷ xs, ts)) (Begins stop) (Begins stop) [] rest
+    (then_at one (λ offset x ts. read_then (many_at one stop ts) (λ xs. Ok (x ∷ xs.0, xs.1))) Ends (Begins stop) [] (t ∷ us)
+    (c.some.steady (t ∷ us)) (c.some.behind t us) (λ offset x rest h. (x ∷ [], one_read one stop x rest h)) ends (λ x rest e.
+    then_at (many_at one stop) (λ offset xs ts. Ok (x ∷ xs, ts)) (Begins stop) (Begins stop) [] rest
     (many_steady one stop short c.some.steady rest)
     (many_within one stop Ends fill short c ends n rest (omega (arith, short (t ∷ us) (x, rest) e, lt)))
-    (λ place xs last h. (x ∷ xs, refl)) (λ last h. h) (λ xs last f. each (leaves_complete (x ∷ xs) (Begins stop)) last))))
+    (λ offset xs last h. (x ∷ xs, refl)) (λ last h. h) (λ xs last f. each (leaves_complete (x ∷ xs) (Begins stop)) last))))
 
 pub many_completes : {A : Type 0} {one : Reader A} (stop : TokenKind) {Ends : List Token → Type 0} {fill : List Token} → Shortens one
     → Completes one Ends fill → ((rest : List Token) → Begins stop rest → Ends rest) → Completes (many_at one stop) (Begins stop) []

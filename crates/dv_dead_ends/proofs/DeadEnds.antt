@@ -24,10 +24,10 @@ none_begins limits ts o g b =
     subst (λ (us : List Token). IsFileWithin limits us b.1) (append_assoc g.front (g.token ∷ []) b.0) b.2 in
     file_refused limits (g.front ++ g.token ∷ b.0) o (file_err limits _ o (g.steady b.0)) b.1 is
 
-place_is : (o : Obstacle) (n end : ℕ) → IsAt o n → n ≡ (refusal_of o end).place
-place_is (Unexpected place) n end at = at
-place_is (TooDeep place) n end at = at
-place_is TooShort n end at = absurd at
+offset_is : (o : Obstacle) (n end : ℕ) → IsAt o n → n ≡ (refusal_of o end).offset
+offset_is (Unexpected offset) n end at = at
+offset_is (TooDeep offset) n end at = at
+offset_is TooShort n end at = absurd at
 
 -- where the reader stops first, a file begins with the tokens before
 record StopsFirst (limits : Limits) (ts : List Token) (o : Obstacle) : Type 0 where
@@ -52,7 +52,7 @@ earlier limits ts o p g h =
       behind = h.behind ++ g.token ∷ g.behind;
       whole = g.whole ∙ ap (λ (us : List Token). us ++ g.token ∷ g.behind) h.whole ∙ append_assoc h.front (h.token ∷ h.behind)
           (g.token ∷ g.behind);
-      at = subst (λ (q : Obstacle). IsAt q h.token.place) same h.at;
+      at = subst (λ (q : Obstacle). IsAt q h.token.offset) same h.at;
       steady = λ other. h.steady other ∙ ap Err same;
     }
 
@@ -124,32 +124,32 @@ head_is (x ∷ front) t u c d e = head_is front t u c d (tail_is _ _ _ _ e).1
 -- ---- The number of the refusal
 
 -- a token that can't stand there stops the reader within greater limits too
-still_stops : (wide : Limits) → AreWidened the_limits wide → (ts : List Token) (place : ℕ)
-    → Stops (whole_at the_limits) ts (Unexpected place) → Stops (whole_at wide) ts (Unexpected place)
-still_stops wide g ts place s = stops_as s (λ other.
+still_stops : (wide : Limits) → AreWidened the_limits wide → (ts : List Token) (offset : ℕ)
+    → Stops (whole_at the_limits) ts (Unexpected offset) → Stops (whole_at wide) ts (Unexpected offset)
+still_stops wide g ts offset s = stops_as s (λ other.
     let us : List Token = s.front ++ s.token ∷ other in
     by_answer us ((whole_widens the_limits wide g).each us) (s.steady other))
   where
-    by_answer : (us : List Token) → WidensAt (whole_at the_limits) (whole_at wide) us → whole_at the_limits us ≡ Err (Unexpected place)
-        → whole_at wide us ≡ Err (Unexpected place)
+    by_answer : (us : List Token) → WidensAt (whole_at the_limits) (whole_at wide) us → whole_at the_limits us ≡ Err (Unexpected offset)
+        → whole_at wide us ≡ Err (Unexpected offset)
     by_answer us (AnswersSame e shallow) stop = sym e ∙ stop
     by_answer us (GoesPast n d u) stop =
-        absurd (unexpected_deep place n (err_is _ _ (sym stop ∙ ap (whole_at the_limits) d.whole ∙ d.steady d.behind)))
+        absurd (unexpected_deep offset n (err_is _ _ (sym stop ∙ ap (whole_at the_limits) d.whole ∙ d.steady d.behind)))
 
-none_deeper : (ts : List Token) (place : ℕ) (s : Stops (whole_at the_limits) ts (Unexpected place))
+none_deeper : (ts : List Token) (offset : ℕ) (s : Stops (whole_at the_limits) ts (Unexpected offset))
     → ¬ BeginsFileAtAnyDepth (s.front ++ s.token ∷ [])
 unfolding still_stops
-none_deeper ts place s b =
+none_deeper ts offset s b =
     let wide : Limits = above b.0 in
     let us : List Token = (s.front ++ s.token ∷ []) ++ b.1.0 in
-    none_begins wide ts (Unexpected place) (still_stops wide (above_ours b.0) ts place s)
+    none_begins wide ts (Unexpected offset) (still_stops wide (above_ours b.0) ts offset s)
     (b.1.0, b.1.1, file_within b.0 wide (above_theirs b.0) us b.1.1 b.1.2)
 
 -- a file that is nested deeper begins with the tokens up to one that is too deep
-begins_deeper : (wide : Limits) → AreWidened the_limits wide → (ts : List Token) (place : ℕ)
-    (s : Stops (whole_at the_limits) ts (TooDeep place))
+begins_deeper : (wide : Limits) → AreWidened the_limits wide → (ts : List Token) (offset : ℕ)
+    (s : Stops (whole_at the_limits) ts (TooDeep offset))
     → BeginsFile s.front → BeginsFileWithin wide (s.front ++ s.token ∷ [])
-begins_deeper wide g ts place s begun = by_answer ((whole_widens the_limits wide g).each ts)
+begins_deeper wide g ts offset s begun = by_answer ((whole_widens the_limits wide g).each ts)
   where
     -- the tokens up to the one that the wider reader goes past
     past : (n : ℕ) (d : Stops (whole_at the_limits) ts (TooDeep n)) → BeginsFileWithin wide (d.front ++ d.token ∷ [])
@@ -167,15 +167,15 @@ begins_deeper wide g ts place s begun = by_answer ((whole_widens the_limits wide
         absurd (none_begins the_limits ts (TooDeep n) d (begins_front the_limits (d.front ++ d.token ∷ []) more (subst BeginsFile e begun)))
 
     by_answer : WidensAt (whole_at the_limits) (whole_at wide) ts → BeginsFileWithin wide (s.front ++ s.token ∷ [])
-    by_answer (AnswersSame e shallow) = absurd (shallow.never place (ap (whole_at the_limits) s.whole ∙ s.steady s.behind))
+    by_answer (AnswersSame e shallow) = absurd (shallow.never offset (ap (whole_at the_limits) s.whole ∙ s.steady s.behind))
     by_answer (GoesPast n d u) =
         past n d (begins_file wide (wide_room the_limits wide g.greater) (d.front ++ d.token ∷ []) u)
         (fronts d.front d.token d.behind s.front s.token s.behind (sym d.whole ∙ s.whole))
 
 number_is : (ts : List Token) (o : Obstacle) (end : ℕ) (s : Stops (whole_at the_limits) ts o) → BeginsFile s.front
     → IsNumberOf (refusal_of o end).number (s.front ++ s.token ∷ [])
-number_is ts (Unexpected place) end s begun = none_deeper ts place s
-number_is ts (TooDeep place) end s begun = (above the_limits, begins_deeper (above the_limits) (above_ours the_limits) ts place s begun)
+number_is ts (Unexpected offset) end s begun = none_deeper ts offset s
+number_is ts (TooDeep offset) end s begun = (above the_limits, begins_deeper (above the_limits) (above_ours the_limits) ts offset s begun)
 number_is ts TooShort end s begun = absurd s.at
 
 -- ---- The refusal of tokens
@@ -201,7 +201,7 @@ stopped ts end o e =
               token = g.token;
               behind = g.behind;
               whole = g.whole;
-              at = place_is o g.token.place end g.at;
+              at = offset_is o g.token.offset end g.at;
               begun = first.begun;
               none = none_begins the_limits ts o g;
             };
@@ -221,16 +221,16 @@ token_among : (P : Token → Type 0) (before : List Token) (t : Token) (behind :
 token_among P [] t behind h = h 0 t (omega arith)
 token_among P (u ∷ before) t behind h = token_among P before t behind (λ k d lt. h (suc k) d (omega (arith, lt)))
 
-pub within_text : (ts : List Token) (end : ℕ) (r : Refusal) → All (λ (t : Token). t.place < end) ts → refusal_of_tokens ts end ≡ Some r
-    → r.place ≤ end
+pub within_text : (ts : List Token) (end : ℕ) (r : Refusal) → All (λ (t : Token). t.offset < end) ts → refusal_of_tokens ts end ≡ Some r
+    → r.offset ≤ end
 within_text ts end r all h =
     elim (dead_end ts end r h) [
       | inl w ↦
           let d = w.first in
-          let here : All (λ (t : Token). t.place < end) (d.before ++ d.token ∷ d.behind) =
-          subst (All (λ (t : Token). t.place < end)) d.whole all in
-          omega (arith, token_among (λ (t : Token). t.place < end) d.before d.token d.behind here, d.at)
-      | inr d ↦ omega (arith, ap (λ (q : Refusal). q.place) d.0)
+          let here : All (λ (t : Token). t.offset < end) (d.before ++ d.token ∷ d.behind) =
+          subst (All (λ (t : Token). t.offset < end)) d.whole all in
+          omega (arith, token_among (λ (t : Token). t.offset < end) d.before d.token d.behind here, d.at)
+      | inr d ↦ omega (arith, ap (λ (q : Refusal). q.offset) d.0)
     ]
 
 -- ---- There is one such token
@@ -243,11 +243,11 @@ one_first ts m n a b = by (fronts a.before a.token a.behind b.before b.token b.b
     by (Longer more e) = absurd (b.none (begins_front the_limits (b.before ++ b.token ∷ []) more (subst BeginsFile e a.begun)))
     by (Shorter more e) = absurd (a.none (begins_front the_limits (a.before ++ a.token ∷ []) more (subst BeginsFile e b.begun)))
 
-pub one_place : (ts : List Token) (m n : ℕ) → NoneBeginsAt ts m → NoneBeginsAt ts n → m ≡ n
-one_place ts m n a b =
+pub one_offset : (ts : List Token) (m n : ℕ) → NoneBeginsAt ts m → NoneBeginsAt ts n → m ≡ n
+one_offset ts m n a b =
     let whole : a.before ++ a.token ∷ a.behind ≡ a.before ++ b.token ∷ b.behind =
     sym a.whole ∙ b.whole ∙ ap (λ (us : List Token). us ++ b.token ∷ b.behind) (sym (one_first ts m n a b)) in
-    sym a.at ∙ ap (λ (t : Token). t.place) (head_is a.before a.token b.token a.behind b.behind whole) ∙ b.at
+    sym a.at ∙ ap (λ (t : Token). t.offset) (head_is a.before a.token b.token a.behind b.behind whole) ∙ b.at
 
 pub none_at_end : (ts : List Token) (n : ℕ) → NoneBeginsAt ts n → ¬ BeginsFile ts
 none_at_end ts n a b = a.none

@@ -55,18 +55,18 @@ expression_within n w g e is = record { formed = is.formed; within = omega (arit
 statements_within : (n w : Limits) → AreGreater n w → (s : Statements) → AreStatements n s → AreStatements w s
 statements_within n w g Done are = tt
 statements_within n w g (Assign v e rest) are = (expression_within n w g e are.0, statements_within n w g rest are.1)
-statements_within n w g (Does c place name rest) are = statements_within n w g rest are
-statements_within n w g (Send place p e rest) are = (expression_within n w g e are.0, statements_within n w g rest are.1)
-statements_within n w g (If place e block rest) are =
+statements_within n w g (Does c offset name rest) are = statements_within n w g rest are
+statements_within n w g (Send offset p e rest) are = (expression_within n w g e are.0, statements_within n w g rest are.1)
+statements_within n w g (If offset e block rest) are =
     (expression_within n w g e are.0, statements_within n w g block are.1, statements_within n w g rest are.2)
-statements_within n w g (IfElse place e block other rest) are = (
+statements_within n w g (IfElse offset e block other rest) are = (
   expression_within n w g e are.0,
   statements_within n w g block are.1,
   statements_within n w g other are.2,
   statements_within n w g rest are.3,
 )
-statements_within n w g (For place v b block rest) are = (statements_within n w g block are.0, statements_within n w g rest are.1)
-statements_within n w g (Changes c place e x rest) are = (expression_within n w g e are.0, statements_within n w g rest are.1)
+statements_within n w g (For offset v b block rest) are = (statements_within n w g block are.0, statements_within n w g rest are.1)
+statements_within n w g (Changes c offset e x rest) are = (expression_within n w g e are.0, statements_within n w g rest are.1)
 
 ticks_within : (n w : Limits) → AreGreater n w → (ticks : Option Expression) → AreTicks n ticks → AreTicks w ticks
 ticks_within n w g None are = tt

@@ -11,7 +11,7 @@ use Rattle.dv_syntax.specs.declared.tree.Prefix.TheVariants as prefix
 use Rattle.dv_syntax.specs.Trees.{Expression, Literal, TruthValue, Named, Parens, Prefixed, Binary, Call, Elapsed, Times}
 use Rattle.dv_syntax.specs.Grammar.{Limits, prefix_kind, prefix_rank, operator_rank, depth}
 use Rattle.dv_parser.specs.Reading.{TooDeep, TooShort, read_then, within, choose, maybe, begins_name, begins_truth, begins_call}
-use Rattle.dv_parser.specs.Reading.{Reader, begins_prefix, after, number_at, place_at, operator_of, goes_on, operator_at}
+use Rattle.dv_parser.specs.Reading.{Reader, begins_prefix, after, number_at, offset_at, operator_of, goes_on, operator_at}
 use Rattle.dv_parser.specs.Reading.{call_at, elapsed_at, leaf_at, parens_at, prefixed_at, times_at, primary_at, turns}
 use Rattle.dv_parser.specs.Reading.{expression_at}
 use Rattle.dv_parser.proofs.Expressions.{expression_read, primary_depth, positive_depth, operator_rank-le, IsClosed}
@@ -31,14 +31,14 @@ use Rattle.dv_dead_ends.proofs.Widening.{deep_each, name_widens, number_widens, 
 call_widens : Widens call_at call_at IsClosed (a_word keyword.Front ∷ a_sign symbol.OpenParen ∷ a_name ∷ a_sign symbol.CloseParen ∷ [])
 unfolding call_at
 call_widens =
-    then_widens _ _ call_word_widens (λ rest h. tt) (λ place c.
+    then_widens _ _ call_word_widens (λ rest h. tt) (λ offset c.
     after_widens (kind.Symbol symbol.OpenParen) _ _ (λ _.
     then_widens _ _ name_widens (λ rest h. tt) (λ _ b.
-    after_widens (kind.Symbol symbol.CloseParen) _ _ (λ _. leaves_widens (Call c place b) IsClosed))))
+    after_widens (kind.Symbol symbol.CloseParen) _ _ (λ _. leaves_widens (Call c offset b) IsClosed))))
 
 elapsed_widens : Widens elapsed_at elapsed_at IsClosed (a_word keyword.Elapsed ∷ [])
 unfolding elapsed_at
-elapsed_widens = after_widens (kind.Keyword keyword.Elapsed) _ _ (λ place. leaves_widens (Elapsed place) IsClosed)
+elapsed_widens = after_widens (kind.Keyword keyword.Elapsed) _ _ (λ offset. leaves_widens (Elapsed offset) IsClosed)
 
 leaf_widens : Widens leaf_at leaf_at IsClosed (a_number ∷ [])
 unfolding leaf_at
@@ -46,7 +46,7 @@ leaf_widens =
     choose_widens_by begins_name begins_name_of_first
     (then_widens _ _ name_widens (λ rest h. tt) (λ _ n. leaves_widens (Named n) IsClosed)) (λ rest h. refl)
     (choose_widens_by begins_truth begins_truth_of_first
-    (then_widens _ _ truth_widens (λ rest h. tt) (λ place v. leaves_widens (TruthValue place v) IsClosed)) (λ rest h. refl)
+    (then_widens _ _ truth_widens (λ rest h. tt) (λ offset v. leaves_widens (TruthValue offset v) IsClosed)) (λ rest h. refl)
     (choose_widens_by begins_call begins_call_of_first call_widens (λ rest h. refl)
     (choose_widens (kind.Keyword keyword.Elapsed) elapsed_widens (λ rest h. refl)
     (then_widens _ _ number_widens (λ rest h. tt) (λ _ n. leaves_widens (Literal n) IsClosed)))))
@@ -62,27 +62,27 @@ parens_complete : (limit : ℕ) → WhereRoom limit → CompletesSome (parens_at
 unfolding parens_at within read_then operator_of
 parens_complete zero c = deep_completes (kind.Symbol symbol.OpenParen) IsClosed
 parens_complete (suc limit) c =
-    (after_completes (kind.Symbol symbol.OpenParen) _ (λ place.
+    (after_completes (kind.Symbol symbol.OpenParen) _ (λ offset.
     then_completes _ (c 0) (λ rest h. refl) (λ _ e.
-    after_completes (kind.Symbol symbol.CloseParen) _ (λ _. leaves_complete (Parens place e) IsClosed)))).some
+    after_completes (kind.Symbol symbol.CloseParen) _ (λ _. leaves_complete (Parens offset e) IsClosed)))).some
 
 prefixed_completes : (o : Prefix) (limit : ℕ) → WhereRoom limit → CompletesSome (prefixed_at o (expression_at limit) limit) IsClosed
 unfolding prefixed_at within read_then
 prefixed_completes o zero c = deep_completes (prefix_kind o) IsClosed
 prefixed_completes o (suc limit) c =
-    (after_completes (prefix_kind o) _ (λ place.
-    then_completes _ (c (prefix_rank o)) (λ rest h. h) (λ _ e. leaves_complete (Prefixed o place e) IsClosed))).some
+    (after_completes (prefix_kind o) _ (λ offset.
+    then_completes _ (c (prefix_rank o)) (λ rest h. h) (λ _ e. leaves_complete (Prefixed o offset e) IsClosed))).some
 
 times_complete : (limit : ℕ) → WhereRoom limit → CompletesSome (times_at (expression_at limit) limit) IsClosed
 unfolding times_at within read_then operator_of
 times_complete zero c = deep_completes (kind.Keyword keyword.Times) IsClosed
 times_complete (suc limit) c =
-    (after_completes (kind.Keyword keyword.Times) _ (λ place.
+    (after_completes (kind.Keyword keyword.Times) _ (λ offset.
     after_completes (kind.Symbol symbol.OpenParen) _ (λ _.
     then_completes _ (c 0) (λ rest h. refl) (λ _ e.
     after_completes (kind.Symbol symbol.Comma) _ (λ _.
     then_completes _ name_completes (λ rest h. tt) (λ _ b.
-    after_completes (kind.Symbol symbol.CloseParen) _ (λ _. leaves_complete (Times place e b) IsClosed))))))).some
+    after_completes (kind.Symbol symbol.CloseParen) _ (λ _. leaves_complete (Times offset e b) IsClosed))))))).some
 
 begins_prefix_of_first : (o : Prefix) (level : ℕ) → IsOfFirst (begins_prefix o level)
 begins_prefix_of_first o level [] t more other = refl
@@ -111,12 +111,12 @@ room (suc limit) c left lt level = c level
 
 turns_complete : (limit : ℕ) → WhereRoom limit → (more level : ℕ) (left : Expression)
     → Completes (turns (expression_at limit) (suc limit) more level left) IsClosed []
-unfolding operator_at maybe choose place_at
+unfolding operator_at maybe choose offset_at
 turns_complete limit c zero level left = record {
   some = some_by_first _ IsClosed (inr (left, refl)) (λ t. elim (cases_option (operator_of t.kind)) [
     | inl e ↦ Leaves left (λ ts. rw e refl)
     | inr o ↦ elim (cases_Bool (goes_on level left o.0)) [
-      | inl e ↦ StopsThere (TooDeep t.place) refl (λ ts. rw (o.1, e) refl)
+      | inl e ↦ StopsThere (TooDeep t.offset) refl (λ ts. rw (o.1, e) refl)
       | inr e ↦ Leaves left (λ ts. rw (o.1, e) refl)
     ]
   ]);
@@ -137,7 +137,7 @@ turns_complete limit c (suc more) level left = record {
                   (λ _ right. turns_complete limit c more level (Binary o.0 left right)),
             )
             (λ ts. rw (o.1, e, d) refl)
-        | inr d ↦ StopsThere (TooDeep t.place) refl (λ ts. rw (o.1, e, d) refl)
+        | inr d ↦ StopsThere (TooDeep t.offset) refl (λ ts. rw (o.1, e, d) refl)
       ]
       | inr e ↦ Leaves left (λ ts. rw (o.1, e) refl)
     ]
@@ -169,41 +169,41 @@ no_expression (suc limit) level = refl
 
 parens_widen : (n w : ℕ) → n < w → WidenWhereRoom n w
     → (ts : List Token) → WidensAt (parens_at (expression_at n) n) (parens_at (expression_at w) w) ts
-unfolding parens_at after place_at choose within read_then operator_of
+unfolding parens_at after offset_at choose within read_then operator_of
 parens_widen n zero lt c = absurd (omega (arith, lt))
 parens_widen zero (suc w) lt c =
     deep_each _ _ (kind.Symbol symbol.OpenParen) refl refl
     (λ t ts e. rw e refl) (λ t e. rw (e, no_expression (suc w) 0) refl) (λ t ts e. rw e refl) (λ t ts e. rw e refl)
 parens_widen (suc n) (suc w) lt c =
-    after_each (kind.Symbol symbol.OpenParen) _ _ (λ place.
+    after_each (kind.Symbol symbol.OpenParen) _ _ (λ offset.
     (then_widens _ _ (c 0) (λ rest h. refl) (λ _ e.
-    after_widens (kind.Symbol symbol.CloseParen) _ _ (λ _. leaves_widens (Parens place e) IsClosed))).each)
+    after_widens (kind.Symbol symbol.CloseParen) _ _ (λ _. leaves_widens (Parens offset e) IsClosed))).each)
 
 prefixed_widens : (o : Prefix) (n w : ℕ) → n < w → WidenWhereRoom n w
     → (ts : List Token) → WidensAt (prefixed_at o (expression_at n) n) (prefixed_at o (expression_at w) w) ts
-unfolding prefixed_at after place_at choose within read_then
+unfolding prefixed_at after offset_at choose within read_then
 prefixed_widens o n zero lt c = absurd (omega (arith, lt))
 prefixed_widens o zero (suc w) lt c =
     deep_each _ _ (prefix_kind o) refl refl
     (λ t ts e. rw e refl) (λ t e. rw (e, no_expression (suc w) (prefix_rank o)) refl) (λ t ts e. rw e refl) (λ t ts e. rw e refl)
 prefixed_widens o (suc n) (suc w) lt c =
-    after_each (prefix_kind o) _ _ (λ place.
-    (then_widens _ _ (c (prefix_rank o)) (λ rest h. h) (λ _ e. leaves_widens (Prefixed o place e) IsClosed)).each)
+    after_each (prefix_kind o) _ _ (λ offset.
+    (then_widens _ _ (c (prefix_rank o)) (λ rest h. h) (λ _ e. leaves_widens (Prefixed o offset e) IsClosed)).each)
 
 times_widen : (n w : ℕ) → n < w → WidenWhereRoom n w
     → (ts : List Token) → WidensAt (times_at (expression_at n) n) (times_at (expression_at w) w) ts
-unfolding times_at after place_at choose within read_then operator_of
+unfolding times_at after offset_at choose within read_then operator_of
 times_widen n zero lt c = absurd (omega (arith, lt))
 times_widen zero (suc w) lt c =
     deep_each _ _ (kind.Keyword keyword.Times) refl refl
     (λ t ts e. rw e refl) (λ t e. rw e refl) (λ t ts e. rw e refl) (λ t ts e. rw e refl)
 times_widen (suc n) (suc w) lt c =
-    after_each (kind.Keyword keyword.Times) _ _ (λ place.
+    after_each (kind.Keyword keyword.Times) _ _ (λ offset.
     (after_widens (kind.Symbol symbol.OpenParen) _ _ (λ _.
     then_widens _ _ (c 0) (λ rest h. refl) (λ _ e.
     after_widens (kind.Symbol symbol.Comma) _ _ (λ _.
     then_widens _ _ name_widens (λ rest h. tt) (λ _ b.
-    after_widens (kind.Symbol symbol.CloseParen) _ _ (λ _. leaves_widens (Times place e b) IsClosed)))))).each)
+    after_widens (kind.Symbol symbol.CloseParen) _ _ (λ _. leaves_widens (Times offset e b) IsClosed)))))).each)
 
 primary_widens : (n w level : ℕ) → n < w → WidenWhereRoom n w
     → (ts : List Token) → WidensAt (primary_at (expression_at n) n level) (primary_at (expression_at w) w level) ts
@@ -227,7 +227,7 @@ right_widens (suc n) w c left lt level = c level
 turns_widen : (n w : ℕ) → n < w → WidenWhereRoom n w → (more over level : ℕ) (left : Expression)
     → depth left ≤ suc n → suc n ≤ more + depth left → suc w ≤ over + depth left
     → (ts : List Token) → WidensAt (turns (expression_at n) (suc n) more level left) (turns (expression_at w) (suc w) over level left) ts
-unfolding operator_at maybe choose place_at read_then
+unfolding operator_at maybe choose offset_at read_then
 turns_widen n w lt c more zero level left deep a b = absurd (omega (arith, lt, deep, b))
 turns_widen n w lt c zero (suc over) level left deep a b =
     by_first _ _ (leaves_at _ _ [] left refl refl) (λ t.

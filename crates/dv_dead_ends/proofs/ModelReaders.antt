@@ -41,8 +41,8 @@ bound_widens : Widens bound_at bound_at Always (a_number ∷ [])
 unfolding bound_at
 bound_widens =
     choose_widens (kind.Symbol symbol.Minus)
-    (after_widens (kind.Symbol symbol.Minus) _ _ (λ place.
-    then_widens _ _ number_widens (λ rest h. tt) (λ _ m. leaves_widens (record { minus = Some place; magnitude = m }) Always)))
+    (after_widens (kind.Symbol symbol.Minus) _ _ (λ offset.
+    then_widens _ _ number_widens (λ rest h. tt) (λ _ m. leaves_widens (record { minus = Some offset; magnitude = m }) Always)))
     (λ rest h. refl)
     (then_widens _ _ number_widens (λ rest h. tt) (λ _ m. leaves_widens (record { minus = None; magnitude = m }) Always))
 
@@ -89,19 +89,19 @@ further_name_widens = after_widens (kind.Symbol symbol.Comma) _ _ (λ _. name_wi
 phases_widen : Widens phases_at phases_at Always (a_word keyword.Phases ∷ a_name ∷ a_sign symbol.Semicolon ∷ [])
 unfolding phases_at
 phases_widen =
-    after_widens (kind.Keyword keyword.Phases) _ _ (λ place.
+    after_widens (kind.Keyword keyword.Phases) _ _ (λ offset.
     then_widens _ _ name_widens (λ rest h. tt) (λ _ p.
     then_widens _ _
     (many_widens (kind.Symbol symbol.Semicolon) further_name_shortens further_name_shortens further_name_widens (λ rest h. tt))
     (λ rest h. refl) (λ _ ps.
-    after_widens (kind.Symbol symbol.Semicolon) _ _ (λ _. leaves_widens (Lists (record { place = place; names = p ∷ ps })) Always))))
+    after_widens (kind.Symbol symbol.Semicolon) _ _ (λ _. leaves_widens (Lists (record { offset = offset; names = p ∷ ps })) Always))))
 
 start_widens : Widens start_at start_at Always (a_word keyword.Start ∷ a_name ∷ a_sign symbol.Semicolon ∷ [])
 unfolding start_at
 start_widens =
-    after_widens (kind.Keyword keyword.Start) _ _ (λ place.
+    after_widens (kind.Keyword keyword.Start) _ _ (λ offset.
     then_widens _ _ name_widens (λ rest h. tt) (λ _ p.
-    after_widens (kind.Symbol symbol.Semicolon) _ _ (λ _. leaves_widens (Starts (record { place = place; phase = p })) Always)))
+    after_widens (kind.Symbol symbol.Semicolon) _ _ (λ _. leaves_widens (Starts (record { offset = offset; phase = p })) Always)))
 
 ticks_widen : (n w : Limits) → AreWidened n w → Widens (ticks_at n) (ticks_at w) IsClosed (a_number ∷ [])
 unfolding ticks_at
@@ -114,12 +114,12 @@ hold_widens : (n w : Limits) → AreWidened n w
     → Widens (hold_at n) (hold_at w) Always (a_word keyword.Hold ∷ a_name ∷ a_sign symbol.Colon ∷ a_number ∷ a_sign symbol.Semicolon ∷ [])
 unfolding hold_at operator_of
 hold_widens n w g =
-    after_widens (kind.Keyword keyword.Hold) _ _ (λ place.
+    after_widens (kind.Keyword keyword.Hold) _ _ (λ offset.
     then_widens _ _ name_widens (λ rest h. tt) (λ _ p.
     after_widens (kind.Symbol symbol.Colon) _ _ (λ _.
     then_widens _ _ (ticks_widen n w g) (λ rest h. refl) (λ _ ticks.
     after_widens (kind.Symbol symbol.Semicolon) _ _ (λ _.
-    leaves_widens (Holds (record { place = place; phase = p; ticks = ticks })) Always)))))
+    leaves_widens (Holds (record { offset = offset; phase = p; ticks = ticks })) Always)))))
 
 rule_widens : (n w : Limits) → AreWidened n w → (sort : RuleSort)
     → Widens (rule_at n sort) (rule_at w sort) Always (a_word (sort_word sort) ∷ a_name ∷ empty_braces)
@@ -209,11 +209,11 @@ a_link =
 link_widens : Widens link_at link_at Always a_link
 unfolding link_at
 link_widens =
-    after_widens (kind.Keyword keyword.Link) _ _ (λ place.
+    after_widens (kind.Keyword keyword.Link) _ _ (λ offset.
     then_widens _ _ end_widens (λ rest h. tt) (λ _ source.
     after_widens (kind.Symbol symbol.Arrow) _ _ (λ _.
     then_widens _ _ end_widens (λ rest h. tt) (λ _ target.
-    after_widens (kind.Symbol symbol.Semicolon) _ _ (λ _. leaves_widens (record { place = place; from = source; to = target }) Always)))))
+    after_widens (kind.Symbol symbol.Semicolon) _ _ (λ _. leaves_widens (record { offset = offset; from = source; to = target }) Always)))))
 
 coupled_item_widens : Widens coupled_item_at coupled_item_at Always a_link
 unfolding coupled_item_at
@@ -271,7 +271,7 @@ last_at f ts = choose (is_end ts) (Ok (f, ts)) (Err (obstacle_at ts))
 last_completes : (f : WrittenFile) → Completes (last_at f) Nothing []
 unfolding last_at choose obstacle_at
 last_completes f = record {
-  some = some_by_first (last_at f) Nothing (inr (f, refl)) (λ t. StopsThere (Unexpected t.place) refl (λ ts. refl));
+  some = some_by_first (last_at f) Nothing (inr (f, refl)) (λ t. StopsThere (Unexpected t.offset) refl (λ ts. refl));
   filled = λ rest h. (f, rw h refl);
 }
 
@@ -280,7 +280,7 @@ unfolding last_at choose obstacle_at
 last_widens f = record {
   narrow_completes = last_completes f;
   wide_completes = last_completes f;
-  each = by_first (last_at f) (last_at f) (leaves_at _ _ [] f refl refl) (λ t. Refuse t.place (λ ts. refl) (λ ts. refl));
+  each = by_first (last_at f) (last_at f) (leaves_at _ _ [] f refl refl) (λ t. Refuse t.offset (λ ts. refl) (λ ts. refl));
 }
 
 root_at : Option Version → List WrittenModel → Reader WrittenFile

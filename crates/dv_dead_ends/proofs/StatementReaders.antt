@@ -10,7 +10,7 @@ use Rattle.dv_syntax.specs.declared.tree.Command.{Command}
 use Rattle.dv_syntax.specs.declared.tree.Command.TheVariants as command
 use Rattle.dv_syntax.specs.Grammar.{Limits, command_word, change_word, change_preposition}
 use Rattle.dv_parser.specs.Reading.{SingleAssign, SingleCommand, SingleSend, SingleIf, SingleIfElse, SingleFor, SingleChange}
-use Rattle.dv_parser.specs.Reading.{joined, TooShort, read_then, within, choose, after, name_at, place_at, operator_of}
+use Rattle.dv_parser.specs.Reading.{joined, TooShort, read_then, within, choose, after, name_at, offset_at, operator_of}
 use Rattle.dv_parser.specs.Reading.{assign_at, command_at, send_at, change_at, else_at, if_at, for_at, statement_at, block_at}
 use Rattle.dv_parser.proofs.Statements.{NoElse, no_operator, statement_shortens, brace_no_else}
 use Rattle.dv_parser.proofs.Readers.{Always}
@@ -38,28 +38,28 @@ command_widens : (c : Command)
     → Widens (command_at c) (command_at c) NoElse (a_word (command_word c) ∷ a_name ∷ a_sign symbol.Semicolon ∷ [])
 unfolding command_at
 command_widens c =
-    after_widens (kind.Keyword (command_word c)) _ _ (λ place.
+    after_widens (kind.Keyword (command_word c)) _ _ (λ offset.
     then_widens _ _ name_widens (λ rest h. tt) (λ _ n.
-    after_widens (kind.Symbol symbol.Semicolon) _ _ (λ _. leaves_widens (SingleCommand c place n) NoElse)))
+    after_widens (kind.Symbol symbol.Semicolon) _ _ (λ _. leaves_widens (SingleCommand c offset n) NoElse)))
 
 send_widens : (n w : Limits) → AreWidened n w
     → Widens (send_at n) (send_at w) NoElse (a_word keyword.Send ∷ a_name ∷ a_number ∷ a_sign symbol.Semicolon ∷ [])
 unfolding send_at operator_of
 send_widens n w g =
-    after_widens (kind.Keyword keyword.Send) _ _ (λ place.
+    after_widens (kind.Keyword keyword.Send) _ _ (λ offset.
     then_widens _ _ name_widens (λ rest h. tt) (λ _ p.
     then_widens _ _ (expression_widens n w g) (λ rest h. refl) (λ _ e.
-    after_widens (kind.Symbol symbol.Semicolon) _ _ (λ _. leaves_widens (SingleSend place p e) NoElse))))
+    after_widens (kind.Symbol symbol.Semicolon) _ _ (λ _. leaves_widens (SingleSend offset p e) NoElse))))
 
 change_widens : (n w : Limits) → AreWidened n w → (c : Change) → Widens (change_at n c) (change_at w c) NoElse
     (a_word (change_word c) ∷ a_number ∷ a_word (change_preposition c) ∷ a_name ∷ a_sign symbol.Semicolon ∷ [])
 unfolding change_at operator_of
 change_widens n w g c =
-    after_widens (kind.Keyword (change_word c)) _ _ (λ place.
+    after_widens (kind.Keyword (change_word c)) _ _ (λ offset.
     then_widens _ _ (expression_widens n w g) (λ rest h. no_operator c) (λ _ e.
     after_widens (kind.Keyword (change_preposition c)) _ _ (λ _.
     then_widens _ _ name_widens (λ rest h. tt) (λ _ x.
-    after_widens (kind.Symbol symbol.Semicolon) _ _ (λ _. leaves_widens (SingleChange c place e x) NoElse)))))
+    after_widens (kind.Symbol symbol.Semicolon) _ _ (λ _. leaves_widens (SingleChange c offset e x) NoElse)))))
 
 -- ---- Completions of blocks
 
@@ -73,14 +73,14 @@ if_completes : (limits : Limits) → HaveRoom limits → (limit loops : ℕ) →
 unfolding if_at else_at within read_then operator_of
 if_completes limits room zero loops c = deep_completes (kind.Keyword keyword.If) NoElse
 if_completes limits room (suc limit) loops c =
-    (after_completes (kind.Keyword keyword.If) _ (λ place.
+    (after_completes (kind.Keyword keyword.If) _ (λ offset.
     then_completes _ (expression_widens limits (above limits) (widened limits room)).narrow_completes (λ rest h. refl) (λ _ e.
     then_completes _ c (λ rest h. tt) (λ _ b.
     choose_completes (kind.Keyword keyword.Else)
     (after_completes (kind.Keyword keyword.Else) _ (λ _.
-    then_completes _ c (λ rest h. tt) (λ _ other. leaves_complete (SingleIfElse place e b other) NoElse))).some
+    then_completes _ c (λ rest h. tt) (λ _ other. leaves_complete (SingleIfElse offset e b other) NoElse))).some
     (λ rest h. h)
-    (leaves_complete (SingleIf place e b) NoElse))))).some
+    (leaves_complete (SingleIf offset e b) NoElse))))).some
 
 for_completes : (limits : Limits) (limit loops : ℕ) → ((m : ℕ) → BlocksWhereRoom limits limit m)
     → CompletesSome (for_at (block_at limits limit) limit loops) NoElse
@@ -88,11 +88,11 @@ unfolding for_at within read_then
 for_completes limits zero loops c = deep_completes (kind.Keyword keyword.For) NoElse
 for_completes limits (suc limit) zero c = deep_completes (kind.Keyword keyword.For) NoElse
 for_completes limits (suc limit) (suc loops) c =
-    (after_completes (kind.Keyword keyword.For) _ (λ place.
+    (after_completes (kind.Keyword keyword.For) _ (λ offset.
     then_completes _ name_completes (λ rest h. tt) (λ _ v.
     after_completes (kind.Keyword keyword.In) _ (λ _.
     then_completes _ name_completes (λ rest h. tt) (λ _ b.
-    then_completes _ (c (suc loops - 1)) (λ rest h. tt) (λ _ block. leaves_complete (SingleFor place v b block) NoElse)))))).some
+    then_completes _ (c (suc loops - 1)) (λ rest h. tt) (λ _ block. leaves_complete (SingleFor offset v b block) NoElse)))))).some
 
 statement_completes : (limits : Limits) → HaveRoom limits → (limit loops : ℕ) → ((m : ℕ) → BlocksWhereRoom limits limit m)
     → Completes (statement_at limits (block_at limits limit) limit loops) NoElse
@@ -132,20 +132,20 @@ AllBlocksWiden n w narrow wide = (fewer more : ℕ) → fewer < more → BlocksW
 
 if_widens : (n w : Limits) → AreWidened n w → (narrow wide fewer more : ℕ) → narrow < wide → BlocksWiden n w narrow wide fewer more
     → (ts : List Token) → WidensAt (if_at n (block_at n narrow fewer) narrow) (if_at w (block_at w wide more) wide) ts
-unfolding if_at else_at after place_at choose within read_then operator_of
+unfolding if_at else_at after offset_at choose within read_then operator_of
 if_widens n w g narrow zero fewer more lt c = absurd (omega (arith, lt))
 if_widens n w g zero (suc wide) fewer more lt c =
     deep_each _ _ (kind.Keyword keyword.If) refl refl
     (λ t ts e. rw e refl) (λ t e. rw (e, no_expression w.expression 0) refl) (λ t ts e. rw e refl) (λ t ts e. rw e refl)
 if_widens n w g (suc narrow) (suc wide) fewer more lt c =
-    after_each (kind.Keyword keyword.If) _ _ (λ place.
+    after_each (kind.Keyword keyword.If) _ _ (λ offset.
     (then_widens _ _ (expression_widens n w g) (λ rest h. refl) (λ _ e.
     then_widens _ _ c (λ rest h. tt) (λ _ b.
     choose_widens (kind.Keyword keyword.Else)
     (after_widens (kind.Keyword keyword.Else) _ _ (λ _.
-    then_widens _ _ c (λ rest h. tt) (λ _ other. leaves_widens (SingleIfElse place e b other) NoElse)))
+    then_widens _ _ c (λ rest h. tt) (λ _ other. leaves_widens (SingleIfElse offset e b other) NoElse)))
     (λ rest h. h)
-    (leaves_widens (SingleIf place e b) NoElse)))).each)
+    (leaves_widens (SingleIf offset e b) NoElse)))).each)
 
 -- a name is no less than one token
 no_name : name_at [] ≡ Err TooShort
@@ -154,7 +154,7 @@ no_name = refl
 
 for_widens : (n w : Limits) → (narrow wide fewer more : ℕ) → narrow < wide → fewer < more → AllBlocksWiden n w narrow wide
     → (ts : List Token) → WidensAt (for_at (block_at n narrow) narrow fewer) (for_at (block_at w wide) wide more) ts
-unfolding for_at after place_at choose within read_then
+unfolding for_at after offset_at choose within read_then
 for_widens n w narrow zero fewer more lt loops c = absurd (omega (arith, lt))
 for_widens n w narrow (suc wide) fewer zero lt loops c = absurd (omega (arith, loops))
 for_widens n w zero (suc wide) fewer (suc more) lt loops c =
@@ -164,12 +164,12 @@ for_widens n w (suc narrow) (suc wide) zero (suc more) lt loops c =
     deep_each _ _ (kind.Keyword keyword.For) refl refl
     (λ t ts e. rw e refl) (λ t e. rw (e, no_name) refl) (λ t ts e. rw e refl) (λ t ts e. rw e refl)
 for_widens n w (suc narrow) (suc wide) (suc fewer) (suc more) lt loops c =
-    after_each (kind.Keyword keyword.For) _ _ (λ place.
+    after_each (kind.Keyword keyword.For) _ _ (λ offset.
     (then_widens _ _ name_widens (λ rest h. tt) (λ _ v.
     after_widens (kind.Keyword keyword.In) _ _ (λ _.
     then_widens _ _ name_widens (λ rest h. tt) (λ _ b.
     then_widens _ _ (c (suc fewer - 1) (suc more - 1) (omega (arith, loops))) (λ rest h. tt) (λ _ block.
-    leaves_widens (SingleFor place v b block) NoElse))))).each)
+    leaves_widens (SingleFor offset v b block) NoElse))))).each)
 
 statement_widens : (n w : Limits) → AreWidened n w → (narrow wide fewer more : ℕ) → narrow < wide → fewer < more
     → AllBlocksWiden n w narrow wide

@@ -5,14 +5,14 @@ use Rattle.std.proofs.lemmas.Bool.{cases_Bool}
 use Rattle.dv_lex.specs.declared.token.Token.{Token}
 use Rattle.dv_lex.specs.declared.token.TokenKind.{TokenKind}
 use Rattle.dv_parser.specs.Reading.{Obstacle, Unexpected, TooDeep, TooShort, Read, read_then, choose, begins, Reader}
-use Rattle.dv_parser.specs.Reading.{begins_name, begins_truth, begins_call, place_at, many, many_at}
+use Rattle.dv_parser.specs.Reading.{begins_name, begins_truth, begins_call, offset_at, many, many_at}
 use Rattle.dv_parser.proofs.Tokens.{then_ok, ok_is, err_ok, err_is, same_after, then_err}
 use Rattle.dv_parser.proofs.Readers.{Shortens, same_many}
 
--- an obstacle at the token of a place
+-- an obstacle at the token of an offset
 abbrev pub IsAt : Obstacle → ℕ → Type 0
-IsAt (Unexpected place) n = n ≡ place
-IsAt (TooDeep place) n = n ≡ place
+IsAt (Unexpected offset) n = n ≡ offset
+IsAt (TooDeep offset) n = n ≡ offset
 IsAt TooShort n = ⊥
 
 -- up to a token the reader answers this, whatever follows that token
@@ -32,7 +32,7 @@ pub record Stops {A : Type 0} (read : Reader A) (ts : List Token) (o : Obstacle)
   pub token : Token
   pub behind : List Token
   pub whole : ts ≡ front ++ token ∷ behind
-  pub at : IsAt o token.place
+  pub at : IsAt o token.offset
   pub steady : (other : List Token) → read (front ++ token ∷ other) ≡ Err o
 
 -- another reader stops at the same token
@@ -44,7 +44,7 @@ abbrev pub to_stop : {A : Type 0} {read : Reader A} {ts : List Token} {o : Obsta
     → UpTo read ts g.token g.behind (λ other. Err o)
 to_stop g = record { front = g.front; whole = g.whole; steady = g.steady }
 
-abbrev pub stop_at : {A : Type 0} {read : Reader A} {ts : List Token} {o : Obstacle} (t : Token) (more : List Token) → IsAt o t.place
+abbrev pub stop_at : {A : Type 0} {read : Reader A} {ts : List Token} {o : Obstacle} (t : Token) (more : List Token) → IsAt o t.offset
     → UpTo read ts t more (λ other. Err o) → Stops read ts o
 stop_at t more at g = record { front = g.front; token = t; behind = more; whole = g.whole; at = at; steady = g.steady }
 
@@ -69,7 +69,7 @@ same_steady {A = A} f g h ts s = subst (λ (r : Reader A). SteadyAt r ts) (λ i 
 pub data ByFirst {A : Type 0} (Known : Reader A → Type 0) (read : Reader A) (t : Token) : Type 0 where
   ReadsOn : (next : Reader A) → Known next → ((ts : List Token) → read (t ∷ ts) ≡ next ts) → ByFirst Known read t
   Leaves : (x : A) → ((ts : List Token) → read (t ∷ ts) ≡ Ok (x, t ∷ ts)) → ByFirst Known read t
-  StopsThere : (o : Obstacle) → IsAt o t.place → ((ts : List Token) → read (t ∷ ts) ≡ Err o) → ByFirst Known read t
+  StopsThere : (o : Obstacle) → IsAt o t.offset → ((ts : List Token) → read (t ∷ ts) ≡ Err o) → ByFirst Known read t
 
 pub known_by_first : {A : Type 0} {P Q : Reader A → Type 0} {read : Reader A} {t : Token} → ((next : Reader A) → P next → Q next)
     → ByFirst P read t → ByFirst Q read t
@@ -113,7 +113,7 @@ first_stops read u us o (ReadsOn next s h) e =
 first_stops read u us o (Leaves y h) e = absurd (ok_err _ _ (sym (h us) ∙ e))
 first_stops read u us o (StopsThere p at h) e =
     let same : p ≡ o = err_is _ _ (sym (h us) ∙ e) in
-    inr (stop_at u us (subst (λ (q : Obstacle). IsAt q u.place) same at)
+    inr (stop_at u us (subst (λ (q : Obstacle). IsAt q u.offset) same at)
     (record { front = []; whole = refl; steady = λ other. h other ∙ ap Err same }))
 
 -- at the end, a reader stops or has read
@@ -147,10 +147,10 @@ leaves_steady x = by_first _ (inr (x, refl)) (λ t. Leaves x (λ ts. refl))
 
 -- ---- One reader after another
 
-same_place : (front : List Token) (t : Token) (more other : List Token) → place_at (front ++ t ∷ more) ≡ place_at (front ++ t ∷ other)
-unfolding place_at
-same_place [] t more other = refl
-same_place (u ∷ front) t more other = refl
+same_offset : (front : List Token) (t : Token) (more other : List Token) → offset_at (front ++ t ∷ more) ≡ offset_at (front ++ t ∷ other)
+unfolding offset_at
+same_offset [] t more other = refl
+same_offset (u ∷ front) t more other = refl
 
 -- what is read stays, also where more is kept behind it
 wider : {A : Type 0} (read : Reader A) (ts : List Token) (x : A) (kept : List Token) (t : Token) (more : List Token)
@@ -164,7 +164,7 @@ wider read ts x (u ∷ kept) t more s e =
 
 -- a reader, and one behind it
 abbrev pub one_then : {A B : Type 0} → Reader A → (ℕ → A → Reader B) → Reader B
-one_then first second us = read_then (first us) (λ x. second (place_at us) x.0 x.1)
+one_then first second us = read_then (first us) (λ x. second (offset_at us) x.0 x.1)
 
 -- up to any token a reader answers what it answers
 abbrev pub itself_to : {A : Type 0} (read : Reader A) {ts : List Token} (front : List Token) (t : Token) (more : List Token)
@@ -174,16 +174,16 @@ itself_to read front t more whole = record { front = front; whole = whole; stead
 -- what the second reader answers up to a token, the two answer
 pub behind_read : {A B : Type 0} (first : Reader A) (second : ℕ → A → Reader B) (ts rest : List Token) (x : A) (t : Token)
     (more : List Token) (answer : List Token → Read (B × List Token)) → SteadyAt first ts → first ts ≡ Ok (x, rest)
-    → UpTo (second (place_at ts) x) rest t more answer → UpTo (one_then first second) ts t more answer
+    → UpTo (second (offset_at ts) x) rest t more answer → UpTo (one_then first second) ts t more answer
 unfolding read_then
 behind_read {A = A} first second ts rest x t more answer s e g =
     let w = wider first ts x g.front t more s (e ∙ ap (λ (us : List Token). Ok (x, us)) g.whole) in
     let whole : ts ≡ (w.0 ++ g.front) ++ t ∷ more = w.1 ∙ sym (append_assoc w.0 g.front (t ∷ more)) in
     let read_first : (other : List Token) → first ((w.0 ++ g.front) ++ t ∷ other) ≡ Ok (x, g.front ++ t ∷ other) =
     λ other. ap first (append_assoc w.0 g.front (t ∷ other)) ∙ w.2 other in
-    let place_is : (other : List Token) → place_at ((w.0 ++ g.front) ++ t ∷ other) ≡ place_at ts =
-    λ other. same_place (w.0 ++ g.front) t other more ∙ ap place_at (sym whole) in
-    record { front = w.0 ++ g.front; whole = whole; steady = λ other. rw (read_first other, place_is other) (g.steady other) }
+    let offset_is : (other : List Token) → offset_at ((w.0 ++ g.front) ++ t ∷ other) ≡ offset_at ts =
+    λ other. same_offset (w.0 ++ g.front) t other more ∙ ap offset_at (sym whole) in
+    record { front = w.0 ++ g.front; whole = whole; steady = λ other. rw (read_first other, offset_is other) (g.steady other) }
 
 parted : {A B : Type 0} (r : Read A) (f : A → Read B) (o : Obstacle) → read_then r f ≡ Err o
     → (r ≡ Err o) ⊎ ((x : A) × (r ≡ Ok x) × (f x ≡ Err o))
@@ -192,14 +192,14 @@ parted (Ok x) f o e = inr (x, refl, e)
 parted (Err p) f o e = inl (ap Err (err_is p o e))
 
 then_at : {A B : Type 0} (first : Reader A) (second : ℕ → A → Reader B) (ts : List Token) → SteadyAt first ts
-    → ((x : A) (rest : List Token) → first ts ≡ Ok (x, rest) → SteadyAt (second (place_at ts) x) rest)
+    → ((x : A) (rest : List Token) → first ts ≡ Ok (x, rest) → SteadyAt (second (offset_at ts) x) rest)
     → SteadyAt (one_then first second) ts
 then_at first second ts s h = record {
   goes_on = λ y t more e.
-      let a = then_ok (first ts) (λ x. second (place_at ts) x.0 x.1) (y, t ∷ more) e in
+      let a = then_ok (first ts) (λ x. second (offset_at ts) x.0 x.1) (y, t ∷ more) e in
       behind_read first second ts a.0.1 a.0.0 t more _ s a.1 ((h a.0.0 a.0.1 a.1).goes_on y t more a.2);
   stops = λ o e.
-      elim (parted (first ts) (λ x. second (place_at ts) x.0 x.1) o e) [
+      elim (parted (first ts) (λ x. second (offset_at ts) x.0 x.1) o e) [
         | inl f ↦ elim (s.stops o f) [
           | inl short ↦ inl short
           | inr g ↦ inr (stops_as g (λ other. then_err (first (g.front ++ g.token ∷ other)) _ o (g.steady other)))
@@ -212,8 +212,8 @@ then_at first second ts s h = record {
 }
 
 pub then_steady : {A B : Type 0} (first : Reader A) (second : ℕ → A → Reader B) → IsSteady first
-    → ((place : ℕ) (x : A) → IsSteady (second place x)) → IsSteady (one_then first second)
-then_steady first second s h ts = then_at first second ts (s ts) (λ x rest e. h (place_at ts) x rest)
+    → ((offset : ℕ) (x : A) → IsSteady (second offset x)) → IsSteady (one_then first second)
+then_steady first second s h ts = then_at first second ts (s ts) (λ x rest e. h (offset_at ts) x rest)
 
 -- ---- A choice by the first token
 
@@ -282,8 +282,8 @@ many_within one stop short s zero ts lt = absurd (omega (arith, lt))
 many_within {A = A} one stop short s (suc n) ts lt =
     same_steady (many_at one stop) _ (many_step one stop short) ts
     (choose_at (begins stop) (λ us. Ok ([], us)) _ ts (begins_of_first stop) (leaves_steady [] ts)
-    (then_at one (λ place x us. read_then (many_at one stop us) (λ xs. Ok (x ∷ xs.0, xs.1))) ts (s ts) (λ x rest e.
-    then_at (many_at one stop) (λ place xs us. Ok (x ∷ xs, us)) rest
+    (then_at one (λ offset x us. read_then (many_at one stop us) (λ xs. Ok (x ∷ xs.0, xs.1))) ts (s ts) (λ x rest e.
+    then_at (many_at one stop) (λ offset xs us. Ok (x ∷ xs, us)) rest
     (many_within one stop short s n rest (omega (arith, short ts (x, rest) e, lt))) (λ xs last f. leaves_steady (x ∷ xs) last))))
 
 pub many_steady : {A : Type 0} (one : Reader A) (stop : TokenKind) → Shortens one → IsSteady one → IsSteady (many_at one stop)

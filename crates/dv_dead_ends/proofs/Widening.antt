@@ -12,7 +12,7 @@ use Rattle.dv_lex.specs.declared.token.Symbol.TheVariants as symbol
 use Rattle.dv_syntax.specs.declared.tree.BagCall.{BagCall}
 use Rattle.dv_syntax.specs.declared.tree.BagCall.TheVariants as call
 use Rattle.dv_syntax.specs.Grammar.{call_word}
-use Rattle.dv_parser.specs.Reading.{Unexpected, TooDeep, TooShort, Read, read_then, choose, same_kind, begins, after, place_at}
+use Rattle.dv_parser.specs.Reading.{Unexpected, TooDeep, TooShort, Read, read_then, choose, same_kind, begins, after, offset_at}
 use Rattle.dv_parser.specs.Reading.{Reader, name_of, name_at, number_of, number_at, truth_at, word_of_at, call_word_at, many_at}
 use Rattle.dv_parser.specs.Reading.{braces_at}
 use Rattle.dv_parser.proofs.Tokens.{then_is, err_is, then_err}
@@ -25,20 +25,20 @@ use Rattle.dv_dead_ends.proofs.Completions.{name_completes, number_completes, ma
 
 -- a token of a kind, and a reader behind it
 abbrev pub token_then : {B : Type 0} → TokenKind → (ℕ → Reader B) → Reader B
-token_then k second us = read_then (after k us) (λ rest. second (place_at us) rest)
+token_then k second us = read_then (after k us) (λ rest. second (offset_at us) rest)
 
 abbrev pub either : {A : Type 0} → (List Token → Bool) → Reader A → Reader A → Reader A
 either test one two us = choose (test us) (one us) (two us)
 
 -- nothing is too deep
 pub record IsShallow {A : Type 0} (read : Read A) : Type 0 where
-  pub never : (place : ℕ) → read ≡ Err (TooDeep place) → ⊥
+  pub never : (offset : ℕ) → read ≡ Err (TooDeep offset) → ⊥
 
 -- Both readers answer the same, and nothing is too deep; or a token is too deep to the narrow one, and the wide one goes past
 -- it: where that token is the last, the wide one is not finished.
 pub data WidensAt {A : Type 0} (narrow wide : Reader A) (ts : List Token) : Type 0 where
   AnswersSame : narrow ts ≡ wide ts → IsShallow (narrow ts) → WidensAt narrow wide ts
-  GoesPast : (place : ℕ) → (stop : Stops narrow ts (TooDeep place))
+  GoesPast : (offset : ℕ) → (stop : Stops narrow ts (TooDeep offset))
       → Unfinished (wide (stop.front ++ stop.token ∷ [])) → WidensAt narrow wide ts
 
 -- Both readers complete tokens, and the wide one goes past what is too deep to the narrow one.
@@ -63,14 +63,14 @@ pub data WidensBy {A : Type 0} (narrow wide : Reader A) (t : Token) : Type 0 whe
       → ((ts : List Token) → narrow (t ∷ ts) ≡ n ts) → ((ts : List Token) → wide (t ∷ ts) ≡ w ts) → WidensBy narrow wide t
   Leave : (x : A) → ((ts : List Token) → narrow (t ∷ ts) ≡ Ok (x, t ∷ ts)) → ((ts : List Token) → wide (t ∷ ts) ≡ Ok (x, t ∷ ts))
       → WidensBy narrow wide t
-  Refuse : (place : ℕ) → ((ts : List Token) → narrow (t ∷ ts) ≡ Err (Unexpected place))
-      → ((ts : List Token) → wide (t ∷ ts) ≡ Err (Unexpected place)) → WidensBy narrow wide t
-  Deep : ((ts : List Token) → narrow (t ∷ ts) ≡ Err (TooDeep t.place)) → wide (t ∷ []) ≡ Err TooShort → WidensBy narrow wide t
+  Refuse : (offset : ℕ) → ((ts : List Token) → narrow (t ∷ ts) ≡ Err (Unexpected offset))
+      → ((ts : List Token) → wide (t ∷ ts) ≡ Err (Unexpected offset)) → WidensBy narrow wide t
+  Deep : ((ts : List Token) → narrow (t ∷ ts) ≡ Err (TooDeep t.offset)) → wide (t ∷ []) ≡ Err TooShort → WidensBy narrow wide t
 
 -- both answer this, and it is not that something is too deep
 alike : {A : Type 0} (narrow wide : Reader A) (ts : List Token) (answer : Read (A × List Token))
-    → ((place : ℕ) → answer ≡ Err (TooDeep place) → ⊥) → narrow ts ≡ answer → wide ts ≡ answer → WidensAt narrow wide ts
-alike narrow wide ts answer never n w = AnswersSame (n ∙ sym w) (record { never = λ place e. never place (sym n ∙ e) })
+    → ((offset : ℕ) → answer ≡ Err (TooDeep offset) → ⊥) → narrow ts ≡ answer → wide ts ≡ answer → WidensAt narrow wide ts
+alike narrow wide ts answer never n w = AnswersSame (n ∙ sym w) (record { never = λ offset e. never offset (sym n ∙ e) })
 
 pub unexpected_deep : (m n : ℕ) → Unexpected m ≡ TooDeep n → ⊥
 unexpected_deep m n e = cc
@@ -81,16 +81,16 @@ short_deep n e = cc
 by_token : {A : Type 0} (narrow wide : Reader A) (t : Token) → WidensBy narrow wide t → (us : List Token) → WidensAt narrow wide (t ∷ us)
 by_token narrow wide t (ReadOn n w c h k) us =
     elim (c us) [
-      | AnswersSame e s ↦ AnswersSame (h us ∙ e ∙ sym (k us)) (record { never = λ place f. s.never place (sym (h us) ∙ f) })
-      | GoesPast place s u ↦
-          GoesPast place (stop_at s.token s.behind s.at (behind_first t h (to_stop s)))
+      | AnswersSame e s ↦ AnswersSame (h us ∙ e ∙ sym (k us)) (record { never = λ offset f. s.never offset (sym (h us) ∙ f) })
+      | GoesPast offset s u ↦
+          GoesPast offset (stop_at s.token s.behind s.at (behind_first t h (to_stop s)))
           (subst Unfinished (sym (k (s.front ++ s.token ∷ []))) u)
     ]
-by_token narrow wide t (Leave x h k) us = alike narrow wide (t ∷ us) (Ok (x, t ∷ us)) (λ place. ok_err _ _) (h us) (k us)
-by_token narrow wide t (Refuse place h k) us =
-    alike narrow wide (t ∷ us) (Err (Unexpected place)) (λ n e. unexpected_deep place n (err_is _ _ e)) (h us) (k us)
+by_token narrow wide t (Leave x h k) us = alike narrow wide (t ∷ us) (Ok (x, t ∷ us)) (λ offset. ok_err _ _) (h us) (k us)
+by_token narrow wide t (Refuse offset h k) us =
+    alike narrow wide (t ∷ us) (Err (Unexpected offset)) (λ n e. unexpected_deep offset n (err_is _ _ e)) (h us) (k us)
 by_token narrow wide t (Deep h k) us =
-    GoesPast t.place (record { front = []; token = t; behind = us; whole = refl; at = refl; steady = h }) (inl k)
+    GoesPast t.offset (record { front = []; token = t; behind = us; whole = refl; at = refl; steady = h }) (inl k)
 
 pub by_first : {A : Type 0} (narrow wide : Reader A) → WidensAt narrow wide [] → ((t : Token) → WidensBy narrow wide t)
     → (ts : List Token) → WidensAt narrow wide ts
@@ -99,13 +99,13 @@ by_first narrow wide at_end h (t ∷ us) = by_token narrow wide t (h t) us
 
 -- at the end both find too little
 both_short : {A : Type 0} (narrow wide : Reader A) → narrow [] ≡ Err TooShort → wide [] ≡ Err TooShort → WidensAt narrow wide []
-both_short narrow wide n w = alike narrow wide [] (Err TooShort) (λ place e. short_deep place (err_is _ _ e)) n w
+both_short narrow wide n w = alike narrow wide [] (Err TooShort) (λ offset e. short_deep offset (err_is _ _ e)) n w
 
 -- ---- What reads nothing
 
 pub leaves_at : {A : Type 0} (narrow wide : Reader A) (ts : List Token) (x : A) → narrow ts ≡ Ok (x, ts) → wide ts ≡ Ok (x, ts)
     → WidensAt narrow wide ts
-leaves_at narrow wide ts x n w = alike narrow wide ts (Ok (x, ts)) (λ place. ok_err _ _) n w
+leaves_at narrow wide ts x n w = alike narrow wide ts (Ok (x, ts)) (λ offset. ok_err _ _) n w
 
 pub leaves_widens : {A : Type 0} (x : A) (Ends : List Token → Type 0) → Widens (λ ts. Ok (x, ts)) (λ ts. Ok (x, ts)) Ends []
 leaves_widens x Ends = record {
@@ -146,43 +146,43 @@ same_front : (ts a b rest : List Token) → ts ≡ a ++ rest → ts ≡ b ++ res
 same_front ts a b rest p q = append_cancel_right b a rest (sym q ∙ p)
 
 pub then_at : {A B : Type 0} (narrow wide : Reader A) (n w : ℕ → A → Reader B) (ts : List Token) → SteadyAt narrow ts → SteadyAt wide ts
-    → ((place : ℕ) (x : A) → Unfinished (w place x [])) → WidensAt narrow wide ts
-    → ((x : A) (rest : List Token) → narrow ts ≡ Ok (x, rest) → WidensAt (n (place_at ts) x) (w (place_at ts) x) rest)
+    → ((offset : ℕ) (x : A) → Unfinished (w offset x [])) → WidensAt narrow wide ts
+    → ((x : A) (rest : List Token) → narrow ts ≡ Ok (x, rest) → WidensAt (n (offset_at ts) x) (w (offset_at ts) x) rest)
     → WidensAt (one_then narrow n) (one_then wide w) ts
-then_at narrow wide n w ts ns ws ends (GoesPast place s u) h =
-    GoesPast place (stops_as s (λ other. then_err (narrow (s.front ++ s.token ∷ other)) _ (TooDeep place) (s.steady other)))
-    (unfinished_then (wide (s.front ++ s.token ∷ [])) _ u (ends (place_at (s.front ++ s.token ∷ []))))
+then_at narrow wide n w ts ns ws ends (GoesPast offset s u) h =
+    GoesPast offset (stops_as s (λ other. then_err (narrow (s.front ++ s.token ∷ other)) _ (TooDeep offset) (s.steady other)))
+    (unfinished_then (wide (s.front ++ s.token ∷ [])) _ u (ends (offset_at (s.front ++ s.token ∷ []))))
 then_at {A = A} {B = B} narrow wide n w ts ns ws ends (AnswersSame e s) h = by_answer (narrow ts) refl
   where
     by_answer : (a : Read (A × List Token)) → narrow ts ≡ a → WidensAt (one_then narrow n) (one_then wide w) ts
     by_answer (Err o) f =
-        alike _ _ ts (Err o) (λ place g. s.never place (f ∙ ap Err (err_is _ _ g)))
+        alike _ _ ts (Err o) (λ offset g. s.never offset (f ∙ ap Err (err_is _ _ g)))
         (then_err (narrow ts) _ o f) (then_err (wide ts) _ o (sym e ∙ f))
     by_answer (Ok x) f =
-        let there = then_is (narrow ts) (λ x. n (place_at ts) x.0 x.1) x f in
-        let here = then_is (wide ts) (λ x. w (place_at ts) x.0 x.1) x (sym e ∙ f) in
+        let there = then_is (narrow ts) (λ x. n (offset_at ts) x.0 x.1) x f in
+        let here = then_is (wide ts) (λ x. w (offset_at ts) x.0 x.1) x (sym e ∙ f) in
         elim (h x.0 x.1 f) [
-          | AnswersSame d r ↦ AnswersSame (there ∙ d ∙ sym here) (record { never = λ place g. r.never place (sym there ∙ g) })
-          | GoesPast place g u ↦
+          | AnswersSame d r ↦ AnswersSame (there ∙ d ∙ sym here) (record { never = λ offset g. r.never offset (sym there ∙ g) })
+          | GoesPast offset g u ↦
               let past = behind_read narrow n ts x.1 x.0 g.token g.behind _ ns f (to_stop g) in
-              let on = itself_to (w (place_at ts) x.0) g.front g.token g.behind g.whole in
+              let on = itself_to (w (offset_at ts) x.0) g.front g.token g.behind g.whole in
               let over = behind_read wide w ts x.1 x.0 g.token g.behind _ ws (sym e ∙ f) on in
               let front : over.front ≡ past.front = same_front ts past.front over.front (g.token ∷ g.behind) past.whole over.whole in
-              GoesPast place (stop_at g.token g.behind g.at past)
+              GoesPast offset (stop_at g.token g.behind g.at past)
               (subst (λ (us : List Token). Unfinished (one_then wide w (us ++ g.token ∷ []))) front
               (subst Unfinished (sym (over.steady [])) u))
         ]
 
 pub then_widens : {A B : Type 0} {narrow wide : Reader A} (n w : ℕ → A → Reader B) {Ends1 Ends2 : List Token → Type 0}
     {fill1 fill2 : List Token} → Widens narrow wide Ends1 fill1 → ((rest : List Token) → Ends2 rest → Ends1 (fill2 ++ rest))
-    → ((place : ℕ) (x : A) → Widens (n place x) (w place x) Ends2 fill2)
+    → ((offset : ℕ) (x : A) → Widens (n offset x) (w offset x) Ends2 fill2)
     → Widens (one_then narrow n) (one_then wide w) Ends2 (fill1 ++ fill2)
 then_widens {narrow = narrow} {wide = wide} n w a follows h = record {
-  narrow_completes = then_completes n a.narrow_completes follows (λ place x. (h place x).narrow_completes);
-  wide_completes = then_completes w a.wide_completes follows (λ place x. (h place x).wide_completes);
+  narrow_completes = then_completes n a.narrow_completes follows (λ offset x. (h offset x).narrow_completes);
+  wide_completes = then_completes w a.wide_completes follows (λ offset x. (h offset x).wide_completes);
   each = λ ts.
       then_at narrow wide n w ts (a.narrow_completes.some.steady ts) (a.wide_completes.some.steady ts)
-      (λ place x. at_end (w place x) (h place x).wide_completes.some.steady) (a.each ts) (λ x rest e. (h (place_at ts) x).each rest);
+      (λ offset x. at_end (w offset x) (h offset x).wide_completes.some.steady) (a.each ts) (λ x rest e. (h (offset_at ts) x).each rest);
 }
 
 -- ---- A choice by the first token
@@ -200,11 +200,11 @@ choose_at {A = A} test n w m v ts of_first y z =
         → ((us : List Token) → test us ≡ b → either test w v us ≡ wide us)
         → WidensAt narrow wide ts → WidensAt (either test n m) (either test w v) ts
     branch b e narrow wide h k (AnswersSame d s) =
-        AnswersSame (h ts e ∙ d ∙ sym (k ts e)) (record { never = λ place f. s.never place (sym (h ts e) ∙ f) })
-    branch b e narrow wide h k (GoesPast place s u) =
+        AnswersSame (h ts e ∙ d ∙ sym (k ts e)) (record { never = λ offset f. s.never offset (sym (h ts e) ∙ f) })
+    branch b e narrow wide h k (GoesPast offset s u) =
         let test_is : (other : List Token) → test (s.front ++ s.token ∷ other) ≡ b =
         λ other. of_first s.front s.token other s.behind ∙ ap test (sym s.whole) ∙ e in
-        GoesPast place (stops_as s (λ other. h (s.front ++ s.token ∷ other) (test_is other) ∙ s.steady other))
+        GoesPast offset (stops_as s (λ other. h (s.front ++ s.token ∷ other) (test_is other) ∙ s.steady other))
         (subst Unfinished (sym (k (s.front ++ s.token ∷ []) (test_is []))) u)
 
 -- Where nothing stands, the second of the two is filled.
@@ -225,36 +225,36 @@ choose_widens k a without b = choose_widens_by (begins k) (begins_of_first k) a 
 
 -- ---- Single tokens
 
-pub after_each : {B : Type 0} (k : TokenKind) (n w : ℕ → Reader B) → ((place : ℕ) (ts : List Token) → WidensAt (n place) (w place) ts)
+pub after_each : {B : Type 0} (k : TokenKind) (n w : ℕ → Reader B) → ((offset : ℕ) (ts : List Token) → WidensAt (n offset) (w offset) ts)
     → (ts : List Token) → WidensAt (token_then k n) (token_then k w) ts
-unfolding after place_at choose read_then
+unfolding after offset_at choose read_then
 after_each k n w h =
     by_first _ _ (both_short _ _ refl refl) (λ t.
     elim (cases_Bool (same_kind t.kind k)) [
-      | inl e ↦ ReadOn (n t.place) (w t.place) (h t.place) (λ ts. rw e refl) (λ ts. rw e refl)
-      | inr e ↦ Refuse t.place (λ ts. rw e refl) (λ ts. rw e refl)
+      | inl e ↦ ReadOn (n t.offset) (w t.offset) (h t.offset) (λ ts. rw e refl) (λ ts. rw e refl)
+      | inr e ↦ Refuse t.offset (λ ts. rw e refl) (λ ts. rw e refl)
     ])
 
 pub after_widens : {B : Type 0} (k : TokenKind) (n w : ℕ → Reader B) {Ends : List Token → Type 0} {fill : List Token}
-    → ((place : ℕ) → Widens (n place) (w place) Ends fill) → Widens (token_then k n) (token_then k w) Ends (of_kind k ∷ fill)
+    → ((offset : ℕ) → Widens (n offset) (w offset) Ends fill) → Widens (token_then k n) (token_then k w) Ends (of_kind k ∷ fill)
 after_widens k n w h = record {
-  narrow_completes = after_completes k n (λ place. (h place).narrow_completes);
-  wide_completes = after_completes k w (λ place. (h place).wide_completes);
-  each = after_each k n w (λ place. (h place).each);
+  narrow_completes = after_completes k n (λ offset. (h offset).narrow_completes);
+  wide_completes = after_completes k w (λ offset. (h offset).wide_completes);
+  each = after_each k n w (λ offset. (h offset).each);
 }
 
 -- where behind a token of a kind there is no room for the narrow reader, and the wide one goes on
 pub deep_each : {A : Type 0} (narrow wide : Reader A) (k : TokenKind) → narrow [] ≡ Err TooShort → wide [] ≡ Err TooShort
-    → ((t : Token) (ts : List Token) → same_kind t.kind k ≡ true → narrow (t ∷ ts) ≡ Err (TooDeep t.place))
+    → ((t : Token) (ts : List Token) → same_kind t.kind k ≡ true → narrow (t ∷ ts) ≡ Err (TooDeep t.offset))
     → ((t : Token) → same_kind t.kind k ≡ true → wide (t ∷ []) ≡ Err TooShort)
-    → ((t : Token) (ts : List Token) → same_kind t.kind k ≡ false → narrow (t ∷ ts) ≡ Err (Unexpected t.place))
-    → ((t : Token) (ts : List Token) → same_kind t.kind k ≡ false → wide (t ∷ ts) ≡ Err (Unexpected t.place))
+    → ((t : Token) (ts : List Token) → same_kind t.kind k ≡ false → narrow (t ∷ ts) ≡ Err (Unexpected t.offset))
+    → ((t : Token) (ts : List Token) → same_kind t.kind k ≡ false → wide (t ∷ ts) ≡ Err (Unexpected t.offset))
     → (ts : List Token) → WidensAt narrow wide ts
 deep_each narrow wide k n w deep on refuses also =
     by_first narrow wide (both_short narrow wide n w) (λ t.
     elim (cases_Bool (same_kind t.kind k)) [
       | inl e ↦ Deep (λ ts. deep t ts e) (on t e)
-      | inr e ↦ Refuse t.place (λ ts. refuses t ts e) (λ ts. also t ts e)
+      | inr e ↦ Refuse t.offset (λ ts. refuses t ts e) (λ ts. also t ts e)
     ])
 
 pub name_widens : Widens name_at name_at Always (a_name ∷ [])
@@ -262,25 +262,25 @@ unfolding name_at
 name_widens = record {
   narrow_completes = name_completes;
   wide_completes = name_completes;
-  each = by_first name_at name_at (both_short _ _ refl refl) (λ t. one t.kind t.place t (λ ts. refl));
+  each = by_first name_at name_at (both_short _ _ refl refl) (λ t. one t.kind t.offset t (λ ts. refl));
 }
   where
-    one : (k : TokenKind) (place : ℕ) (t : Token) → ((ts : List Token) → name_at (t ∷ ts) ≡ name_of k place ts) → WidensBy name_at name_at t
-    one (kind.Name n) place t h = ReadOn _ _ (leaves_widens (record { number = n; place = place }) Always).each h h
-    one _ place t h = Refuse place h h
+    one : (k : TokenKind) (offset : ℕ) (t : Token) → ((ts : List Token) → name_at (t ∷ ts) ≡ name_of k offset ts) → WidensBy name_at name_at t
+    one (kind.Name n) offset t h = ReadOn _ _ (leaves_widens (record { number = n; offset = offset }) Always).each h h
+    one _ offset t h = Refuse offset h h
 
 pub number_widens : Widens number_at number_at Always (a_number ∷ [])
 unfolding number_at
 number_widens = record {
   narrow_completes = number_completes;
   wide_completes = number_completes;
-  each = by_first number_at number_at (both_short _ _ refl refl) (λ t. one t.kind t.place t (λ ts. refl));
+  each = by_first number_at number_at (both_short _ _ refl refl) (λ t. one t.kind t.offset t (λ ts. refl));
 }
   where
-    one : (k : TokenKind) (place : ℕ) (t : Token) → ((ts : List Token) → number_at (t ∷ ts) ≡ number_of k place ts)
+    one : (k : TokenKind) (offset : ℕ) (t : Token) → ((ts : List Token) → number_at (t ∷ ts) ≡ number_of k offset ts)
         → WidensBy number_at number_at t
-    one (kind.Number n) place t h = ReadOn _ _ (leaves_widens (record { value = n; place = place }) Always).each h h
-    one _ place t h = Refuse place h h
+    one (kind.Number n) offset t h = ReadOn _ _ (leaves_widens (record { value = n; offset = offset }) Always).each h h
+    one _ offset t h = Refuse offset h h
 
 pub truth_widens : Widens truth_at truth_at Always (a_word keyword.False ∷ [])
 unfolding truth_at

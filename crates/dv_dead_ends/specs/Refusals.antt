@@ -19,14 +19,14 @@ BeginsFile ts = BeginsFileWithin the_limits ts
 abbrev pub BeginsFileAtAnyDepth : List Token → Type 0
 BeginsFileAtAnyDepth ts = (limits : Limits) × BeginsFileWithin limits ts
 
--- The token at this place is the first wrong one: a file begins with the tokens before it, and none with those up to it, it
+-- The token at this offset is the first wrong one: a file begins with the tokens before it, and none with those up to it, it
 -- included.
-pub record NoneBeginsAt (ts : List Token) (place : ℕ) : Type 0 where
+pub record NoneBeginsAt (ts : List Token) (offset : ℕ) : Type 0 where
   pub before : List Token
   pub token : Token
   pub behind : List Token
   pub whole : ts ≡ before ++ token ∷ behind
-  pub at : token.place ≡ place
+  pub at : token.offset ≡ offset
   pub begun : BeginsFile before
   pub none : ¬ BeginsFile (before ++ token ∷ [])
 
@@ -37,9 +37,9 @@ IsNumberOf E4 ts = ¬ BeginsFileAtAnyDepth ts
 IsNumberOf E5 ts = BeginsFileAtAnyDepth ts
 IsNumberOf _ ts = ⊥
 
--- the refusal names the first wrong token, by its place, and says by its number whether that is only too deep
+-- the refusal names the first wrong token, by its offset, and says by its number whether that is only too deep
 pub record IsFirstWrong (ts : List Token) (r : Refusal) : Type 0 where
-  pub first : NoneBeginsAt ts r.place
+  pub first : NoneBeginsAt ts r.offset
   pub number : IsNumberOf r.number (first.before ++ first.token ∷ [])
 
 -- a file begins with the tokens, but none is these alone
@@ -50,4 +50,4 @@ pub record EndEarly (ts : List Token) : Type 0 where
 -- Where the tokens of a text are refused no file goes on: at the first wrong token, which the refusal names, or at the end of
 -- the text, where they end too early.
 abbrev pub IsDeadEnd : List Token → ℕ → Refusal → Type 0
-IsDeadEnd ts end r = IsFirstWrong ts r ⊎ ((r ≡ record { number = E4; place = end }) × EndEarly ts)
+IsDeadEnd ts end r = IsFirstWrong ts r ⊎ ((r ≡ record { number = E4; offset = end }) × EndEarly ts)

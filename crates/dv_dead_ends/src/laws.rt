@@ -14,17 +14,17 @@ pub fn refusals_are_dead_ends()
         → IsDeadEnd ts end r }
 {}
 
-/// A text has at most one first wrong token: two would have the same tokens before them, and the same place. It has none
+/// A text has at most one first wrong token: two would have the same tokens before them, and the same offset. It has none
 /// where its tokens begin a file.
 pub fn a_first_wrong_token_is_one()
     ensures front { (ts : List Token) (m n : ℕ) (a : NoneBeginsAt ts m) (b : NoneBeginsAt ts n) →
         a.before ≡ b.before }
-    ensures place { (ts : List Token) (m n : ℕ) → NoneBeginsAt ts m → NoneBeginsAt ts n → m ≡ n }
+    ensures offset { (ts : List Token) (m n : ℕ) → NoneBeginsAt ts m → NoneBeginsAt ts n → m ≡ n }
     ensures none { (ts : List Token) (n : ℕ) → NoneBeginsAt ts n → ¬ BeginsFile ts }
 {}
 
 /// Where the tokens lie before the end of the text, so does their refusal, or at the end.
 pub fn refusals_lie_in_the_text()
     ensures { (ts : List Token) (end : ℕ) (r : Refusal) →
-        All (λ token. token.place < end) ts → refusal_of_tokens ts end ≡ Some r → r.place ≤ end }
+        All (λ token. token.offset < end) ts → refusal_of_tokens ts end ≡ Some r → r.offset ≤ end }
 {}

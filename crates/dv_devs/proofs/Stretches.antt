@@ -186,7 +186,7 @@ awake_when_imminent false m next e h = refl
 imminent_at : (m : ℕ) (next : Option ℕ) → next ≡ Some m → is_at m next ≡ true
 imminent_at m next e = rw e (grind (arith, nat_tests))
 
--- each place has a number
+-- each index has a number
 number_at : (ks : List ℕ) (i : ℕ) → i < length ks → (k : ℕ) × (slice_get ks i ≡ Some k)
 number_at [] i h = absurd (omega arith)
 number_at (k ∷ ks) zero h = (k, refl)

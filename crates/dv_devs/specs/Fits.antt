@@ -25,7 +25,7 @@ pub record Agrees (fits : State → Bool) (comes : List Counts → Bool) (a b : 
       → a.confluent bags s ≡ b.confluent bags s
   pub hold : (s : State) → IsTrue (fits s) → a.hold s ≡ b.hold s
 
--- the states of all components fit, by their places from k on
+-- the states of all components fit, by their indices from k on
 abbrev pub AllFit : (ℕ → State → Bool) → ℕ → List Component → Type 0
 AllFit fits k [] = Unit {0}
 AllFit fits k (c ∷ cs) = IsTrue (fits k c.state) × AllFit fits (k + 1) cs
@@ -35,7 +35,7 @@ abbrev pub AllKeep : (ℕ → State → Bool) → (List Counts → Bool) → ℕ
 AllKeep fits comes k [] = Unit {0}
 AllKeep fits comes k (b ∷ bs) = Keeps (fits k) comes b × AllKeep fits comes (k + 1) bs
 
--- two lists of behaviours, of which each agrees with the one at its place
+-- two lists of behaviours, of which each agrees with the one at its index
 abbrev pub AllAgree : (ℕ → State → Bool) → (List Counts → Bool) → ℕ → List Behaviour → List Behaviour → Type 0
 AllAgree fits comes k [] [] = Unit {0}
 AllAgree fits comes k [] (b ∷ bs) = ⊥

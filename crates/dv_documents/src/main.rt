@@ -1,4 +1,9 @@
-//! Runs the examples and the models of the documents, and compares what each prints with what stands beside it.
+//! A test that is a program: it runs the examples and the models of the documents, and compares what each prints with
+//! what stands beside it.
+//!
+//! The expected text is the reader's: the trace in the folder of the example, or the lines below the command in the
+//! document. All these files are copies of the repository's own, which `.ci/copies` keeps alike. They go through
+//! `dv_job`: traces by the plain run, or in rounds where the document asks for processes.
 //!
 //! Each word names a folder with an example, or a document (`.md`).
 #![tactic(auto)]

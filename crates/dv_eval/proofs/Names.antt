@@ -10,20 +10,20 @@ use Rattle.std.proofs.lemmas.Map.Views.{Contains-from_any}
 use Rattle.std.proofs.lemmas.List.Elements.{All-contains, All-from_get_or}
 use Rattle.std.proofs.lemmas.Bool.{eqb-true}
 use Rattle.dv_syntax.specs.declared.tree.Name.{Name}
-use Rattle.dv_eval.specs.Scope.{place_from, place_of, is_declared, names_of, with_name, with_names, with_variable}
+use Rattle.dv_eval.specs.Scope.{index_from, index_of, is_declared, names_of, with_name, with_names, with_variable}
 use Rattle.dv_eval.specs.declared.scope.Domain.{Domain}
 
 -- a test of equality does not care which of the two comes first
 pub eqb-swap : (a b : ℕ) → eqb a b ≡ eqb b a
 eqb-swap a b = grind (arith, nat_tests)
 
-place_from-position_from : (k name : ℕ) (names : List ℕ) → place_from k name names ≡ position_from (eqb name) k names
-place_from-position_from k name [] = refl
-place_from-position_from k name (n ∷ names) = cc (eqb-swap n name, place_from-position_from (k + 1) name names)
+index_from-position_from : (k name : ℕ) (names : List ℕ) → index_from k name names ≡ position_from (eqb name) k names
+index_from-position_from k name [] = refl
+index_from-position_from k name (n ∷ names) = cc (eqb-swap n name, index_from-position_from (k + 1) name names)
 
--- the place of a name is the position that a set of names finds
-pub place_of-position : (name : ℕ) (names : List ℕ) → position (eqb name) names ≡ place_of name names
-place_of-position name names = position_from-zero (eqb name) names ∙ sym (place_from-position_from 0 name names)
+-- the index of a name is the position that a set of names finds
+pub index_of-position : (name : ℕ) (names : List ℕ) → position (eqb name) names ≡ index_of name names
+index_of-position name names = position_from-zero (eqb name) names ∙ sym (index_from-position_from 0 name names)
 
 is_some-cond : {X : Type 0} (b : Bool) (x : X) (o : Option X) → is_some (cond b (Some x) o) ≡ (b || is_some o)
 is_some-cond true x o = refl

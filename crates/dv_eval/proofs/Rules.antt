@@ -22,7 +22,7 @@ use Rattle.dv_bag.specs.declared.fault.RuleError.TheVariants as error
 use Rattle.dv_bag.specs.declared.state.Effect.{Effect}
 use Rattle.dv_bag.specs.declared.value.Value.{Value}
 use Rattle.std.proofs.lemmas.Bool.{lt-leb}
-use Rattle.dv_eval.specs.Scope.{Scope, place_of}
+use Rattle.dv_eval.specs.Scope.{Scope, index_of}
 use Rattle.dv_eval.specs.Steps.{repeated, with_value}
 use Rattle.dv_eval.specs.Meaning.{Context, assignment, changing, collection_of_name, command_effect, in_loop, moment_in, number_of}
 use Rattle.dv_eval.specs.Meaning.{repetition, run, sending, truth_of, value_within, with_value_at}
@@ -84,20 +84,20 @@ module _ (scope : Scope) (context : Context) where
       → run scope context (statement_before s rest) e ≡ (one s e >>= run scope context rest)
   run-statement_before (stmt.Assign name value) rest e =
       bind_twice (value_of e value) (λ v. assignment scope name.number v e) (run scope context rest)
-  run-statement_before (stmt.Command c place name) rest e =
+  run-statement_before (stmt.Command c offset name) rest e =
       bind_kept (command_effect scope c name.number e) (run scope context rest)
-  run-statement_before (stmt.Send place port value) rest e =
+  run-statement_before (stmt.Send offset port value) rest e =
       bind_twice (value_of e value) (λ v. sending scope port.number v e) (run scope context rest)
-  run-statement_before (stmt.If' place c shape block) rest e =
+  run-statement_before (stmt.If' offset c shape block) rest e =
       bind_twice (value_of e c) (λ v. if truth_of v then block_of block e else Ok e) (run scope context rest)
-  run-statement_before (stmt.IfElse' place c shape block other_shape other) rest e =
+  run-statement_before (stmt.IfElse' offset c shape block other_shape other) rest e =
       bind_twice (value_of e c) (λ v. if truth_of v then block_of block e else block_of other e) (run scope context rest)
-  run-statement_before (stmt.For' place v b shape block) rest e =
+  run-statement_before (stmt.For' offset v b shape block) rest e =
       bind_kept (walk scope context v b (row_statements block) e) (run scope context rest)
-  run-statement_before (stmt.Change c place value x) rest e =
+  run-statement_before (stmt.Change c offset value x) rest e =
       bind_twice (value_of e value) (λ v. changing scope c x.number (number_of v) e) (run scope context rest)
 
-  -- the statements from a place on: the one there, and then those behind it
+  -- the statements from an offset on: the one there, and then those behind it
   run-drop :
       (ss : List Stmt) (i : ℕ) (s : Stmt) (e : Effect) → i < length ss → s ≡ get_or ss i s
       → all (drop i ss) e ≡ (one s e >>= all (drop (i + 1) ss))
@@ -130,7 +130,7 @@ module _ (step : Effect → Result Effect Fault) (c i : ℕ) (e : Effect) (whole
   pub repeated_fails : (error : RuleError) → Fails error (step e) → Fails error whole
   repeated_fails error is = bind_fails (step e) (repeated step (c - (i + 1))) whole error next_copy is
 
--- the values from a place on: the copies of the one there, and then those behind it
+-- the values from an index on: the copies of the one there, and then those behind it
 module _ (step : ℤ → Effect → Result Effect Fault) where
   repetition_append : (ns ms : List ℤ) (e : Effect) → repetition step (ns ++ ms) e ≡ (repetition step ns e >>= repetition step ms)
   repetition_append [] ms e = refl
@@ -168,17 +168,17 @@ module _ (step : ℤ → Effect → Result Effect Fault) where
     repetition_fails error is = bind_fails (repeated (step pair.0) pair.1 e) (from (i + 1) ps) whole error next_value is
 
 sending-within :
-    (scope : Scope) (name : ℕ) (v : Value) (e : Effect) (place : Option ℕ) → total_of_all e.sent < 4096
-    → place_of name scope.outputs ≡ place → sending scope name v e ≡ Ok (with_value_at place (number_of v) e)
-sending-within scope name v e place few at =
-    ap (λ b. if b then Err Flood else Ok (with_value_at (place_of name scope.outputs) (number_of v) e))
+    (scope : Scope) (name : ℕ) (v : Value) (e : Effect) (index : Option ℕ) → total_of_all e.sent < 4096
+    → index_of name scope.outputs ≡ index → sending scope name v e ≡ Ok (with_value_at index (number_of v) e)
+sending-within scope name v e index few at =
+    ap (λ b. if b then Err Flood else Ok (with_value_at (index_of name scope.outputs) (number_of v) e))
     (lt-leb 4096 (total_of_all e.sent) few)
     ∙ ap (λ p. Ok (with_value_at p (number_of v) e)) at
 
 -- a value at a port
 pub sending-some :
     (scope : Scope) (name : ℕ) (v : Value) (e : Effect) (port : ℕ) (n : ℤ) (bags : List Counts) → total_of_all e.sent < 4096
-    → place_of name scope.outputs ≡ Some port → n ≡ number_of v → bags ≡ set e.sent port (with_copies n 1 (bag_at e.sent port))
+    → index_of name scope.outputs ≡ Some port → n ≡ number_of v → bags ≡ set e.sent port (with_copies n 1 (bag_at e.sent port))
     → sending scope name v e ≡ Ok (record { state = e.state; sent = bags; goto = e.goto })
 sending-some scope name v e port n bags few at number is =
     sending-within scope name v e (Some port) few at
@@ -187,7 +187,7 @@ sending-some scope name v e port n bags few at number is =
 
 -- a value at a port past the last
 pub sending-past :
-    (scope : Scope) (name : ℕ) (v : Value) (e : Effect) (port : ℕ) → total_of_all e.sent < 4096 → place_of name scope.outputs ≡ Some port
+    (scope : Scope) (name : ℕ) (v : Value) (e : Effect) (port : ℕ) → total_of_all e.sent < 4096 → index_of name scope.outputs ≡ Some port
     → length e.sent ≤ port → sending scope name v e ≡ Ok e
 sending-past scope name v e port few at past =
     sending-some scope name v e port (number_of v) e.sent few at refl
@@ -210,9 +210,9 @@ run-Assign scope context s e variable value is =
     ap (λ x. run scope context (statement_before x Done) e) is
     ∙ bind_each_ok (value_within scope context e (expression_of value)) (λ v. assignment scope variable.number v e)
 
-module _ (scope : Scope) (context : Context) (s : Stmt) (place : ℕ) (e : Effect) where
+module _ (scope : Scope) (context : Context) (s : Stmt) (offset : ℕ) (e : Effect) where
   pub run-If :
-      (condition : Expression) (block : Statements) (v : Value) → statement_before s Done ≡ If place condition block Done
+      (condition : Expression) (block : Statements) (v : Value) → statement_before s Done ≡ If offset condition block Done
       → value_within scope context e condition ≡ Ok v → truth_of v ≡ true
       → run scope context (statement_before s Done) e ≡ run scope context block e
   run-If condition block v tree value holds =
@@ -223,7 +223,7 @@ module _ (scope : Scope) (context : Context) (s : Stmt) (place : ℕ) (e : Effec
 
   pub run-IfElse :
       (condition : Expression) (block other : Statements) (v : Value) (holds : Bool)
-      → statement_before s Done ≡ IfElse place condition block other Done
+      → statement_before s Done ≡ IfElse offset condition block other Done
       → value_within scope context e condition ≡ Ok v → truth_of v ≡ holds
       → run scope context (statement_before s Done) e ≡ (if holds then run scope context block e else run scope context other e)
   run-IfElse condition block other v holds tree value is =
@@ -233,12 +233,12 @@ module _ (scope : Scope) (context : Context) (s : Stmt) (place : ℕ) (e : Effec
       ∙ bind_ok (if holds then run scope context block e else run scope context other e)
 
   pub run-For :
-      (v b : Name) (block : Statements) → statement_before s Done ≡ For place v b block Done
+      (v b : Name) (block : Statements) → statement_before s Done ≡ For offset v b block Done
       → run scope context (statement_before s Done) e ≡ walk scope context v b block e
   run-For v b block tree = ap (λ x. run scope context x e) tree ∙ bind_ok (walk scope context v b block e)
 
   pub run-Send :
-      (port : Name) (value : Expr) → s ≡ stmt.Send place port value
+      (port : Name) (value : Expr) → s ≡ stmt.Send offset port value
       → run scope context (statement_before s Done) e
       ≡ with_value scope context (expression_of value) (sending scope port.number) e
   run-Send port value is =
@@ -246,13 +246,13 @@ module _ (scope : Scope) (context : Context) (s : Stmt) (place : ℕ) (e : Effec
       ∙ bind_each_ok (value_within scope context e (expression_of value)) (λ v. sending scope port.number v e)
 
   pub run-Command :
-      (c : Command) (name : Name) → s ≡ stmt.Command c place name
+      (c : Command) (name : Name) → s ≡ stmt.Command c offset name
       → run scope context (statement_before s Done) e ≡ command_effect scope c name.number e
   run-Command c name is =
       ap (λ x. run scope context (statement_before x Done) e) is ∙ bind_ok (command_effect scope c name.number e)
 
   pub run-Change :
-      (c : Change) (value : Expr) (collection : Name) → s ≡ stmt.Change c place value collection
+      (c : Change) (value : Expr) (collection : Name) → s ≡ stmt.Change c offset value collection
       → run scope context (statement_before s Done) e
       ≡ with_value scope context (expression_of value) (λ v. changing scope c collection.number (number_of v)) e
   run-Change c value collection is =

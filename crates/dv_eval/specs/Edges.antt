@@ -9,7 +9,7 @@ use Rattle.dv_bag.specs.Arrivals.{nothing_arrived}
 use Rattle.dv_eval.specs.Meaning.{meaning, moment_in, outermost}
 
 abbrev pub number : ℕ → Expression
-number n = Literal (record { value = n; place = 1 })
+number n = Literal (record { value = n; offset = 1 })
 
 -- 0 less a number, in parentheses
 abbrev pub minus : ℕ → Expression

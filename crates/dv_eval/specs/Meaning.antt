@@ -34,7 +34,7 @@ use Rattle.dv_bag.specs.declared.state.Datum.{Datum}
 use Rattle.dv_bag.specs.declared.state.Datum.TheVariants as datum
 use Rattle.dv_bag.specs.declared.state.State.{State}
 use Rattle.dv_bag.specs.declared.state.Effect.{Effect}
-use Rattle.dv_eval.specs.Scope.{Scope, place_of, names_of}
+use Rattle.dv_eval.specs.Scope.{Scope, index_of, names_of}
 use Rattle.dv_bag.specs.Limits.{greatest_count}
 use Rattle.dv_eval.specs.declared.scope.VariableRange.{VariableRange}
 use Rattle.dv_eval.specs.declared.scope.Domain.{Domain}
@@ -91,7 +91,7 @@ value_of_datum None = Number (pos 0)
 
 abbrev pub datum_at : List Datum → Option ℕ → Option Datum
 datum_at contents None = None
-datum_at contents (Some place) = slice_get contents place
+datum_at contents (Some index) = slice_get contents index
 
 -- what is known beside the state where a statement stands: what has arrived, and the values of the enclosing loops'
 -- variables by name, the innermost first
@@ -122,7 +122,7 @@ loop_value name (l ∷ loops) = if l.0 == name then Some l.1 else loop_value nam
 
 -- what the state variable of a name holds
 abbrev pub datum_of_name : Scope → State → ℕ → Option Datum
-datum_of_name scope s name = datum_at s.variables (place_of name (names_of scope.variables))
+datum_of_name scope s name = datum_at s.variables (index_of name (names_of scope.variables))
 
 abbrev pub value_in_loop : Option ℤ → Value → Value
 value_in_loop None v = v
@@ -137,15 +137,15 @@ abbrev pub bag_received : Arrivals → Option ℕ → Counts
 bag_received arrivals None = []
 bag_received arrivals (Some port) = bag_at arrivals.received port
 
--- the collection of the state variable at a place; where there is no variable, the bag that arrived at a port
+-- the collection of the state variable at an index; where there is no variable, the bag that arrived at a port
 abbrev pub collection_between : Moment → Option ℕ → Option ℕ → Collection
-collection_between m (Some place) port = held_at m.state.variables place
+collection_between m (Some index) port = held_at m.state.variables index
 collection_between m None port = collection.Bag (bag_received m.context.arrivals port)
 
 -- the collection that a name stands for: a state variable's, else an input port's bag; a name of no collection stands for an
 -- empty bag
 abbrev pub collection_of_name : Scope → Moment → ℕ → Collection
-collection_of_name scope m name = collection_between m (place_of name (names_of scope.variables)) (place_of name scope.inputs)
+collection_of_name scope m name = collection_between m (index_of name (names_of scope.variables)) (index_of name scope.inputs)
 
 -- a bag's counts; a queue stands for the empty bag
 abbrev pub bag_or_none : Collection → Counts
@@ -173,40 +173,40 @@ call_result Front c = number_or_empty (first (queue_or_none c))
 -- the value of an expression at a moment; where the left operand decides, the right one is not asked
 abbrev pub meaning : Scope → Moment → Expression → Result Value Fault
 meaning scope m (Literal n) = Ok (Number (pos n.value))
-meaning scope m (TruthValue place b) = Ok (Truth b)
+meaning scope m (TruthValue offset b) = Ok (Truth b)
 meaning scope m (Named name) = Ok (value_of_name scope m name.number)
-meaning scope m (Parens place e) = meaning scope m e
-meaning scope m (Prefixed operator place e) = meaning scope m e >>= λ v. prefix_result operator v
+meaning scope m (Parens offset e) = meaning scope m e
+meaning scope m (Prefixed operator offset e) = meaning scope m e >>= λ v. prefix_result operator v
 meaning scope m (Binary operator a b) =
     meaning scope m a >>= λ x.
     if is_decided operator x then Ok (Truth (truth_of x)) else (meaning scope m b >>= λ y. operator_result operator x y)
-meaning scope m (Call call place b) = call_result call (collection_of_name scope m b.number)
-meaning scope m (Elapsed place) = number_or_overflow (pos m.context.arrivals.elapsed)
-meaning scope m (Times place e b) =
+meaning scope m (Call call offset b) = call_result call (collection_of_name scope m b.number)
+meaning scope m (Elapsed offset) = number_or_overflow (pos m.context.arrivals.elapsed)
+meaning scope m (Times offset e b) =
     meaning scope m e >>= λ v. Ok (Number (pos (count_of (number_of v) (bag_or_none (collection_of_name scope m b.number)))))
 
--- a number into the variable at a place, where it is within the variable's range
+-- a number into the variable at an index, where it is within the variable's range
 abbrev pub assignment_in_range : VariableRange → ℕ → ℤ → Effect → Result Effect Fault
-assignment_in_range range place n e =
-    if is_within range.low range.high n then Ok (with_state e (with_datum e.state place (datum.Number n))) else Err Range
+assignment_in_range range index n e =
+    if is_within range.low range.high n then Ok (with_state e (with_datum e.state index (datum.Number n))) else Err Range
 
--- a value into the state variable at a place; a flag takes the truth value
+-- a value into the state variable at an index; a flag takes the truth value
 abbrev pub assignment_in_domain : Domain → ℕ → Value → Effect → Result Effect Fault
-assignment_in_domain (domain.Number range) place v e = assignment_in_range range place (number_of v) e
-assignment_in_domain (domain.Flag start) place v e = Ok (with_state e (with_datum e.state place (datum.Flag (truth_of v))))
-assignment_in_domain (domain.Held d capacity) place v e = Ok e
+assignment_in_domain (domain.Number range) index v e = assignment_in_range range index (number_of v) e
+assignment_in_domain (domain.Flag start) index v e = Ok (with_state e (with_datum e.state index (datum.Flag (truth_of v))))
+assignment_in_domain (domain.Held d capacity) index v e = Ok e
 
 abbrev pub assignment_to : Option (ℕ × Domain) → ℕ → Value → Effect → Result Effect Fault
-assignment_to None place v e = Ok e
-assignment_to (Some variable) place v e = assignment_in_domain variable.1 place v e
+assignment_to None index v e = Ok e
+assignment_to (Some variable) index v e = assignment_in_domain variable.1 index v e
 
 abbrev pub assignment_at : Scope → Option ℕ → Value → Effect → Result Effect Fault
 assignment_at scope None v e = Ok e
-assignment_at scope (Some place) v e = assignment_to (slice_get scope.variables place) place v e
+assignment_at scope (Some index) v e = assignment_to (slice_get scope.variables index) index v e
 
 -- an assignment to a variable or a flag
 abbrev pub assignment : Scope → ℕ → Value → Effect → Result Effect Fault
-assignment scope name v e = assignment_at scope (place_of name (names_of scope.variables)) v e
+assignment scope name v e = assignment_at scope (index_of name (names_of scope.variables)) v e
 
 -- one value more at a port
 abbrev pub with_value_at : Option ℕ → ℤ → Effect → Effect
@@ -218,7 +218,7 @@ with_value_at (Some port) n e =
 abbrev pub sending : Scope → ℕ → Value → Effect → Result Effect Fault
 sending scope port v e =
     if nat_le greatest_count (total_of_all e.sent) then Err Flood
-    else Ok (with_value_at (place_of port scope.outputs) (number_of v) e)
+    else Ok (with_value_at (index_of port scope.outputs) (number_of v) e)
 
 -- how many values a bag or a queue of the state may hold
 abbrev pub capacity_in : Domain → Option ℕ
@@ -230,38 +230,38 @@ abbrev pub capacity_of : Option (ℕ × Domain) → Option ℕ
 capacity_of None = None
 capacity_of (Some variable) = capacity_in variable.1
 
--- what is made of the collection at a place; where that is nothing, nothing changes
+-- what is made of the collection at an index; where that is nothing, nothing changes
 abbrev pub with_made : ℕ → Effect → Option (Result Collection Fault) → Result Effect Fault
-with_made place e None = Ok e
-with_made place e (Some r) = r >>= λ c. Ok (with_collection e place c)
+with_made index e None = Ok e
+with_made index e (Some r) = r >>= λ c. Ok (with_collection e index c)
 
--- a number changes the collection at a place, which may hold so many values; where there is none of the discipline that the
+-- a number changes the collection at an index, which may hold so many values; where there is none of the discipline that the
 -- change wants, nothing changes
 abbrev pub changing_to : Change → Option ℕ → Option Datum → ℕ → ℤ → Effect → Result Effect Fault
-changing_to c (Some capacity) (Some (datum.Held held)) place n e = with_made place e (changed c capacity n held)
-changing_to c capacity content place n e = Ok e
+changing_to c (Some capacity) (Some (datum.Held held)) index n e = with_made index e (changed c capacity n held)
+changing_to c capacity content index n e = Ok e
 
 abbrev pub changing_at : Scope → Change → Option ℕ → ℤ → Effect → Result Effect Fault
 changing_at scope c None n e = Ok e
-changing_at scope c (Some place) n e =
-    changing_to c (capacity_of (slice_get scope.variables place)) (slice_get e.state.variables place) place n e
+changing_at scope c (Some index) n e =
+    changing_to c (capacity_of (slice_get scope.variables index)) (slice_get e.state.variables index) index n e
 
 -- a number changes a collection of the state
 abbrev pub changing : Scope → Change → ℕ → ℤ → Effect → Result Effect Fault
-changing scope c name n e = changing_at scope c (place_of name (names_of scope.variables)) n e
+changing scope c name n e = changing_at scope c (index_of name (names_of scope.variables)) n e
 
--- the queue at a place loses its first value; where there is no queue, nothing changes
+-- the queue at an index loses its first value; where there is no queue, nothing changes
 abbrev pub popping_from : Option Datum → ℕ → Effect → Result Effect Fault
-popping_from (Some (datum.Held held)) place e = with_made place e (popped held)
-popping_from content place e = Ok e
+popping_from (Some (datum.Held held)) index e = with_made index e (popped held)
+popping_from content index e = Ok e
 
 abbrev pub popping_at : Option ℕ → Effect → Result Effect Fault
 popping_at None e = Ok e
-popping_at (Some place) e = popping_from (slice_get e.state.variables place) place e
+popping_at (Some index) e = popping_from (slice_get e.state.variables index) index e
 
 -- a queue of the state loses its first value
 abbrev pub popping : Scope → ℕ → Effect → Result Effect Fault
-popping scope name e = popping_at (place_of name (names_of scope.variables)) e
+popping scope name e = popping_at (index_of name (names_of scope.variables)) e
 
 abbrev pub with_goto : Option ℕ → Effect → Effect
 with_goto None e = e
@@ -269,7 +269,7 @@ with_goto (Some phase) e = record { state = e.state; sent = e.sent; goto = Some 
 
 -- what a command does with a name
 abbrev pub command_effect : Scope → Command → ℕ → Effect → Result Effect Fault
-command_effect scope command.Goto name e = Ok (with_goto (place_of name scope.phases) e)
+command_effect scope command.Goto name e = Ok (with_goto (index_of name scope.phases) e)
 command_effect scope command.Pop name e = popping scope name e
 
 -- a step for each of some values, one after the other; the first fault ends it
@@ -287,19 +287,19 @@ abbrev pub run : Scope → Context → Statements → Effect → Result Effect F
 run scope context Done e = Ok e
 run scope context (Assign variable value rest) e =
     value_within scope context e value >>= λ v. assignment scope variable.number v e >>= run scope context rest
-run scope context (Does c place name rest) e = command_effect scope c name.number e >>= run scope context rest
-run scope context (Send place port value rest) e =
+run scope context (Does c offset name rest) e = command_effect scope c name.number e >>= run scope context rest
+run scope context (Send offset port value rest) e =
     value_within scope context e value >>= λ v. sending scope port.number v e >>= run scope context rest
-run scope context (If place condition block rest) e =
+run scope context (If offset condition block rest) e =
     value_within scope context e condition >>= λ v. (if truth_of v then run scope context block e else Ok e) >>= run scope context rest
-run scope context (IfElse place condition block other rest) e =
+run scope context (IfElse offset condition block other rest) e =
     value_within scope context e condition
     >>= λ v. (if truth_of v then run scope context block e else run scope context other e) >>= run scope context rest
-run scope context (For place v b block rest) e =
+run scope context (For offset v b block rest) e =
     repetition
     (λ n. run scope (in_loop (v.number, n) context) block) (values_in (collection_of_name scope (moment_in context e.state) b.number)) e
     >>= run scope context rest
-run scope context (Changes c place value x rest) e =
+run scope context (Changes c offset value x rest) e =
     value_within scope context e value >>= λ v. changing scope c x.number (number_of v) e >>= run scope context rest
 
 -- the effect of a rule on a state, with what has arrived

@@ -24,7 +24,7 @@ use Rattle.dv_bag.specs.Arrivals.{Arrivals, nothing_arrived}
 use Rattle.dv_eval.specs.Meaning.{effect_of, meaning, moment_in, outermost}
 
 abbrev pub named : ℕ → Name
-named n = record { number = n; place = 1 }
+named n = record { number = n; offset = 1 }
 
 abbrev pub tally : Name
 tally = named 0

@@ -53,13 +53,13 @@ outputs_in declarations = filter_map output_of declarations
 abbrev pub phases_in : List PhasesTree → List Name
 phases_in items = flat_map (λ p. p.names) items
 
--- the place of a name in a list of names
-abbrev pub place_from : ℕ → ℕ → List ℕ → Option ℕ
-place_from k name [] = None
-place_from k name (n ∷ names) = if n == name then Some k else place_from (k + 1) name names
+-- the index of a name in a list of names
+abbrev pub index_from : ℕ → ℕ → List ℕ → Option ℕ
+index_from k name [] = None
+index_from k name (n ∷ names) = if n == name then Some k else index_from (k + 1) name names
 
-abbrev pub place_of : ℕ → List ℕ → Option ℕ
-place_of name names = place_from 0 name names
+abbrev pub index_of : ℕ → List ℕ → Option ℕ
+index_of name names = index_from 0 name names
 
 abbrev pub names_of : {A : Type 0} → List (ℕ × A) → List ℕ
 names_of entries = map (λ e. e.0) entries
@@ -78,7 +78,7 @@ with_names names (n ∷ more) = with_names (with_name names n) more
 -- a magnitude with its sign
 abbrev pub signed : Option ℕ → ℕ → ℤ
 signed None n = pos n
-signed (Some place) n = neg_ℤ (pos n)
+signed (Some index) n = neg_ℤ (pos n)
 
 abbrev pub bound_value : Bound → ℤ
 bound_value b = signed b.minus b.magnitude.value
@@ -132,10 +132,10 @@ start_datum (domain.Held d capacity) = datum.Held (empty_of d)
 abbrev pub start_data : List (ℕ × Domain) → List Datum
 start_data entries = map (λ e. start_datum e.1) entries
 
--- the place of the phase that the first start item names
+-- the index of the phase that the first start item names
 abbrev pub start_phase : Scope → List Start → ℕ
 start_phase scope [] = 0
-start_phase scope (s ∷ starts) = unwrap_or (place_of s.phase.number scope.phases) 0
+start_phase scope (s ∷ starts) = unwrap_or (index_of s.phase.number scope.phases) 0
 
 -- the state in which a component begins
 abbrev pub start_state : AtomicTree → State
@@ -160,6 +160,6 @@ abbrev pub ticks_found : Option Ticks → Option Expression
 ticks_found None = None
 ticks_found (Some ticks) = ticks_of ticks
 
--- the name of the phase at a place
+-- the name of the phase at an index
 abbrev pub phase_name : Scope → ℕ → ℕ
-phase_name scope place = slice_index scope.phases place
+phase_name scope index = slice_index scope.phases index

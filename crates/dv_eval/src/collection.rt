@@ -135,17 +135,17 @@ pub(crate) fn collection_of_name<'a>(
     ensures few { count_in (collection_seen result) ≤ greatest_count }
 {
     match scope.variable(name) {
-        Some(place) => held_at(place, moment.state),
+        Some(index) => held_at(index, moment.state),
         None => bag_received(scope.input(name), moment.context),
     }
 }
 
-// The collection of the state variable at a place.
-fn held_at(place: usize, state: &State) -> CollectionView<'_>
-    ensures held { collection_seen result ≡ held_at state.now.variables place }
+// The collection of the state variable at an index.
+fn held_at(index: usize, state: &State) -> CollectionView<'_>
+    ensures held { collection_seen result ≡ held_at state.now.variables index }
     ensures few { count_in (collection_seen result) ≤ greatest_count }
 {
-    match state.variables.get(place) {
+    match state.variables.get(index) {
         Some(DatumView::Held(Collection::Bag(bag))) => CollectionView::Bag(bag),
         Some(DatumView::Held(Collection::Queue(queue))) => CollectionView::Queue(queue),
         Some(DatumView::Number(_) | DatumView::Flag(_)) | None => CollectionView::Nothing,

@@ -81,8 +81,8 @@ fn datum_of_name<'a>(name: u32, state: &'a State, scope: &Scope) -> Option<Datum
     ensures datum { option_map datum_of result ≡ datum_of_name scope.now state.now name }
     ensures few { IfSome result (λ view. HoldsFew view) }
 {
-    let place = scope.variable(name)?;
-    state.variables.get(place)
+    let index = scope.variable(name)?;
+    state.variables.get(index)
 }
 
 // What a call gives.

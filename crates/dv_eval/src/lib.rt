@@ -1,4 +1,13 @@
-//! The meaning of expressions and rules, on trees, over the names that an atomic model declares.
+//! The meaning of expressions, rules and holds, on trees.
+//!
+//! A `Scope` has the names that an atomic model declares, and a `Moment` what else an expression may read: the state,
+//! what has arrived, and the variables of the loops around. `eval` gives the value of an expression or its fault,
+//! `run_rule` the effect of a rule or its first fault, and `hold` the ticks of a hold. Each is exactly what the
+//! definitions of `specs/` say. The meaning is total: in a text that was not checked an unknown name counts as 0.
+//!
+//! `dv_plain` runs models by this meaning; `dv_gen` proves its programs against it, and `dv_bound` its lower bound on
+//! holds. `dv_check` evaluates the hold of the start, and `dv_fault` runs a rule again. A run in processes runs no
+//! rule by its tree.
 #![tactic(auto)]
 
 /// The collections that names stand for.

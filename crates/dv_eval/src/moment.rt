@@ -14,8 +14,11 @@ pub enum Context<'a, 'b> {
     Outermost(&'a Arrivals<'b>),
     /// A loop within others.
     Within {
+        /// The number of the loop variable's name.
         variable: u32,
+        /// Its value.
         value: i64,
+        /// What is known around the loop.
         outer: &'a Context<'a, 'b>,
     },
 }
@@ -55,6 +58,8 @@ impl<'b> Context<'_, 'b> {
 /// What is known where an expression stands: a state, what has arrived, and the loops around.
 #[derive(Clone, Copy)]
 pub struct Moment<'a, 'b> {
+    /// The state from which the expression reads variables.
     pub state: &'a State,
+    /// What has arrived, and the loops around.
     pub context: &'a Context<'a, 'b>,
 }

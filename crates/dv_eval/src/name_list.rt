@@ -3,7 +3,7 @@
 ghost use Rattle.std.specs.Prelude.{◌≡◌, ◌<◌, ℕ, [], length, nat_eq, IfSome};
 ghost use Rattle.std.specs.List.{IsDistinct};
 ghost use Rattle.dv_eval.specs.NameLists.{names_in};
-ghost use Rattle.dv_eval.specs.Scope.{place_of};
+ghost use Rattle.dv_eval.specs.Scope.{index_of};
 
 use arrayvec::ArrayVec;
 use indexmap::IndexSet;
@@ -15,7 +15,9 @@ pub type FewNames = ArrayVec<u32, 8>;
 /// sooner than a table is made of them.
 #[derive(Drop)]
 pub enum NameList {
+    /// At most eight names, which are looked for one after the other.
     Few(FewNames),
+    /// More names, in a table.
     Many(IndexSet<u32>),
 }
 
@@ -27,7 +29,7 @@ impl NameList {
         NameList::Few(ArrayVec::new())
     }
 
-    /// The names by place.
+    /// The names by index.
     pub fn as_slice(&self) -> &[u32]
         ensures { result.now ≡ names_in self.now }
     {
@@ -37,61 +39,61 @@ impl NameList {
         }
     }
 
-    /// The place of a name.
-    pub fn place(&self, name: u32) -> Option<usize>
-        ensures { result ≡ place_of name (names_in self.now) }
+    /// The index of a name.
+    pub fn index_of(&self, name: u32) -> Option<usize>
+        ensures { result ≡ index_of name (names_in self.now) }
     {
         match self {
-            NameList::Few(names) => place_among(names.as_slice(), name),
+            NameList::Few(names) => index_among(names.as_slice(), name),
             NameList::Many(names) => names.get_index_of(&name),
         }
     }
 
-    /// The place of a name, which has 32 bits as the names have.
-    pub fn place_number(&self, name: u32) -> Option<u32>
-        ensures { result ≡ place_of name (names_in self.now) }
+    /// The index of a name, which has 32 bits as the names have.
+    pub fn index_number(&self, name: u32) -> Option<u32>
+        ensures { result ≡ index_of name (names_in self.now) }
     {
         match self {
-            NameList::Few(names) => few_place_number(names, name),
-            NameList::Many(names) => many_place_number(names, name),
+            NameList::Few(names) => few_index_number(names, name),
+            NameList::Many(names) => many_index_number(names, name),
         }
     }
 }
 
-// The place of a name among few.
-fn few_place_number(names: &FewNames, name: u32) -> Option<u32>
-    ensures { result ≡ place_of name names.now.items }
+// The index of a name among few.
+fn few_index_number(names: &FewNames, name: u32) -> Option<u32>
+    ensures { result ≡ index_of name names.now.items }
 {
     let names = names.as_slice();
-    let place = place_among(names, name)?;
-    Some(place as u32)
+    let index = index_among(names, name)?;
+    Some(index as u32)
 }
 
-// The place of a name among many.
-fn many_place_number(names: &IndexSet<u32>, name: u32) -> Option<u32>
-    ensures { result ≡ place_of name names.now.keys }
+// The index of a name among many.
+fn many_index_number(names: &IndexSet<u32>, name: u32) -> Option<u32>
+    ensures { result ≡ index_of name names.now.keys }
 {
-    let place = names.get_index_of(&name)?;
-    Some(place_number(names.as_slice(), place))
+    let index = names.get_index_of(&name)?;
+    Some(index_number(names.as_slice(), index))
 }
 
-fn place_among(names: &[u32], name: u32) -> Option<usize>
-    ensures found { result ≡ place_of name names.now }
-    ensures within { IfSome result (λ place. place < length names.now) }
+fn index_among(names: &[u32], name: u32) -> Option<usize>
+    ensures found { result ≡ index_of name names.now }
+    ensures within { IfSome result (λ index. index < length names.now) }
 {
-    for (place, other) in names.iter().enumerate() {
+    for (index, other) in names.iter().enumerate() {
         if *other == name {
-            return Some(place);
+            return Some(index);
         }
     }
     None
 }
 
-// A place among names of 32 bits, no two of them equal, has 32 bits.
-fn place_number(names: &[u32], place: usize) -> u32
+// An index among names of 32 bits, no two of them equal, has 32 bits.
+fn index_number(names: &[u32], index: usize) -> u32
     requires distinct { IsDistinct nat_eq names.now }
-    requires within { place < length names.now }
-    ensures { result ≡ place }
+    requires within { index < length names.now }
+    ensures { result ≡ index }
 {
-    place as u32
+    index as u32
 }

@@ -273,13 +273,13 @@ fn run_step(
 fn assign(name: u32, value: Value, scope: &Scope, effect: Effect) -> Result<Effect, Fault>
     ensures { result ≡ assignment scope.now name value effect }
 {
-    let Some(place) = scope.variable(name) else {
+    let Some(index) = scope.variable(name) else {
         return Ok(effect);
     };
-    match scope.domain(place) {
+    match scope.domain(index) {
         None => Ok(effect),
-        Some(Domain::Number(range)) => assign_number(range, place, number_of(value), effect),
-        Some(Domain::Flag { .. }) => Ok(assign_flag(place, truth_of(value), effect)),
+        Some(Domain::Number(range)) => assign_number(range, index, number_of(value), effect),
+        Some(Domain::Flag { .. }) => Ok(assign_flag(index, truth_of(value), effect)),
         Some(Domain::Held { .. }) => Ok(effect),
     }
 }
@@ -287,24 +287,24 @@ fn assign(name: u32, value: Value, scope: &Scope, effect: Effect) -> Result<Effe
 // A number within the variable's range.
 fn assign_number(
     range: VariableRange,
-    place: usize,
+    index: usize,
     number: i64,
     mut effect: Effect,
 ) -> Result<Effect, Fault>
-    ensures { result ≡ assignment_in_range range place number effect }
+    ensures { result ≡ assignment_in_range range index number effect }
 {
     test_range(number, range.low, range.high)?;
-    if place < effect.state.variables.len() {
-        effect.state.variables.set_number(place, number);
+    if index < effect.state.variables.len() {
+        effect.state.variables.set_number(index, number);
     }
     Ok(effect)
 }
 
-fn assign_flag(place: usize, truth: bool, mut effect: Effect) -> Effect
-    ensures { result ≡ with_state effect (with_datum effect.state place (datum.Flag truth)) }
+fn assign_flag(index: usize, truth: bool, mut effect: Effect) -> Effect
+    ensures { result ≡ with_state effect (with_datum effect.state index (datum.Flag truth)) }
 {
-    if place < effect.state.variables.len() {
-        effect.state.variables.set_flag(place, truth);
+    if index < effect.state.variables.len() {
+        effect.state.variables.set_flag(index, truth);
     }
     effect
 }
@@ -352,27 +352,27 @@ fn edit(
 ) -> Result<Effect, RuleError>
     ensures { Gives result (changing scope.now change name number effect) }
 {
-    let Some(place) = scope.variable(name) else {
+    let Some(index) = scope.variable(name) else {
         return Ok(effect);
     };
-    match scope.domain(place) {
-        Some(Domain::Held { capacity, .. }) => edit_within(change, capacity, place, number, effect),
+    match scope.domain(index) {
+        Some(Domain::Held { capacity, .. }) => edit_within(change, capacity, index, number, effect),
         _ => Ok(effect),
     }
 }
 
-// A number changes the collection at a place, if there is one that the change can change.
+// A number changes the collection at an index, if there is one that the change can change.
 fn edit_within(
     change: Change,
     capacity: u64,
-    place: usize,
+    index: usize,
     number: i64,
     mut effect: Effect,
 ) -> Result<Effect, RuleError>
     ensures { Gives result (changing_to change (Some capacity)
-        (slice_get effect.state.variables place) place number effect) }
+        (slice_get effect.state.variables index) index number effect) }
 {
-    let Some(DatumView::Held(held)) = effect.state.variables.get(place) else {
+    let Some(DatumView::Held(held)) = effect.state.variables.get(index) else {
         return Ok(effect);
     };
     if held.discipline() != change.discipline() {
@@ -381,7 +381,7 @@ fn edit_within(
     if change.makes_more() {
         test_room(held.count(), capacity)?;
     }
-    effect.state.variables.edit(change, place, number)?;
+    effect.state.variables.edit(change, index, number)?;
     Ok(effect)
 }
 
@@ -389,15 +389,15 @@ fn edit_within(
 fn pop(name: u32, scope: &Scope, mut effect: Effect) -> Result<Effect, Fault>
     ensures { result ≡ popping scope.now name effect }
 {
-    let Some(place) = scope.variable(name) else {
+    let Some(index) = scope.variable(name) else {
         return Ok(effect);
     };
-    let Some(DatumView::Held(Collection::Queue(queue))) = effect.state.variables.get(place) else {
+    let Some(DatumView::Held(Collection::Queue(queue))) = effect.state.variables.get(index) else {
         return Ok(effect);
     };
     if queue.len() == 0 {
         return Err(Fault::Empty);
     }
-    effect.state.variables.pop(place);
+    effect.state.variables.pop(index);
     Ok(effect)
 }

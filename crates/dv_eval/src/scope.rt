@@ -3,7 +3,7 @@
 ghost use Rattle.std.specs.Prelude.{◌≡◌, ℕ, [], length, slice_get, map, option_map, IfOk, IfSome, OnOk, OnSome};
 ghost use Rattle.dv_syntax.specs.Trees.{atomic_of, phases_of};
 ghost use Rattle.dv_eval.specs.NameLists.{names_in};
-ghost use Rattle.dv_eval.specs.Scope.{bound_value, inputs_in, names_of, nothing_declared, outputs_in, phases_in, place_of};
+ghost use Rattle.dv_eval.specs.Scope.{bound_value, inputs_in, names_of, nothing_declared, outputs_in, phases_in, index_of};
 ghost use Rattle.dv_eval.specs.Scope.{range_of, scope_of, state_variable_of, state_variables_in, with_name, with_names};
 ghost use Rattle.dv_eval.specs.Scope.{with_variable, with_variables};
 
@@ -18,8 +18,11 @@ use std::marker::Model;
 /// The range of a variable, and its value at the start.
 #[derive(Clone, Copy, Debug, PartialEq, Eq)]
 pub struct VariableRange {
+    /// The least number that the variable may hold.
     pub low: i64,
+    /// The greatest number that the variable may hold.
     pub high: i64,
+    /// The number that it holds at the start.
     pub start: i64,
 }
 
@@ -53,11 +56,14 @@ pub enum Domain {
     Number(VariableRange),
     /// A truth value.
     Flag {
+        /// The truth value at the start.
         start: bool,
     },
     /// A bag or a queue of at most so many values, each copy counted. It is empty at the start.
     Held {
+        /// Whether it is a bag or a queue.
         discipline: Discipline,
+        /// The most values that it may hold, copies counted.
         capacity: u64,
     },
 }
@@ -138,78 +144,78 @@ impl Scope {
         })
     }
 
-    /// The place of a variable, a flag, a bag or a queue.
+    /// The index of a variable, a flag, a bag or a queue.
     pub fn variable(&self, name: u32) -> Option<usize>
-        ensures { result ≡ place_of name (names_of self.now.variables) }
+        ensures { result ≡ index_of name (names_of self.now.variables) }
     {
         self.variables.get_index_of(&name)
     }
 
-    /// The place of a phase.
+    /// The index of a phase.
     pub fn phase(&self, name: u32) -> Option<u32>
-        ensures { result ≡ place_of name self.now.phases }
+        ensures { result ≡ index_of name self.now.phases }
     {
-        self.phases.place_number(name)
+        self.phases.index_number(name)
     }
 
-    /// The place of an input port.
+    /// The index of an input port.
     pub fn input(&self, name: u32) -> Option<usize>
-        ensures { result ≡ place_of name self.now.inputs }
+        ensures { result ≡ index_of name self.now.inputs }
     {
-        self.inputs.place(name)
+        self.inputs.index_of(name)
     }
 
-    /// The place of an output port.
+    /// The index of an output port.
     pub fn output(&self, name: u32) -> Option<usize>
-        ensures { result ≡ place_of name self.now.outputs }
+        ensures { result ≡ index_of name self.now.outputs }
     {
-        self.outputs.place(name)
+        self.outputs.index_of(name)
     }
 
-    /// What the variable, flag, bag or queue at a place may hold.
-    pub fn domain(&self, place: usize) -> Option<Domain>
-        ensures { result ≡ option_map (λ v. v.1) (slice_get self.now.variables place) }
+    /// What the variable, flag, bag or queue at an index may hold.
+    pub fn domain(&self, index: usize) -> Option<Domain>
+        ensures { result ≡ option_map (λ v. v.1) (slice_get self.now.variables index) }
     {
-        let (_, domain) = self.variables.get_index(place)?;
+        let (_, domain) = self.variables.get_index(index)?;
         Some(*domain)
     }
 
-    /// The name of the phase at a place.
-    pub fn phase_name(&self, place: u32) -> Option<u32>
-        ensures { result ≡ slice_get self.now.phases place }
+    /// The name of the phase at an index.
+    pub fn phase_name(&self, index: u32) -> Option<u32>
+        ensures { result ≡ slice_get self.now.phases index }
     {
-        self.phases.as_slice().get(place as usize).copied()
+        self.phases.as_slice().get(index as usize).copied()
     }
 
-    /// The names of the variables, flags, bags and queues by place.
+    /// The names of the variables, flags, bags and queues by index.
     pub fn variables(&self) -> &[u32]
         ensures { result.now ≡ names_of self.now.variables }
     {
         self.variables.keys().as_slice()
     }
 
-    /// What the variables, flags, bags and queues may hold, by place.
+    /// What the variables, flags, bags and queues may hold, by index.
     pub fn domains(&self) -> &[Domain]
         ensures { result.now ≡ map (λ v. v.1) self.now.variables }
     {
         self.variables.values().as_slice()
     }
 
-    /// The names of the phases by place.
+    /// The names of the phases by index.
     pub fn phases(&self) -> &[u32]
         ensures { result.now ≡ self.now.phases }
     {
         self.phases.as_slice()
     }
 
-    /// The names of the input ports by place.
+    /// The names of the input ports by index.
     pub fn inputs(&self) -> &[u32]
         ensures { result.now ≡ self.now.inputs }
     {
         self.inputs.as_slice()
     }
 
-    /// The names of the output ports by place.
+    /// The names of the output ports by index.
     pub fn outputs(&self) -> &[u32]
         ensures { result.now ≡ self.now.outputs }
     {

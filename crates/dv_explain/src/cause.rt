@@ -1,4 +1,4 @@
-//! What is told of a refusal beside its place.
+//! What is told of a refusal beside its offset.
 
 use std::alloc::{AllocError, Global};
 

@@ -1,19 +1,20 @@
-//! What may stand at a place of a text.
+//! What may stand at an offset of a text.
 
 use crate::grammar::{Called, FILE, Part, knows_queues};
 use dv_lex::{Token, TokenKind};
 use std::alloc::{AllocError, Global};
 use std::fmt;
 
-/// What may stand at a place: parts of which all but the last may be nothing.
+/// What may stand at an offset: parts of which all but the last may be nothing.
 #[derive(Drop)]
 pub struct Expectations {
+    /// The parts, the nearest first.
     pub parts: Vec<Part>,
     /// Whether the text knows the words of queues.
     pub knows_queues: bool,
 }
 
-/// What may stand at a place, where the tokens before it begin a text. `place` is the number of bytes before it.
+/// What may stand at an offset, where the tokens before it begin a text. `offset` is the number of bytes before it.
 ///
 /// # Errors
 ///
@@ -21,9 +22,9 @@ pub struct Expectations {
 pub fn expectations_at(
     alloc: Global,
     tokens: &[Token],
-    place: usize,
+    offset: usize,
 ) -> Result<Expectations, AllocError> {
-    let owed = owed_at(alloc, tokens, place)?;
+    let owed = owed_at(alloc, tokens, offset)?;
     let mut parts = Vec::new(alloc);
     for part in owed.iter().rev() {
         parts.push(*part)?;
@@ -37,13 +38,13 @@ pub fn expectations_at(
     })
 }
 
-/// What is owed at a place, the nearest last.
-fn owed_at(alloc: Global, tokens: &[Token], place: usize) -> Result<Vec<Part>, AllocError> {
+/// What is owed at an offset, the nearest last.
+fn owed_at(alloc: Global, tokens: &[Token], offset: usize) -> Result<Vec<Part>, AllocError> {
     let mut owed = Vec::new(alloc);
     owe(&mut owed, FILE)?;
     for token in tokens
         .iter()
-        .take_while(|token| (token.place as usize) < place)
+        .take_while(|token| (token.offset as usize) < offset)
     {
         read(&mut owed, &token.kind)?;
     }

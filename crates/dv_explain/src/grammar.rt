@@ -1,4 +1,4 @@
-//! The grammar of a model text, as what is still owed at a place of it.
+//! The grammar of a model text, as what is still owed at an offset of it.
 //!
 //! What is owed is a list of parts. A token begins the first of them that is not passed over, and that part is replaced
 //! by what is owed behind the token.
@@ -6,14 +6,16 @@
 use dv_lex::{Keyword, Symbol, Token, TokenKind};
 use std::fmt;
 
-/// A part of the grammar that is owed at a place of a text.
+/// A part of the grammar that is owed at an offset of a text.
 #[derive(Clone, Copy, Debug, PartialEq, Eq)]
 pub enum Part {
     /// A sign, with its spelling.
     Sign(Symbol, &'static str),
     /// A reserved word, with its spelling.
     Word(Keyword, &'static str),
+    /// A name.
     Name,
+    /// A number.
     Number,
     /// A header, or none.
     Header,
@@ -37,6 +39,7 @@ pub enum Part {
     Truth,
     /// `forever` or an expression.
     Ticks,
+    /// An expression.
     Expression,
     /// What an arithmetic operator or a comparison takes.
     Operand,
@@ -396,7 +399,9 @@ pub fn is_comparison(symbol: Symbol) -> bool {
 /// A part as it is called in a text that knows the words of queues, or in one that does not.
 #[derive(Clone, Copy)]
 pub struct Called<'a> {
+    /// The part.
     pub part: &'a Part,
+    /// Whether the text knows the words of queues.
     pub knows_queues: bool,
 }
 

@@ -1,13 +1,15 @@
-//! What stands at a place of a text.
+//! What stands at an offset of a text.
 
 use crate::quoted::Quoted;
 use dv_lex::{Names, Symbol, Token, TokenKind};
 use std::fmt;
 
-/// What stands at a place of a text.
+/// What stands at an offset of a text.
 #[derive(Clone, Copy, Debug, PartialEq, Eq)]
 pub enum Met<'a> {
+    /// A name, with its text.
     Name(&'a str),
+    /// A number, with its value.
     Number(i64),
     /// A reserved word or a sign, with its spelling.
     Fixed(&'a str),
@@ -15,12 +17,12 @@ pub enum Met<'a> {
     End,
 }
 
-/// What stands at a token's place, or at the end of the text.
+/// What stands at a token's offset, or at the end of the text.
 pub fn met_at<'a>(text: &'a str, names: &'a Names, token: Option<&Token>) -> Met<'a> {
     let Some(token) = token else {
         return Met::End;
     };
-    let text = text.get(token.place as usize..).unwrap_or("");
+    let text = text.get(token.offset as usize..).unwrap_or("");
     match token.kind {
         TokenKind::Name(number) => Met::Name(names.text(number).unwrap_or("")),
         TokenKind::Number(number) => Met::Number(number.value()),

@@ -1,8 +1,8 @@
 //! What is nested too deeply.
 
-/// Which limit a token passes that is nested too deeply. `place` is the number of bytes before the token.
-pub fn nesting_at(text: &[u8], place: usize) -> &'static str {
-    let (_, token) = text.split_at(place.min(text.len()));
+/// Which limit a token passes that is nested too deeply. `offset` is the number of bytes before the token.
+pub fn nesting_at(text: &[u8], offset: usize) -> &'static str {
+    let (_, token) = text.split_at(offset.min(text.len()));
     if begins_with_word(token, b"if") {
         "blocks nest at most 16 deep, that of the rule counted"
     } else if begins_with_word(token, b"for") {

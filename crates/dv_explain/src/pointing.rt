@@ -12,18 +12,22 @@ const SHOWN: usize = 60;
 /// Stands where a line is cut.
 const CUT: char = '…';
 
-/// A place of a file: the name and the bytes of the file, the number of the line, and how many bytes come before the place.
+/// An offset of a file: the name and the bytes of the file, the number of the line, and how many bytes come before the offset.
 #[derive(Clone, Copy)]
 pub struct Spot<'a> {
+    /// The name of the file.
     pub name: &'a str,
+    /// The bytes of the file.
     pub text: &'a [u8],
+    /// The number of the line, counted from 1.
     pub line: u64,
-    pub place: usize,
+    /// How many bytes of the text come before it.
+    pub offset: usize,
 }
 
-/// Where a refusal is and its case, as `FILE:LINE:COLUMN: CODE: SUMMARY`; then the line of the text around the place, a mark
+/// Where a refusal is and its case, as `FILE:LINE:COLUMN: CODE: SUMMARY`; then the line of the text around the offset, a mark
 /// below it, and the sentences of the cause. Columns count characters from 1. A cause without a summary has the first sentence
-/// of what the code means. Of a long line the 60 characters before the place and the 60 behind it are shown, with a `…` on a
+/// of what the code means. Of a long line the 60 characters before the offset and the 60 behind it are shown, with a `…` on a
 /// side where it is cut, and no bytes that are not UTF-8.
 ///
 /// # Errors
@@ -35,7 +39,7 @@ pub fn pointed(
     code: &str,
     cause: &Cause,
 ) -> Result<String, AllocError> {
-    let (before, after) = spot.text.split_at(spot.place.min(spot.text.len()));
+    let (before, after) = spot.text.split_at(spot.offset.min(spot.text.len()));
     let before = str::from_utf8(last_line(before)).unwrap_or("");
     let after = str::from_utf8(first_line(after)).unwrap_or("");
     let column = before.chars().count().saturating_add(1);
@@ -72,7 +76,7 @@ fn first_line(bytes: &[u8]) -> &[u8] {
     bytes.get(..end).unwrap_or(bytes)
 }
 
-/// The line with its number and the mark below it, out of what stands on the line before the place and from it on.
+/// The line with its number and the mark below it, out of what stands on the line before the offset and from it on.
 fn push_marked(
     text: &mut String,
     number: &str,
@@ -86,7 +90,7 @@ fn push_marked(
     push_mark(text, number.len(), before, hidden)
 }
 
-/// What is shown of a line before the place, behind so many hidden characters.
+/// What is shown of a line before the offset, behind so many hidden characters.
 fn push_before(text: &mut String, before: &str, hidden: usize) -> Result<(), AllocError> {
     if hidden > 0 {
         text.push(CUT)?;
@@ -94,7 +98,7 @@ fn push_before(text: &mut String, before: &str, hidden: usize) -> Result<(), All
     push_shown(text, before, hidden)
 }
 
-/// What is shown of a line from the place on.
+/// What is shown of a line from the offset on.
 fn push_after(text: &mut String, after: &str) -> Result<(), AllocError> {
     push_shown(text, after, 0)?;
     if after.chars().count() > SHOWN {
@@ -111,7 +115,7 @@ fn push_shown(text: &mut String, line: &str, hidden: usize) -> Result<(), AllocE
     Ok(())
 }
 
-/// The last line: the mark behind the margin and what is shown before the place.
+/// The last line: the mark behind the margin and what is shown before the offset.
 fn push_mark(
     text: &mut String,
     margin: usize,

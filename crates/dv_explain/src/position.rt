@@ -5,14 +5,16 @@ use std::fmt;
 /// Where a token stands: its line, and in characters its column; both count from 1.
 #[derive(Clone, Copy, Debug, PartialEq, Eq)]
 pub struct Position {
+    /// The number of the line, counted from 1.
     pub line: usize,
+    /// The column in characters, counted from 1.
     pub column: usize,
 }
 
 impl Position {
     /// The position behind so many bytes of a text.
-    pub fn of(text: &[u8], place: usize) -> Self {
-        let (before, _) = text.split_at(place.min(text.len()));
+    pub fn of(text: &[u8], offset: usize) -> Self {
+        let (before, _) = text.split_at(offset.min(text.len()));
         let feeds = before.iter().filter(|byte| **byte == b'\n').count();
         let characters = str::from_utf8(last_line(before))
             .unwrap_or("")
@@ -28,9 +30,9 @@ impl Position {
 /// What stands behind the last line feed.
 pub fn last_line(bytes: &[u8]) -> &[u8] {
     let mut start = 0;
-    for (place, byte) in bytes.iter().enumerate() {
+    for (offset, byte) in bytes.iter().enumerate() {
         if *byte == b'\n' {
-            start = place + 1;
+            start = offset + 1;
         }
     }
     bytes.get(start..).unwrap_or(&[])

@@ -1,4 +1,4 @@
-//! Slips of those who write other languages too, found at the place of a refusal.
+//! Slips of those who write other languages too, found at the offset of a refusal.
 
 /// A slip: what stands before a token and from it on, and the sentence on it.
 struct Slip {
@@ -7,10 +7,10 @@ struct Slip {
     words: &'static str,
 }
 
-/// A sentence on what seems to be meant at a place of a text at which no token begins or none can stand, with a line feed;
-/// nothing where that is not known. `place` is the number of bytes before the token.
-pub fn slip_at(text: &[u8], place: usize) -> &'static str {
-    let (before, after) = text.split_at(place.min(text.len()));
+/// A sentence on what seems to be meant at an offset of a text at which no token begins or none can stand, with a line feed;
+/// nothing where that is not known. `offset` is the number of bytes before the token.
+pub fn slip_at(text: &[u8], offset: usize) -> &'static str {
+    let (before, after) = text.split_at(offset.min(text.len()));
     if is_decimal(before, after) {
         return "There are no decimals: numbers are whole, so count in smaller units.\n";
     }
@@ -48,12 +48,12 @@ fn is_blank(byte: &u8) -> bool {
     matches!(byte, b' ' | b'\t' | b'\r' | b'\n')
 }
 
-/// Whether a slip is at a place: what stands before it, and what stands from it on.
+/// Whether a slip is at an offset: what stands before it, and what stands from it on.
 fn is_at(slip: &Slip, before: &[u8], after: &[u8]) -> bool {
     before.ends_with(slip.before.as_bytes()) && after.starts_with(slip.after.as_bytes())
 }
 
-/// The slips that are told by the characters around the place.
+/// The slips that are told by the characters around the offset.
 fn slips() -> &'static [Slip] {
     &[
         Slip {
@@ -243,16 +243,16 @@ fn is_else_if(before: &[u8], after: &[u8]) -> bool {
     without_blanks(before).ends_with(b"else") && after.starts_with(b"if")
 }
 
-/// Whether only blanks stand before a place on its line, and a line before that.
-pub fn begins_line(text: &[u8], place: usize) -> bool {
-    let (before, _) = text.split_at(place.min(text.len()));
+/// Whether only blanks stand before an offset on its line, and a line before that.
+pub fn begins_line(text: &[u8], offset: usize) -> bool {
+    let (before, _) = text.split_at(offset.min(text.len()));
     let blanks = before
         .iter()
         .rev()
         .take_while(|byte| matches!(byte, b' ' | b'\t' | b'\r'))
         .count();
     match before.len().checked_sub(blanks.saturating_add(1)) {
-        Some(place) => before.get(place) == Some(&b'\n'),
+        Some(offset) => before.get(offset) == Some(&b'\n'),
         None => false,
     }
 }

@@ -5,20 +5,20 @@ use crate::slips::slip_at;
 use crate::unseen::unseen_name;
 use std::alloc::{AllocError, Global};
 
-/// Which character it is with which no token begins, and what seems to be meant, where that is known. `place` is the number
+/// Which character it is with which no token begins, and what seems to be meant, where that is known. `offset` is the number
 /// of bytes before it.
 ///
 /// # Errors
 ///
 /// No memory for the words.
-pub fn stray_at(alloc: Global, text: &[u8], place: usize) -> Result<Cause, AllocError> {
-    let summary = match first_character(text.get(place..).unwrap_or(&[])) {
+pub fn stray_at(alloc: Global, text: &[u8], offset: usize) -> Result<Cause, AllocError> {
+    let summary = match first_character(text.get(offset..).unwrap_or(&[])) {
         Some(character) => summary_of(alloc, character)?,
         None => String::from_str(alloc, "no token begins here")?,
     };
     Ok(Cause {
         summary,
-        sentences: String::from_str(alloc, slip_at(text, place))?,
+        sentences: String::from_str(alloc, slip_at(text, offset))?,
     })
 }
 

@@ -10,21 +10,21 @@ use crate::slips::{begins_line, slip_at};
 use dv_lex::{Keyword, Symbol, TokenKind, Tokens, tokens};
 use std::alloc::{AllocError, Global};
 
-/// The first token with which no text goes on: what may stand at its place and what was met, and what seems to be meant,
-/// where that is known. `place` is the number of bytes before the token. Nothing is said where the text has no tokens.
+/// The first token with which no text goes on: what may stand at its offset and what was met, and what seems to be meant,
+/// where that is known. `offset` is the number of bytes before the token. Nothing is said where the text has no tokens.
 ///
 /// # Errors
 ///
 /// No memory for the tokens or the words.
-pub fn unexpected_at(alloc: Global, text: &[u8], place: usize) -> Result<Cause, AllocError> {
+pub fn unexpected_at(alloc: Global, text: &[u8], offset: usize) -> Result<Cause, AllocError> {
     let Ok(read) = tokens(alloc, text) else {
         return Cause::of(alloc, "", "");
     };
-    let expected = expectations_at(alloc, &read.tokens, place)?;
+    let expected = expectations_at(alloc, &read.tokens, offset)?;
     let number = read
         .tokens
         .iter()
-        .take_while(|token| (token.place as usize) < place)
+        .take_while(|token| (token.offset as usize) < offset)
         .count();
     let met = met_at(
         str::from_utf8(text).unwrap_or(""),
@@ -33,7 +33,7 @@ pub fn unexpected_at(alloc: Global, text: &[u8], place: usize) -> Result<Cause, 
     );
     Ok(Cause {
         summary: format!(in alloc; "expected {expected}, but met {met}")?,
-        sentences: meant_at(alloc, text, place, &read, number, &expected)?,
+        sentences: meant_at(alloc, text, offset, &read, number, &expected)?,
     })
 }
 
@@ -41,17 +41,17 @@ pub fn unexpected_at(alloc: Global, text: &[u8], place: usize) -> Result<Cause, 
 fn meant_at(
     alloc: Global,
     text: &[u8],
-    place: usize,
+    offset: usize,
     read: &Tokens,
     number: usize,
     expected: &Expectations,
 ) -> Result<String, AllocError> {
-    let slip = slip_at(text, place);
+    let slip = slip_at(text, offset);
     if !slip.is_empty() {
         String::from_str(alloc, slip)
     } else if lacks_version(expected, read, number) {
         String::from_str(alloc, WITHOUT_QUEUES)
-    } else if expected.have(SEMICOLON) && begins_line(text, place) {
+    } else if expected.have(SEMICOLON) && begins_line(text, offset) {
         String::from_str(
             alloc,
             "It begins a line: the line before may lack its `;`.\n",
@@ -79,8 +79,8 @@ fn end_of_link(alloc: Global, name: &str) -> Result<String, AllocError> {
 const WITHOUT_QUEUES: &str =
     "Queues are known in a text that begins with `version 2;`: in others `queue`, `push`, `pop` and `front` are names.\n";
 
-/// Whether a name that stands at the place, or just before it, seems to be meant as a word of queues. So many tokens come
-/// before the place.
+/// Whether a name that stands at the offset, or just before it, seems to be meant as a word of queues. So many tokens come
+/// before the offset.
 fn lacks_version(expected: &Expectations, read: &Tokens, number: usize) -> bool {
     let before = name_at(read, number.saturating_sub(1));
     if expected.have(Part::Items) {

@@ -37,8 +37,8 @@ impl<'t> Atom<'t> {
 
     /// What the state variable of a name may hold, if there is one.
     pub(crate) fn domain(&self, name: u32) -> Option<Domain> {
-        let place = self.scope.variable(name)?;
-        self.scope.domain(place)
+        let offset = self.scope.variable(name)?;
+        self.scope.domain(offset)
     }
 
     /// The name of the phase of a state.

@@ -10,16 +10,16 @@ use dv_explain::Quoted;
 use dv_syntax::{Expr, Name, Stmt, Ticks};
 use std::alloc::AllocError;
 
-/// The place of a statement: of its first word, or of the variable to which it assigns.
-pub(crate) fn place_of(statement: &Stmt) -> u32 {
+/// The offset of a statement: of its first word, or of the variable to which it assigns.
+pub(crate) fn offset_of(statement: &Stmt) -> u32 {
     match statement {
-        Stmt::Assign { variable, .. } => variable.place,
-        Stmt::Command { place, .. }
-        | Stmt::Send { place, .. }
-        | Stmt::If { place, .. }
-        | Stmt::IfElse { place, .. }
-        | Stmt::For { place, .. }
-        | Stmt::Change { place, .. } => *place,
+        Stmt::Assign { variable, .. } => variable.offset,
+        Stmt::Command { offset, .. }
+        | Stmt::Send { offset, .. }
+        | Stmt::If { offset, .. }
+        | Stmt::IfElse { offset, .. }
+        | Stmt::For { offset, .. }
+        | Stmt::Change { offset, .. } => *offset,
     }
 }
 

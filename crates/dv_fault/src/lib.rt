@@ -1,5 +1,13 @@
-//! Where the faults of a run came from: the transition of each is run again by the source's rules, from the state before it, up to the
-//! statement that has the fault. What a component was is read from its lines; what arrived is worked out by the links.
+//! Where the faults of a run came from.
+//!
+//! A `FaultWriter` takes the bytes of a trace while the run prints them. At a fault it runs the transition of that
+//! component again by the rules of the source, from the state before it, up to the statement that has the fault, and
+//! tells its line, the values there and what the fault means. What a component was is read from its lines; what
+//! arrived is worked out by the links. It explains the first faults and counts the others, and its memory does not
+//! grow with the trace.
+//!
+//! `dv_views` calls it for `run --explain`. Nothing is claimed of what is told but that it is told without a fault of
+//! the program, and no trace changes by it.
 #![tactic(auto)]
 
 /// An atomic model, with the names of its text.

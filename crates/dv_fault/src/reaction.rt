@@ -236,14 +236,14 @@ fn end_of_hold(
 
 fn fault_of_hold(atom: &Atom<'_>, state: &State, fault: Fault) -> Result<Stop, AllocError> {
     let phase = atom.phase_of(state);
-    let (place, sentences) = match atom.hold(phase) {
-        Some(item) => (item.place, sentences_on_hold(atom, state, &item.ticks)?),
-        None => (atom.model.name.place, String::new(atom.alloc)),
+    let (offset, sentences) = match atom.hold(phase) {
+        Some(item) => (item.offset, sentences_on_hold(atom, state, &item.ticks)?),
+        None => (atom.model.name.offset, String::new(atom.alloc)),
     };
     Ok(Stop::Fault(Found {
         fault,
         site: Site::Hold { phase },
-        place,
+        offset,
         sentences,
     }))
 }
@@ -265,7 +265,7 @@ fn flood_at(atom: &Atom<'_>, port: u32, count: u64) -> Result<Stop, AllocError> 
     Ok(Stop::Fault(Found {
         fault: Fault::Flood,
         site: Site::Arrival { port },
-        place: declared_at(atom, port),
+        offset: declared_at(atom, port),
         sentences: format!(in atom.alloc; "{count} values came to {name} at once.\n")?,
     }))
 }
@@ -273,11 +273,11 @@ fn flood_at(atom: &Atom<'_>, port: u32, count: u64) -> Result<Stop, AllocError> 
 // Where the model declares an input port.
 fn declared_at(atom: &Atom<'_>, port: u32) -> u32 {
     for declaration in &atom.model.declarations {
-        if let Declaration::In(Name { number, place }) = declaration
+        if let Declaration::In(Name { number, offset }) = declaration
             && *number == port
         {
-            return *place;
+            return *offset;
         }
     }
-    atom.model.name.place
+    atom.model.name.offset
 }

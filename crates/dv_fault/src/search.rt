@@ -1,7 +1,7 @@
 //! The statement of a rule that has a fault.
 
 use crate::atom::Atom;
-use crate::case::{place_of, sentences_on_statement};
+use crate::case::{offset_of, sentences_on_statement};
 use crate::stop::{Found, Site, Stop};
 use dv_bag::{Arrivals, Effect, Fault, RuleError, Sent, State, Value};
 use dv_eval::{Context, Moment, eval, loop_values, run_statement};
@@ -49,7 +49,7 @@ pub(crate) fn find_in_rule(
         Ok(_) => Ok(Found {
             fault,
             site,
-            place: rule.phase.place,
+            offset: rule.phase.offset,
             sentences: String::new(atom.alloc),
         }),
     }
@@ -182,7 +182,7 @@ fn stop_at(
     Err(Stop::Fault(Found {
         fault,
         site: search.site,
-        place: place_of(statement),
+        offset: offset_of(statement),
         sentences,
     }))
 }

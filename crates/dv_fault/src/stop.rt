@@ -21,7 +21,7 @@ pub(crate) struct Found {
     pub(crate) fault: Fault,
     pub(crate) site: Site,
     /// How many bytes of the text come before the statement, the hold or the port.
-    pub(crate) place: u32,
+    pub(crate) offset: u32,
     /// Sentences on the values there, each with a line feed.
     pub(crate) sentences: String,
 }

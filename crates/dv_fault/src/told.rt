@@ -15,7 +15,9 @@ const SHOWN: u64 = 10;
 /// The text of a model: the name of its file, and its bytes.
 #[derive(Clone, Copy)]
 pub struct FileText<'a> {
+    /// The name of the file.
     pub name: &'a str,
+    /// The bytes of the file.
     pub bytes: &'a [u8],
 }
 
@@ -84,12 +86,12 @@ impl<'a> Told<'a> {
         if !self.text.is_empty() {
             self.text.push('\n')?;
         }
-        let place = found.place as usize;
+        let offset = found.offset as usize;
         let spot = Spot {
             name: self.model.name,
             text: self.model.bytes,
-            line: Position::of(self.model.bytes, place).line as u64,
-            place,
+            line: Position::of(self.model.bytes, offset).line as u64,
+            offset,
         };
         let cause = Cause {
             summary: summary_of(atom, path, instant, found)?,

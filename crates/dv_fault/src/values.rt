@@ -24,8 +24,8 @@ pub(crate) fn push_reads(
     let Some((last, others)) = reads.split_last() else {
         return Ok(());
     };
-    for (place, read) in others.iter().enumerate() {
-        if place > 0 {
+    for (offset, read) in others.iter().enumerate() {
+        if offset > 0 {
             text.push_str(", ")?;
         }
         push_read(text, atom, moment, *read)?;
@@ -63,7 +63,7 @@ fn push_value(
         return write!(text, "{number}");
     }
     let datum = match atom.scope.variable(name) {
-        Some(place) => moment.state.variables.get(place),
+        Some(offset) => moment.state.variables.get(offset),
         None => None,
     };
     match datum {

@@ -37,7 +37,7 @@ probe_ticks j t =
     ∙ ap tick (sym e))
     (cases_Bool (eqb j t))
 
--- a sum in which one place counts, or none
+-- a sum in which one index counts, or none
 none_chosen : {X : Type 0} (g w : X → ℕ) (xs : List X) (d : X) → ((j : ℕ) → j < length xs → w (get_or xs j d) ≡ 0) →
     total_by (λ x. g x * w x) xs ≡ 0
 none_chosen g w [] d h = refl
@@ -72,7 +72,7 @@ module _ (f : FileTree) (sources : List ComponentPort) (valid : All (IsOutput f)
   come_bags : AreBags (come_probes f sources)
   come_bags = probes_bag (length sources) (length (root_inputs f))
 
-  -- the probes of the root's inputs, by place
+  -- the probes of the root's inputs, by index
   entry_ticks : (t j d : ℕ) → j < length (root_inputs f) →
       count_of (pos t) (bag_at (come_probes f sources) (get_or (root_ports (root_inputs f)) j d))
       ≡ tick (eqb (length sources + j) t)

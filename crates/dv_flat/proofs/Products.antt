@@ -1,4 +1,4 @@
--- Sums of products of two lists, place by place.
+-- Sums of products of two lists, index by index.
 use Rattle.std.proofs.Common.{◌≡◌, ℕ, zero, suc, ◌+◌, ◌*◌, ◌≤◌, List, [], ◌∷◌, length, get_or, replicate, refl}
 use Rattle.std.proofs.Common.{ap, ◌∙◌, arith}
 use Rattle.std.specs.List.{range_with_len, sum, sum_by}
@@ -31,7 +31,7 @@ product_flip (x ∷ xs) (y ∷ ys) = let first = mul_comm x y in let rest = prod
 first_more : (x y more rest : ℕ) → Alike (capped (x + more) * y + rest) ((x * y + rest) + more * y)
 first_more x y more rest = let one = alike_times (capped (x + more)) (x + more) y (omega arith) in omega (arith, one)
 
--- with more at a place of the first list
+-- with more at an index of the first list
 pub product_more : (xs ys : List ℕ) (port more : ℕ) → length ys ≤ length xs →
     Alike (product (more_at port more xs) ys) (product xs ys + more * at_port ys port)
 product_more [] [] port more short = omega arith
@@ -42,7 +42,7 @@ product_more (x ∷ xs) (y ∷ ys) zero more short = first_more x y more (produc
 product_more (x ∷ xs) (y ∷ ys) (suc port) more short =
     let rest = product_more xs ys port more (omega (arith, short)) in omega (arith, rest)
 
--- each list of the second is as long as that of the first at its place; the first may have more lists
+-- each list of the second is as long as that of the first at its index; the first may have more lists
 pub data Covers : List (List ℕ) → List (List ℕ) → Type 0 where
   no_more : {xs : List (List ℕ)} → Covers xs []
   one_more : {x y : List ℕ} {xs ys : List (List ℕ)} → length x ≡ length y → Covers xs ys → Covers (x ∷ xs) (y ∷ ys)

@@ -18,7 +18,7 @@ fold_map f g c [] = refl
 fold_map f g c (x ∷ xs) = fold_map f g (f c (g x)) xs
 
 module _ {is : List Instance} {k : ℕ} {s : Scope} (at : IsAt is k s) where
-  -- what is so of the instance at a place
+  -- what is so of the instance at an index
   counted : (f : Instance → ℕ) → get_or (map f is) k 0 ≡ f at.instance
   counted f =
       ap (λ (j : ℕ). get_or (map f is) j 0) (let same : k ≡ k + 0 = omega arith in same)

@@ -19,7 +19,7 @@ link_count f = copies_of (direct_links f) + (copies_of (entry_links f) + copies_
 
 -- the refusal for too many links names the root
 abbrev pub link_refusal : FileTree → Option Refusal
-link_refusal f = if nat_lt greatest_links (link_count f) then Some (record { number = E17; place = f.root.place }) else None
+link_refusal f = if nat_lt greatest_links (link_count f) then Some (record { number = E17; offset = f.root.offset }) else None
 
 -- the refusal of a file: a rule that it breaks or a limit on its tree that it passes, else the limit on links
 abbrev pub file_refusal : FileTree → Option Refusal

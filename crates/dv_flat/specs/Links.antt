@@ -47,7 +47,7 @@ link from to (suc n) = Some (record { from = from; to = to; copies = suc n })
 abbrev pub links_from : {From To : Type 0} → (From → To → ℕ) → List To → From → List (Link From To)
 links_from copies tos from = filter_map (λ to. link from to (copies from to)) tos
 
--- the ports of the root with these names, by their places
+-- the ports of the root with these names, by their indices
 abbrev pub root_ports : List ℕ → List ℕ
 root_ports names = range_with_len 0 (length names)
 

@@ -40,7 +40,7 @@ with_probes t (from ∷ froms) sent = with_probes (suc t) froms (with_probe sent
 abbrev pub IsOutput : FileTree → ComponentPort → Type 0
 IsOutput f from = from.port < slice_index_or (map (λ (i : Instance). output_count i.model) (instances f)) from.component 0
 
--- the probe of each source is its place; the probes of the root's inputs stand behind these
+-- the probe of each source is its index; the probes of the root's inputs stand behind these
 abbrev pub sent_probes : FileTree → List ComponentPort → List (List Counts)
 sent_probes f sources = with_probes 0 sources (silence (instances f))
 
@@ -97,7 +97,7 @@ direct_from f = links_from (direct_copies f) (input_ports f)
 abbrev pub exit_from : FileTree → ComponentPort → List (Link ComponentPort ℕ)
 exit_from f = links_from (exit_copies f) (root_ports (root_outputs f))
 
--- the sources at whose places a flag stands
+-- the sources at whose indices a flag stands
 abbrev pub chosen_from : ℕ → List Bool → List ComponentPort → List ComponentPort
 chosen_from k flags [] = []
 chosen_from k flags (from ∷ froms) =
@@ -107,7 +107,7 @@ chosen_from k flags (from ∷ froms) =
 abbrev pub links_to : {From To : Type 0} → From → List (Arrival To) → List (Link From To)
 links_to {To = To} from arrivals = map (λ (a : Arrival To). record { from = from; to = a.to; copies = a.copies }) arrivals
 
--- those of all sources, whose lists of arrivals stand from a place on
+-- those of all sources, whose lists of arrivals stand from an index on
 abbrev pub links_of : {From To : Type 0} → List (List (Arrival To)) → ℕ → List From → List (Link From To)
 links_of lists k [] = []
 links_of lists k (from ∷ froms) = links_to from (slice_index_or lists k []) ++ links_of lists (suc k) froms

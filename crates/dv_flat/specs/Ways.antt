@@ -10,7 +10,7 @@ use Rattle.dv_tree.specs.Tables.{LevelTable, level_of_model, scope_of_model}
 use Rattle.dv_tree.specs.declared.couplings.Target.{Target}
 use Rattle.dv_tree.specs.declared.couplings.Target.TheVariants.{Own, OfPart}
 use Rattle.dv_tree.specs.declared.couplings.Coupling.{Coupling}
-use Rattle.dv_tree.specs.declared.placed_parts.PlacedPart.{PlacedPart}
+use Rattle.dv_tree.specs.declared.resolved_parts.ResolvedPart.{ResolvedPart}
 
 -- the ways of a model: from each of its input ports so many lead to components inside, to each of its output ports so many lead
 -- from components inside, and so many begin and end inside
@@ -86,8 +86,8 @@ coupled_ways count l parts = record {
 }
 
 -- the ways of parts, by those of the models
-abbrev pub part_ways : List WayCounts → List PlacedPart → List WayCounts
-part_ways below placed = map (λ (e : PlacedPart). slice_index_or below e.model no_ways) placed
+abbrev pub part_ways : List WayCounts → List ResolvedPart → List WayCounts
+part_ways below resolved = map (λ (e : ResolvedPart). slice_index_or below e.model no_ways) resolved
 
 -- the number of input ports that a coupled model declares
 abbrev pub own_inputs : ModelTree → ℕ

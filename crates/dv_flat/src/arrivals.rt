@@ -73,7 +73,7 @@ fn arrivals_at_inputs(
 {
     let mut lists = empty_lists(alloc, probes)?;
     for component in 0..tree.component_count() {
-        // Its ports are few enough for places of 32 bits.
+        // Its ports are few enough for indices of 32 bits.
         let _ = port_count(tree.scope(component).inputs());
         add_component(component as u32, &received[component], &mut lists)?;
     }
@@ -153,9 +153,9 @@ fn add_arrival<T: Copy>(
     ensures { OnOk result (map (λ list. list.items) lists.new.items
         ≡ with_arrival probe arrival (map (λ list. list.items) lists.old.items)) }
 {
-    if let Ok(place) = usize::try_from(probe) {
-        if place < lists.len() {
-            lists[place].push(arrival)?;
+    if let Ok(index) = usize::try_from(probe) {
+        if index < lists.len() {
+            lists[index].push(arrival)?;
         }
     }
     Ok(())

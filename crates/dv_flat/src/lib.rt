@@ -1,5 +1,12 @@
-//! From the tree of a text to its links, from the components' outputs to the inputs that they reach, with copies, and to its
-//! paths.
+//! From a tree of coupled models to direct links between components, and their paths.
+//!
+//! `flatten` gives the `LinkLists` of an accepted text: which output reaches which input, from and to the outside
+//! too, each pair once, with as many copies as ways lead there. These are exactly the text's links, and what they
+//! carry is what routing by the tree gives, which is a law. `count_links` refuses a checked text with more than
+//! `GREATEST_LINKS` (E17) before any link is built. `paths_of` gives the path of each component.
+//!
+//! `dv_run` cuts these links to processes; the graphs, the tables and what is told of faults follow them too.
+//! Values are not sent here, and rules are not read.
 #![tactic(auto)]
 
 /// Where the probes arrive.

@@ -15,7 +15,7 @@ use dv_check::GREATEST_DEPTH;
 use dv_eval::Scope;
 use dv_lex::{LoadError, Refusal, RefusalNumber};
 use dv_syntax::Model as ModelItem;
-use dv_tree::{Coupling, Level, PlacedPart, Target, Tree, level_at};
+use dv_tree::{Coupling, Level, ResolvedPart, Target, Tree, level_at};
 use std::alloc::{AllocError, Global};
 use std::marker::Model;
 
@@ -105,7 +105,7 @@ pub(crate) fn at_port(ways: &[u64], port: usize) -> u64
     }
 }
 
-// More ways at a port; past the last port there is no place for them.
+// More ways at a port; past the last port there is no index for them.
 fn add_at(ways: &mut [u64], port: usize, more: u64)
     ensures { ways.new ≡ more_at port more ways.old }
 {
@@ -115,7 +115,7 @@ fn add_at(ways: &mut [u64], port: usize, more: u64)
 }
 
 // The ways of a part, by those of all models; a model that is not among these has no ports.
-fn inputs_of<'w>(below: &'w [Ways], part: &PlacedPart) -> &'w [u64]
+fn inputs_of<'w>(below: &'w [Ways], part: &ResolvedPart) -> &'w [u64]
     ensures { result.now ≡ (slice_index_or below.now part.now.model no_ways).inputs }
 {
     match below.get(part.model) {
@@ -125,7 +125,7 @@ fn inputs_of<'w>(below: &'w [Ways], part: &PlacedPart) -> &'w [u64]
 }
 
 /// The ways from the outputs of a part's model.
-pub(crate) fn outputs_of<'w>(below: &'w [Ways], part: &PlacedPart) -> &'w [u64]
+pub(crate) fn outputs_of<'w>(below: &'w [Ways], part: &ResolvedPart) -> &'w [u64]
     ensures { result.now ≡ (slice_index_or below.now part.now.model no_ways).outputs }
 {
     match below.get(part.model) {
@@ -134,7 +134,7 @@ pub(crate) fn outputs_of<'w>(below: &'w [Ways], part: &PlacedPart) -> &'w [u64]
     }
 }
 
-fn inside_of(below: &[Ways], part: &PlacedPart) -> u64
+fn inside_of(below: &[Ways], part: &ResolvedPart) -> u64
     ensures { result ≡ (slice_index_or below.now part.now.model no_ways).inside }
 {
     match below.get(part.model) {
@@ -144,7 +144,7 @@ fn inside_of(below: &[Ways], part: &PlacedPart) -> u64
 }
 
 /// The ways that lead on inside from the target of a coupling.
-pub(crate) fn ways_from(target: Target, parts: &[PlacedPart], below: &[Ways]) -> u64
+pub(crate) fn ways_from(target: Target, parts: &[ResolvedPart], below: &[Ways]) -> u64
     ensures { result ≡ ways_from (part_ways below.now parts.now) target }
 {
     match target {
@@ -180,10 +180,10 @@ fn output_ways(alloc: Global, level: &Level, below: &[Ways]) -> Result<Vec<u64>,
         (part_ways below.now level.now.parts) (replicate level.now.outputs 0)) }
 {
     let mut ways = vec![in alloc; 0; level.output_count()]?;
-    for (place, part) in level.parts().iter().enumerate() {
+    for (index, part) in level.parts().iter().enumerate() {
         add_outputs(
             &mut ways,
-            level.couplings_of_part(place),
+            level.couplings_of_part(index),
             outputs_of(below, part),
         );
     }
@@ -207,8 +207,8 @@ fn inside_ways(level: &Level, below: &[Ways]) -> u64
         (part_ways below.now level.now.parts)) }
 {
     let mut ways: u64 = 0;
-    for (place, part) in level.parts().iter().enumerate() {
-        let couplings = level.couplings_of_part(place);
+    for (index, part) in level.parts().iter().enumerate() {
+        let couplings = level.couplings_of_part(index);
         let joined = joined_ways(couplings, outputs_of(below, part), level.parts(), below);
         ways = ways
             .saturating_add(inside_of(below, part))
@@ -218,7 +218,12 @@ fn inside_ways(level: &Level, below: &[Ways]) -> u64
 }
 
 // The ways that the couplings of one part join to those from its outputs.
-fn joined_ways(couplings: &[Coupling], outputs: &[u64], parts: &[PlacedPart], below: &[Ways]) -> u64
+fn joined_ways(
+    couplings: &[Coupling],
+    outputs: &[u64],
+    parts: &[ResolvedPart],
+    below: &[Ways],
+) -> u64
     ensures { result ≡ capped (sum_by (joined_ways (part_ways below.now parts.now) outputs.now)
         couplings.now) }
 {
@@ -266,10 +271,10 @@ fn ways_over(alloc: Global, tree: &Tree, below: &[Ways]) -> Result<Vec<Ways>, Al
     let scopes = tree.scopes();
     let levels = tree.levels();
     let mut over = Vec::with_capacity(alloc, scopes.len())?;
-    for (place, model) in tree.reached().iter().enumerate() {
+    for (index, model) in tree.reached().iter().enumerate() {
         let inputs = own_inputs(model);
-        let level = level_at(levels, place);
-        over.push(ways_by(alloc, inputs, &scopes[place], level, below)?)?;
+        let level = level_at(levels, index);
+        over.push(ways_by(alloc, inputs, &scopes[index], level, below)?)?;
     }
     Ok(over)
 }
@@ -281,8 +286,8 @@ fn are_same(left: &[Ways], right: &[Ways]) -> bool
     if left.len() != right.len() {
         return false;
     }
-    for (place, ways) in left.iter().enumerate() {
-        if !ways.is_same(&right[place]) {
+    for (index, ways) in left.iter().enumerate() {
+        if !ways.is_same(&right[index]) {
             return false;
         }
     }
@@ -323,14 +328,14 @@ pub fn count_links(alloc: Global, tree: &Tree) -> Result<u64, LoadError>
 {
     let below = ways_below(alloc, GREATEST_DEPTH, tree)?;
     let count = capped_count(alloc, tree, &below)?;
-    test_links(count, tree.root_place())?;
+    test_links(count, tree.root_offset())?;
     Ok(count)
 }
 
-// Whether a text may have so many links. The place is that of the root's name.
-fn test_links(count: u64, place: u32) -> Result<(), Refusal>
+// Whether a text may have so many links. The offset is that of the root's name.
+fn test_links(count: u64, offset: u32) -> Result<(), Refusal>
     ensures few { OnOk result (count ≤ greatest_links) }
-    ensures many { IfErr result (λ r. (r ≡ record { number = RefusalNumber.E17; place = place })
+    ensures many { IfErr result (λ r. (r ≡ record { number = RefusalNumber.E17; offset = offset })
         × (greatest_links < count)) }
 {
     if count <= GREATEST_LINKS {
@@ -338,7 +343,7 @@ fn test_links(count: u64, place: u32) -> Result<(), Refusal>
     } else {
         Err(Refusal {
             number: RefusalNumber::E17,
-            place,
+            offset,
         })
     }
 }

@@ -20,7 +20,7 @@ pub(crate) fn copies_of<From, To>(links: &[Link<From, To>]) -> u64
     copies
 }
 
-/// The links of sources by the arrivals of each, whose lists stand from a place on.
+/// The links of sources by the arrivals of each, whose lists stand from an index on.
 ///
 /// # Errors
 ///

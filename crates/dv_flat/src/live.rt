@@ -4,7 +4,7 @@
 use crate::limit::{Ways, outputs_of, ways_from};
 use crate::ports::is_set;
 use dv_check::GREATEST_DEPTH;
-use dv_tree::{Coupling, Level, PlacedPart, Target, Tree, level_at};
+use dv_tree::{Coupling, Level, ResolvedPart, Target, Tree, level_at};
 use std::alloc::{AllocError, Global};
 
 /// A flag for each output port of each component, in the order of the components' numbers: whether it leads on. The ways
@@ -47,8 +47,8 @@ fn add_live(
     if depth == 0 {
         return Ok(());
     }
-    for (place, part) in level.parts().iter().enumerate() {
-        let couplings = level.couplings_of_part(place);
+    for (index, part) in level.parts().iter().enumerate() {
+        let couplings = level.couplings_of_part(index);
         let flags = live_of_part(alloc, part, couplings, level.parts(), below, own)?;
         match level_at(levels, part.model) {
             Some(inside) => add_live(alloc, depth - 1, inside, levels, below, &flags, live)?,
@@ -61,9 +61,9 @@ fn add_live(
 // The flags of the outputs of a part: those that a coupling leads on from.
 fn live_of_part(
     alloc: Global,
-    part: &PlacedPart,
+    part: &ResolvedPart,
     couplings: &[Coupling],
-    parts: &[PlacedPart],
+    parts: &[ResolvedPart],
     below: &[Ways],
     own: &[bool],
 ) -> Result<Vec<bool>, AllocError> {
@@ -77,15 +77,15 @@ fn live_of_part(
 }
 
 // Whether a way leads on from the target of a coupling: inside the part, or from the model's own output.
-fn leads_on(target: Target, parts: &[PlacedPart], below: &[Ways], own: &[bool]) -> bool {
+fn leads_on(target: Target, parts: &[ResolvedPart], below: &[Ways], own: &[bool]) -> bool {
     match target {
         Target::Own { port } => is_set(own, port),
         Target::OfPart { .. } => ways_from(target, parts, below) > 0,
     }
 }
 
-fn set(flags: &mut [bool], place: usize) {
-    if place < flags.len() {
-        flags[place] = true;
+fn set(flags: &mut [bool], index: usize) {
+    if index < flags.len() {
+        flags[index] = true;
     }
 }

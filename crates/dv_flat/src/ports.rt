@@ -31,7 +31,7 @@ pub(crate) fn output_ports(alloc: Global, tree: &Tree) -> Result<Vec<ComponentPo
     Ok(ports)
 }
 
-/// The input ports of the root, by their places.
+/// The input ports of the root, by their indices.
 ///
 /// # Errors
 ///
@@ -47,7 +47,7 @@ pub(crate) fn root_inputs(alloc: Global, tree: &Tree) -> Result<Vec<u32>, AllocE
     Ok(ports)
 }
 
-/// Those of the ports at whose places a flag stands.
+/// Those of the ports at whose indices a flag stands.
 ///
 /// # Errors
 ///
@@ -60,25 +60,25 @@ pub(crate) fn chosen(
     ensures { IfOk result (λ chosen. chosen.items ≡ chosen_from 0 flags.now ports.now) }
 {
     let mut chosen = Vec::new(alloc);
-    for (place, port) in ports.iter().enumerate() {
-        if is_set(flags, place) {
+    for (index, port) in ports.iter().enumerate() {
+        if is_set(flags, index) {
             chosen.push(*port)?;
         }
     }
     Ok(chosen)
 }
 
-/// Whether a flag stands at a place. Past the last place there is none.
-pub(crate) fn is_set(flags: &[bool], place: usize) -> bool
-    ensures { result ≡ slice_index_or flags.now place false }
+/// Whether a flag stands at an index. Past the last index there is none.
+pub(crate) fn is_set(flags: &[bool], index: usize) -> bool
+    ensures { result ≡ slice_index_or flags.now index false }
 {
-    match flags.get(place) {
+    match flags.get(index) {
         Some(flag) => *flag,
         None => false,
     }
 }
 
-/// The number of ports of one component, by their names. Different names of 32 bits are few enough for places of 32
+/// The number of ports of one component, by their names. Different names of 32 bits are few enough for indices of 32
 /// bits.
 pub(crate) fn port_count(names: &[u32]) -> usize
     requires { IsDistinct nat_eq names.now }
@@ -88,7 +88,7 @@ pub(crate) fn port_count(names: &[u32]) -> usize
     names.len()
 }
 
-// The ports of one component, by their names. Different names of 32 bits are few enough for places of 32 bits.
+// The ports of one component, by their names. Different names of 32 bits are few enough for indices of 32 bits.
 fn add_ports(
     component: u32,
     names: &[u32],

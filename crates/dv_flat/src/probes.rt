@@ -37,7 +37,7 @@ pub(crate) fn route_probes(
     tree.route(alloc, &sent, &input)
 }
 
-// What the components send: at each source its probe, which is its place among the sources.
+// What the components send: at each source its probe, which is its index among the sources.
 fn sent_probes(
     alloc: Global,
     tree: &Tree,

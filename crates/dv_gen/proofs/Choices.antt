@@ -40,13 +40,13 @@ choice-If e block (For s inside more) rest some = refl
 module _ (scope : Scope) (loops : List ℕ) where
   statement-some : (s : Stmt) (rest : NamedStatements) → is_done (all_resolved scope loops (statement_before s rest)) ≡ false
   statement-some (stmt.Assign name e) rest = refl
-  statement-some (stmt.Command c place name) rest = refl
-  statement-some (stmt.Send place port e) rest = refl
-  statement-some (stmt.If' place e shape block) rest = refl
-  statement-some (stmt.IfElse' place e shape block other_shape other) rest =
+  statement-some (stmt.Command c offset name) rest = refl
+  statement-some (stmt.Send offset port e) rest = refl
+  statement-some (stmt.If' offset e shape block) rest = refl
+  statement-some (stmt.IfElse' offset e shape block other_shape other) rest =
       choice-some _ _ (all_resolved scope loops (row_statements other)) _
-  statement-some (stmt.For' place v b shape block) rest = refl
-  statement-some (stmt.Change c place e collection) rest = refl
+  statement-some (stmt.For' offset v b shape block) rest = refl
+  statement-some (stmt.Change c offset e collection) rest = refl
 
   -- an empty second block
   pub choice_of_none : (e : Expression) (block : Statements) (other : List Stmt) (rest : Statements) → length other ≡ 0
@@ -62,16 +62,16 @@ module _ (scope : Scope) (loops : List ℕ) where
   choice_of_some e block (s ∷ other) rest some = choice-If e block _ rest (statement-some s (statements_of other))
 
   -- a program with the code of a choice, whichever statements it comes to
-  pub with_statements-choice : (code : List Instruction) (s : Stmt) (rest : NamedStatements) (place : ℕ) (e : Expr) (block other : Block)
-      (first second : List Stmt) (chosen : Statements) → s ≡ stmt.IfElse place e block other
-      → statement_before (stmt.IfElse place e block other) rest
-      ≡ IfElse place (expression_of e) (block_of block) (block_of other) rest
+  pub with_statements-choice : (code : List Instruction) (s : Stmt) (rest : NamedStatements) (offset : ℕ) (e : Expr) (block other : Block)
+      (first second : List Stmt) (chosen : Statements) → s ≡ stmt.IfElse offset e block other
+      → statement_before (stmt.IfElse offset e block other) rest
+      ≡ IfElse offset (expression_of e) (block_of block) (block_of other) rest
       → first ≡ block.statements.items → second ≡ other.statements.items
       → choice (resolved scope loops (expression_of e)) (all_resolved scope loops (statements_of first))
       (all_resolved scope loops (statements_of second)) (all_resolved scope loops rest)
       ≡ chosen
       → with_statements code chosen ≡ with_statements code (all_resolved scope loops (statement_before s rest))
-  with_statements-choice code s rest place e block other first second chosen is law same_first same_second comes =
+  with_statements-choice code s rest offset e block other first second chosen is law same_first same_second comes =
       ap (with_statements code) (sym comes)
       ∙ ap (λ t. with_statements code (all_resolved scope loops t))
-      (sym (choice_tree s rest place e block other first second is law same_first same_second))
+      (sym (choice_tree s rest offset e block other first second is law same_first same_second))

@@ -99,7 +99,7 @@ pub length-with_statements : (code : List Instruction) (body : Statements)
 unfolding with_statements
 length-with_statements code body = omega (arith, length-append code (code_of_all (length code) body), length-code_of_all body (length code))
 
--- a program that grows keeps its places
+-- a program that grows keeps its addresses
 pub with_expression-longer : (code : List Instruction) (e : Expression) → length code ≤ length (with_expression code e)
 unfolding with_expression
 with_expression-longer code e = omega (arith, length-append code (code_of (length code) e))
@@ -160,17 +160,17 @@ with_expression-Infix code o a b =
     ∙ append_assoc (code ++ first) second (Combine o ∷ [])
     ∙ append_assoc code first (second ++ Combine o ∷ []))
 
--- the place of a jump stands in the program that grew past it
-pub jump_within : (operand opened over : List Instruction) (place : ℕ) (b : Expression) → place ≡ length operand
-    → (i : Instruction) → opened ≡ operand ++ i ∷ [] → over ≡ with_expression opened b → place < length over
-jump_within operand opened over place b at i begun second =
+-- the address of a jump stands in the program that grew past it
+pub jump_within : (operand opened over : List Instruction) (address : ℕ) (b : Expression) → address ≡ length operand
+    → (i : Instruction) → opened ≡ operand ++ i ∷ [] → over ≡ with_expression opened b → address < length over
+jump_within operand opened over address b at i begun second =
     omega (arith, at, ap length begun, one_more operand i, ap length second, with_expression-longer opened b)
 
-module _ (code operand opened over whole : List Instruction) (place aim unknown : ℕ) (a b : Expression)
-    (first : operand ≡ with_expression code a) (at : place ≡ length operand) where
+module _ (code operand opened over whole : List Instruction) (address aim unknown : ℕ) (a b : Expression)
+    (first : operand ≡ with_expression code a) (at : address ≡ length operand) where
   with_expression-jump : (jump : ℕ → Instruction) → opened ≡ operand ++ jump unknown ∷ [] → over ≡ with_expression opened b
       → aim ≡ length over
-      → whole ≡ slice_set over place (jump aim)
+      → whole ≡ slice_set over address (jump aim)
       → whole ≡ code ++ (code_of (length code) a ++ jump (past (past (length code) a + 1) b) ∷ code_of (past (length code) a + 1) b)
   unfolding with_expression
   with_expression-jump jump begun second to filled =
@@ -185,12 +185,12 @@ module _ (code operand opened over whole : List Instruction) (place aim unknown 
       ∙ append_assoc code (code_of (length code) a) (jump (past (past (length code) a + 1) b) ∷ code_of (past (length code) a + 1) b)
 
   pub with_expression-And : opened ≡ operand ++ FalseKeep unknown ∷ [] → over ≡ with_expression opened b → aim ≡ length over
-      → whole ≡ slice_set over place (FalseKeep aim) → whole ≡ with_expression code (And a b)
+      → whole ≡ slice_set over address (FalseKeep aim) → whole ≡ with_expression code (And a b)
   unfolding with_expression
   with_expression-And = with_expression-jump FalseKeep
 
   pub with_expression-Or : opened ≡ operand ++ TrueKeep unknown ∷ [] → over ≡ with_expression opened b → aim ≡ length over
-      → whole ≡ slice_set over place (TrueKeep aim) → whole ≡ with_expression code (Or a b)
+      → whole ≡ slice_set over address (TrueKeep aim) → whole ≡ with_expression code (Or a b)
   unfolding with_expression
   with_expression-Or = with_expression-jump TrueKeep
 
@@ -226,25 +226,25 @@ jump_over_block jump code i block =
     jump_over jump code i (λ c. with_statements c block) (λ p. code_of_all p block) (λ p. past_all p block) (λ c. refl)
     (λ c. length-with_statements c block)
 
--- a jump over a block, whose place was kept
-jump_kept : (jump : ℕ → Instruction) (code begun inside whole : List Instruction) (place aim unknown : ℕ) (block : Statements)
-    → place ≡ length code → begun ≡ code ++ jump unknown ∷ [] → inside ≡ with_statements begun block → aim ≡ length inside
-    → whole ≡ slice_set inside place (jump aim)
+-- a jump over a block, whose address was kept
+jump_kept : (jump : ℕ → Instruction) (code begun inside whole : List Instruction) (address aim unknown : ℕ) (block : Statements)
+    → address ≡ length code → begun ≡ code ++ jump unknown ∷ [] → inside ≡ with_statements begun block → aim ≡ length inside
+    → whole ≡ slice_set inside address (jump aim)
     → whole ≡ code ++ jump (past_all (length code + 1) block) ∷ code_of_all (length code + 1) block
-jump_kept jump code begun inside whole place aim unknown block at opened body to filled =
+jump_kept jump code begun inside whole address aim unknown block at opened body to filled =
     filled
     ∙ ap (λ p. slice_set inside p (jump aim)) at
     ∙ ap (λ p. slice_set inside (length code) (jump p)) to
     ∙ ap (λ xs. slice_set xs (length code) (jump (length xs))) (body ∙ ap (λ xs. with_statements xs block) opened)
     ∙ jump_over_block jump code (jump unknown) block
 
--- a jump over a block and one instruction more, whose place was kept
-jump_kept_past : (jump : ℕ → Instruction) (code begun inside ended whole : List Instruction) (place aim unknown : ℕ) (last : Instruction)
-    (block : Statements) → place ≡ length code → begun ≡ code ++ jump unknown ∷ [] → inside ≡ with_statements begun block
-    → ended ≡ inside ++ last ∷ [] → aim ≡ length ended → whole ≡ slice_set ended place (jump aim)
+-- a jump over a block and one instruction more, whose address was kept
+jump_kept_past : (jump : ℕ → Instruction) (code begun inside ended whole : List Instruction) (address aim unknown : ℕ) (last : Instruction)
+    (block : Statements) → address ≡ length code → begun ≡ code ++ jump unknown ∷ [] → inside ≡ with_statements begun block
+    → ended ≡ inside ++ last ∷ [] → aim ≡ length ended → whole ≡ slice_set ended address (jump aim)
     → whole ≡ code ++ jump (past_all (length code + 1) block + 1) ∷ (code_of_all (length code + 1) block ++ last ∷ [])
 unfolding with_statements
-jump_kept_past jump code begun inside ended whole place aim unknown last block at opened body more to filled =
+jump_kept_past jump code begun inside ended whole address aim unknown last block at opened body more to filled =
     let written = code_of_all (length code + 1) block in
     let end = past_all (length code + 1) block in
     let start : length begun ≡ length code + 1 = ap length opened ∙ one_more code (jump unknown) in
@@ -269,37 +269,37 @@ regrouped : {A : Type 0} (code test block rest : List A) (x : A)
     → ((code ++ test) ++ x ∷ block) ++ rest ≡ code ++ (test ++ x ∷ (block ++ rest))
 regrouped code test block rest x = simp append_assoc
 
--- the place of a jump stands in the program that grew past it by a block
-pub jump_within_block : (code begun inside : List Instruction) (place : ℕ) (block : Statements) → place ≡ length code
-    → (i : Instruction) → begun ≡ code ++ i ∷ [] → inside ≡ with_statements begun block → place < length inside
-jump_within_block code begun inside place block at i opened body =
+-- the address of a jump stands in the program that grew past it by a block
+pub jump_within_block : (code begun inside : List Instruction) (address : ℕ) (block : Statements) → address ≡ length code
+    → (i : Instruction) → begun ≡ code ++ i ∷ [] → inside ≡ with_statements begun block → address < length inside
+jump_within_block code begun inside address block at i opened body =
     omega (arith, at, ap length opened, one_more code i, ap length body, with_statements-longer begun block)
 
--- a place that stands in a program stands in it when it has grown
-pub still_within : (code inside : List Instruction) (place : ℕ) (block : Statements) → place < length code
+-- an address that stands in a program stands in it when it has grown
+pub still_within : (code inside : List Instruction) (address : ℕ) (block : Statements) → address < length code
     → inside ≡ with_statements code block
-    → place < length inside
-still_within code inside place block within body = omega (arith, within, ap length body, with_statements-longer code block)
+    → address < length inside
+still_within code inside address block within body = omega (arith, within, ap length body, with_statements-longer code block)
 
 -- and by one instruction more
-pub jump_within_more : (inside ended : List Instruction) (place : ℕ) (last : Instruction) → place < length inside
+pub jump_within_more : (inside ended : List Instruction) (address : ℕ) (last : Instruction) → address < length inside
     → ended ≡ inside ++ last ∷ []
-    → place < length ended
-jump_within_more inside ended place last within more = omega (arith, within, ap length more, one_more inside last)
+    → address < length ended
+jump_within_more inside ended address last within more = omega (arith, within, ap length more, one_more inside last)
 
-pub with_statements-When : (code tested begun inside whole : List Instruction) (place aim unknown : ℕ) (e : Expression) (block : Statements)
-    → tested ≡ with_expression code e → place ≡ length tested → begun ≡ tested ++ JumpFalse unknown ∷ []
-    → inside ≡ with_statements begun block → aim ≡ length inside → whole ≡ slice_set inside place (JumpFalse aim)
+pub with_statements-When : (code tested begun inside whole : List Instruction) (address aim unknown : ℕ) (e : Expression) (block : Statements)
+    → tested ≡ with_expression code e → address ≡ length tested → begun ≡ tested ++ JumpFalse unknown ∷ []
+    → inside ≡ with_statements begun block → aim ≡ length inside → whole ≡ slice_set inside address (JumpFalse aim)
     → (rest : Statements) → with_statements whole rest ≡ with_statements code (When e block rest)
 unfolding with_expression with_statements
-with_statements-When code tested begun inside whole place aim unknown e block test at opened body to filled rest =
+with_statements-When code tested begun inside whole address aim unknown e block test at opened body to filled rest =
     let start = past (length code) e in
     let written = code_of_all (start + 1) block in
     let after = past_all (start + 1) block in
     let head = code ++ code_of (length code) e in
     let until : length tested ≡ start = ap length test ∙ length-with_expression code e in
     let is : whole ≡ head ++ JumpFalse after ∷ written =
-    jump_kept JumpFalse tested begun inside whole place aim unknown block at opened body to filled
+    jump_kept JumpFalse tested begun inside whole address aim unknown block at opened body to filled
     ∙ ap (λ p. tested ++ JumpFalse (past_all (p + 1) block) ∷ code_of_all (p + 1) block) until
     ∙ ap (λ xs. xs ++ JumpFalse after ∷ written) test in
     let end : length (head ++ JumpFalse after ∷ written) ≡ after =
@@ -308,19 +308,19 @@ with_statements-When code tested begun inside whole place aim unknown e block te
     ∙ ap (λ p. (head ++ JumpFalse after ∷ written) ++ code_of_all p rest) end
     ∙ regrouped code (code_of (length code) e) written (code_of_all after rest) (JumpFalse after)
 
-pub with_statements-For : (code begun inside ended whole : List Instruction) (place first aim unknown : ℕ) (s : Source) (block : Statements)
-    → place ≡ length code → begun ≡ code ++ Loop s unknown ∷ [] → first ≡ length begun → inside ≡ with_statements begun block
-    → ended ≡ inside ++ Next first ∷ [] → aim ≡ length ended → whole ≡ slice_set ended place (Loop s aim)
+pub with_statements-For : (code begun inside ended whole : List Instruction) (address first aim unknown : ℕ) (s : Source) (block : Statements)
+    → address ≡ length code → begun ≡ code ++ Loop s unknown ∷ [] → first ≡ length begun → inside ≡ with_statements begun block
+    → ended ≡ inside ++ Next first ∷ [] → aim ≡ length ended → whole ≡ slice_set ended address (Loop s aim)
     → (rest : Statements) → with_statements whole rest ≡ with_statements code (For s block rest)
 unfolding with_statements
-with_statements-For code begun inside ended whole place first aim unknown s block at opened begins body more to filled rest =
+with_statements-For code begun inside ended whole address first aim unknown s block at opened begins body more to filled rest =
     let start = length code + 1 in
     let written = code_of_all start block in
     let next = past_all start block in
     let loop = Loop s (next + 1) in
     let open_at : first ≡ start = begins ∙ ap length opened ∙ one_more code (Loop s unknown) in
     let is : whole ≡ code ++ loop ∷ (written ++ Next start ∷ []) =
-    jump_kept_past (Loop s) code begun inside ended whole place aim unknown (Next first) block at opened body more to filled
+    jump_kept_past (Loop s) code begun inside ended whole address aim unknown (Next first) block at opened body more to filled
     ∙ ap (λ p. code ++ loop ∷ (written ++ Next p ∷ [])) open_at in
     let end : length (code ++ loop ∷ (written ++ Next start ∷ [])) ≡ next + 1 =
     omega (
@@ -399,8 +399,8 @@ with_statements-If code tested begun inside ended opened test jump aim unknown s
     condition at start body behind skip more to filled refl refl refl rest
 
 -- a jump behind a block stands in the program, also where an instruction before it is another one now
-pub jump_behind_within : (inside ended whole : List Instruction) (jump place : ℕ) (i j : Instruction) → jump ≡ length inside
-    → ended ≡ inside ++ i ∷ [] → whole ≡ slice_set ended place j → jump < length whole
-jump_behind_within inside ended whole jump place i j at more filled =
-    let size = ap length filled ∙ length-set ended place j in
+pub jump_behind_within : (inside ended whole : List Instruction) (jump address : ℕ) (i j : Instruction) → jump ≡ length inside
+    → ended ≡ inside ++ i ∷ [] → whole ≡ slice_set ended address j → jump < length whole
+jump_behind_within inside ended whole jump address i j at more filled =
+    let size = ap length filled ∙ length-set ended address j in
     omega (arith, at, size, ap length more, one_more inside i)

@@ -1,4 +1,4 @@
--- The effect of what is accepted is the same by places as by names, on a state that fits.
+-- The effect of what is accepted is the same by indices as by names, on a state that fits.
 use Rattle.std.proofs.Common.{◌≡◌, ℕ, ℤ, Bool, true, false, if◌then◌else◌, List, [], ◌∷◌, length, refl, sym, ap, ◌∙◌, Option}
 use Rattle.std.proofs.Common.{Some, None, Result, Ok, Err, IfOk, IfSome}
 use Rattle.std.specs.List.{All}
@@ -26,27 +26,27 @@ use Rattle.dv_bag.specs.declared.value.ValueType.TheVariants.{Number, Truth}
 use Rattle.dv_eval.specs.Meaning.{assignment, changing, collection_of_name, command_effect, effect_of, meaning, moment_in}
 use Rattle.dv_eval.specs.Meaning.{number_of, outermost, repetition, run, sending, value_within, truth_of as truth_in_text}
 use Rattle.dv_eval.specs.Meaning.{with_made as with_made_in_text}
-use Rattle.dv_eval.specs.Scope.{Scope, names_of, place_of, scope_of}
+use Rattle.dv_eval.specs.Scope.{Scope, names_of, index_of, scope_of}
 use Rattle.dv_eval.specs.declared.scope.Domain.TheVariants as domain
 use Rattle.dv_check.specs.declared.declarations.NameSort.{NameSort}
 use Rattle.dv_check.specs.declared.wanted.Wanted.TheVariants as want
 use Rattle.dv_check.specs.Rules.{atomic_refusals, changed_refusals, command_name_refusals, known_in, known_in_rule}
 use Rattle.dv_check.specs.Rules.{statements_refusals}
-use Rattle.dv_check.specs.Types.{Known, place_refusals, type_of_name, value_refusals}
+use Rattle.dv_check.specs.Types.{Known, offset_refusals, type_of_name, value_refusals}
 use Rattle.dv_check.proofs.CheckedFiles.{not_false, not_refused}
 use Rattle.dv_accepted.specs.Fitting.{context_within, fits, is_of_type, known_within}
 use Rattle.dv_accepted.proofs.Effects.{Fits, fits_kept, run_fits}
-use Rattle.dv_accepted.proofs.Fitting.{HasPlace}
+use Rattle.dv_accepted.proofs.Fitting.{HasIndex}
 use Rattle.dv_accepted.proofs.Keeping.{StatementsKeep, repetition_keeps, sending_keeps}
 use Rattle.dv_accepted.proofs.Outcomes.{if_ok_branch}
-use Rattle.dv_accepted.proofs.Typed.{place_typed}
+use Rattle.dv_accepted.proofs.Typed.{index_typed}
 use Rattle.dv_code.specs.Machine.{first_effect}
 use Rattle.dv_code.specs.Operations.{action_effect, deed_effect, with_made}
 use Rattle.dv_code.specs.Shape.{Shape}
 use Rattle.dv_code.specs.declared.instruction.Action.{Action}
 use Rattle.dv_code.specs.declared.instruction.Action.TheVariants as action
-use Rattle.dv_gen.specs.Resolution.{all_resolved, assignment_at, choice, deed_of, hold_tree, place_or_first, resolved, rule_shape}
-use Rattle.dv_gen.specs.Resolution.{rule_tree, slot_place}
+use Rattle.dv_gen.specs.Resolution.{all_resolved, assignment_at, choice, deed_of, hold_tree, index_or_first, resolved, rule_shape}
+use Rattle.dv_gen.specs.Resolution.{rule_tree, slot_index}
 use Rattle.dv_gen.specs.Resolved.{Act, Done, Expression, For, If, Obey, Statements, When, effect_from, for_each, or_same}
 use Rattle.dv_gen.specs.Resolved.{rule_effect, truth_of, value_of, values_in}
 use Rattle.dv_gen.proofs.Accepted.{accepted_assignment, accepted_change, accepted_command, accepted_if, accepted_if_else}
@@ -60,12 +60,12 @@ use Rattle.dv_gen.proofs.KnownNames.{changed_stands, flag_assignment, sent_port_
 
 -- ---- Actions and deeds
 
--- what is made of a collection is put at its place, or is the fault; where nothing is made, nothing changes
-made_agrees : (e : Effect) (place : ℕ) (made : Option (Result Collection Fault))
-    → or_same e (with_made e place made) ≡ with_made_in_text place e made
-made_agrees e place None = refl
-made_agrees e place (Some (Ok c)) = refl
-made_agrees e place (Some (Err f)) = refl
+-- what is made of a collection is put at its index, or is the fault; where nothing is made, nothing changes
+made_agrees : (e : Effect) (index : ℕ) (made : Option (Result Collection Fault))
+    → or_same e (with_made e index made) ≡ with_made_in_text index e made
+made_agrees e index None = refl
+made_agrees e index (Some (Ok c)) = refl
+made_agrees e index (Some (Err f)) = refl
 
 module _ (scope : Scope) (s : RuleSort) (e : Effect) (fit : Fits scope e) (q : ℕ) where
   abbrev done_by : Action → Value → Result Effect Fault
@@ -73,47 +73,47 @@ module _ (scope : Scope) (s : RuleSort) (e : Effect) (fit : Fits scope e) (q : �
 
   assignment_agrees : (loops : List ℕ) {o : Option NameSort} (t : ValueType) (v : Value) → Assigned scope loops q o
       → type_of_name o ≡ Some t → is_of_type t v ≡ true
-      → done_by (assignment_at scope (place_of q (names_of scope.variables))) v ≡ assignment scope q v e
+      → done_by (assignment_at scope (index_of q (names_of scope.variables))) v ≡ assignment scope q v e
   assignment_agrees loops t v (ToVariable stands) typed is =
       let same : Number ≡ t = cc in
       let target = variable_assignment scope loops q stands in
       let slot = slot_there scope q (domain.Number stands.range) stands.has in
-      let a = assignment_at scope (place_of q (names_of scope.variables)) in
+      let a = assignment_at scope (index_of q (names_of scope.variables)) in
       on_number (λ x. done_by a x) (λ x. assignment scope q x e) v (ap (λ u. is_of_type u v) same ∙ is)
       (λ n. rw (target, slot, stands.has.found, stands.has.there) refl)
   assignment_agrees loops t v (ToFlag stands) typed is =
       let same : Truth ≡ t = cc in
       let target = flag_assignment scope loops q stands in
       let slot = slot_there scope q (domain.Flag stands.start) stands.has in
-      let a = assignment_at scope (place_of q (names_of scope.variables)) in
+      let a = assignment_at scope (index_of q (names_of scope.variables)) in
       on_truth (λ x. done_by a x) (λ x. assignment scope q x e) v (ap (λ u. is_of_type u v) same ∙ is)
       (λ b. rw (target, slot, stands.has.found, stands.has.there) refl)
 
-  sending_agrees : (v : Value) → HasPlace q scope.outputs → is_of_type Number v ≡ true
-      → done_by (action.Send (place_or_first (place_of q scope.outputs))) v ≡ sending scope q v e
+  sending_agrees : (v : Value) → HasIndex q scope.outputs → is_of_type Number v ≡ true
+      → done_by (action.Send (index_or_first (index_of q scope.outputs))) v ≡ sending scope q v e
   sending_agrees v there is =
-      let within = lt-ltb there.place (length scope.outputs) there.within in
-      on_number (λ x. done_by (action.Send (place_or_first (place_of q scope.outputs))) x) (λ x. sending scope q x e) v is
+      let within = lt-ltb there.index (length scope.outputs) there.within in
+      on_number (λ x. done_by (action.Send (index_or_first (index_of q scope.outputs))) x) (λ x. sending scope q x e) v is
       (λ n. rw (there.found, within) refl)
 
   change_agrees : (c : Change) (v : Value) → StandsForHeld scope (discipline_of_change c) q → is_of_type Number v ≡ true
-      → done_by (action.Change c (slot_place scope q)) v ≡ changing scope c q (number_of v) e
+      → done_by (action.Change c (slot_index scope q)) v ≡ changing scope c q (number_of v) e
   change_agrees c v stands is =
       let d = discipline_of_change c in
       let slot = slot_there scope q (domain.Held d stands.capacity) stands.has in
       let held = held_there scope e.state fit.state q d stands in
-      on_number (λ x. done_by (action.Change c (slot_place scope q)) x) (λ x. changing scope c q (number_of x) e) v is
+      on_number (λ x. done_by (action.Change c (slot_index scope q)) x) (λ x. changing scope c q (number_of x) e) v is
       (λ n. rw (stands.has.found, slot, stands.has.there, held.1)
-      (made_agrees e stands.has.place (changed c stands.capacity n held.0)))
+      (made_agrees e stands.has.index (changed c stands.capacity n held.0)))
 
-  go_agrees : HasPlace q scope.phases → or_same e (deed_effect (deed_of scope command.Goto q) e) ≡ command_effect scope command.Goto q e
+  go_agrees : HasIndex q scope.phases → or_same e (deed_effect (deed_of scope command.Goto q) e) ≡ command_effect scope command.Goto q e
   go_agrees there = rw there.found refl
 
   pop_agrees : StandsForHeld scope discipline.Queue q
       → or_same e (deed_effect (deed_of scope command.Pop q) e) ≡ command_effect scope command.Pop q e
   pop_agrees stands =
       let held = held_there scope e.state fit.state q discipline.Queue stands in
-      rw (stands.has.found, held.1) (made_agrees e stands.has.place (popped held.0))
+      rw (stands.has.found, held.1) (made_agrees e stands.has.index (popped held.0))
 
 -- ---- What follows alike
 
@@ -150,8 +150,8 @@ module _ (m : AtomicTree) (none : atomic_refusals m ≡ []) (s : RuleSort) (arri
   abbrev known : List (Name × ℤ) → Known
   known bound = known_within bound (known_in_rule (Some s) (known_in m))
 
-  abbrev by_places : List (Name × ℤ) → NamedStatements → Effect → Result Effect Fault
-  by_places bound body =
+  abbrev by_indices : List (Name × ℤ) → NamedStatements → Effect → Result Effect Fault
+  by_indices bound body =
       effect_from (rule_shape (scope_of m) s) arrivals (items_within bound) (all_resolved (scope_of m) (loops_of bound) body)
 
   abbrev by_names : List (Name × ℤ) → NamedStatements → Effect → Result Effect Fault
@@ -169,10 +169,10 @@ module _ (m : AtomicTree) (none : atomic_refusals m ≡ []) (s : RuleSort) (arri
     stands q = (knows_within m none (Some s) bound).name q
 
     -- a collection of the state that may be changed
-    held_changed : (d : Discipline) (x : Name) → changed_refusals d ((known bound).sort x.number) x.place ≡ []
+    held_changed : (d : Discipline) (x : Name) → changed_refusals d ((known bound).sort x.number) x.offset ≡ []
         → StandsForHeld (scope_of m) d x.number
     held_changed d x accepted =
-        changed_stands (scope_of m) (loops_of bound) x.number d ((known bound).sort x.number) x.place (stands x.number) accepted
+        changed_stands (scope_of m) (loops_of bound) x.number d ((known bound).sort x.number) x.offset (stands x.number) accepted
 
     -- a command does what its deed does
     deed_agrees : (c : Command) (name : Name) → command_name_refusals (known bound) c name ≡ []
@@ -189,12 +189,12 @@ module _ (m : AtomicTree) (none : atomic_refusals m ≡ []) (s : RuleSort) (arri
 
     -- the same value, something that is done alike with each value of its type, and what follows
     value_follows : (t : ValueType) (x : NamedExpression) (f g : Value → Result Effect Fault) (go on : Effect → Result Effect Fault)
-        → place_refusals t (known bound) x ≡ [] → ((v : Value) → is_of_type t v ≡ true → f v ≡ g v)
+        → offset_refusals t (known bound) x ≡ [] → ((v : Value) → is_of_type t v ≡ true → f v ≡ g v)
         → ((v : Value) → IfOk (g v) (Fits (scope_of m))) → ((next : Effect) → Fits (scope_of m) next → go next ≡ on next)
         → (value_of arrivals (items_within bound) e.state (resolved (scope_of m) (loops_of bound) x) >>= λ v. f v >>= go)
         ≡ (value_by_names x >>= λ v. g v >>= on)
     value_follows t x f g go on accepted step fits later =
-        let typed = place_typed (known bound) t x accepted in
+        let typed = index_typed (known bound) t x accepted in
         ap (λ r. r >>= λ v. f v >>= go) (value_agrees m none (Some s) arrivals bound e.state fit.state x t typed)
         ∙ bind_agrees (value_by_names x) _ _ (λ v is.
         ap (λ r. r >>= go) (step v (gives_type m none (Some s) arrivals bound e.state fit.state x t typed v is))
@@ -202,7 +202,7 @@ module _ (m : AtomicTree) (none : atomic_refusals m ≡ []) (s : RuleSort) (arri
 
     -- a condition, and a block for each of its two values
     choice_follows : (x : NamedExpression) (one two first second : Result Effect Fault) (go on : Effect → Result Effect Fault)
-        → place_refusals Truth (known bound) x ≡ [] → one ≡ first → two ≡ second
+        → offset_refusals Truth (known bound) x ≡ [] → one ≡ first → two ≡ second
         → IfOk first (Fits (scope_of m)) → IfOk second (Fits (scope_of m))
         → ((next : Effect) → Fits (scope_of m) next → go next ≡ on next)
         → (value_of arrivals (items_within bound) e.state (resolved (scope_of m) (loops_of bound) x)
@@ -215,69 +215,69 @@ module _ (m : AtomicTree) (none : atomic_refusals m ≡ []) (s : RuleSort) (arri
         (λ v. if_ok_branch (truth_in_text v) first second (Fits (scope_of m)) fits fits_other) later
 
   effects_agree : (bound : List (Name × ℤ)) (body : NamedStatements) → statements_refusals (known bound) body ≡ [] → (e : Effect)
-      → Fits (scope_of m) e → by_places bound body e ≡ by_names bound body e
+      → Fits (scope_of m) e → by_indices bound body e ≡ by_names bound body e
   effects_agree bound Ended accepted e fit = refl
   effects_agree bound (Assign n x rest) accepted e fit =
       let k = known bound in
       let parts = accepted_assignment k n x rest accepted in
       let stands_for = stands bound e fit n.number in
-      let target = assigned_stands (scope_of m) (loops_of bound) n.number k.rule (k.sort n.number) n.place stands_for parts.target in
+      let target = assigned_stands (scope_of m) (loops_of bound) n.number k.rule (k.sort n.number) n.offset stands_for parts.target in
       let type = assigned_type (scope_of m) (loops_of bound) n.number target.0 in
       let value = ap (λ o. value_refusals o k x) (sym type.1) ∙ parts.value in
-      value_follows bound e fit type.0 x _ (λ v. assignment (scope_of m) n.number v e) (by_places bound rest) (by_names bound rest) value
+      value_follows bound e fit type.0 x _ (λ v. assignment (scope_of m) n.number v e) (by_indices bound rest) (by_names bound rest) value
       (λ v is. assignment_agrees (scope_of m) s e fit n.number (loops_of bound) type.0 v target.0 type.1 is)
       (λ v. kept.assigned n.number v e fit) (effects_agree bound rest parts.rest)
-  effects_agree bound (Does c place name rest) accepted e fit =
-      let parts = accepted_command (known bound) c place name rest accepted in
+  effects_agree bound (Does c offset name rest) accepted e fit =
+      let parts = accepted_command (known bound) c offset name rest accepted in
       let same = deed_agrees bound e fit c name parts.target in
       let done = command_effect (scope_of m) c name.number e in
-      ap (λ r. r >>= by_places bound rest) same
-      ∙ bind_agrees done (by_places bound rest) (by_names bound rest) (λ next is.
+      ap (λ r. r >>= by_indices bound rest) same
+      ∙ bind_agrees done (by_indices bound rest) (by_names bound rest) (λ next is.
       effects_agree bound rest parts.rest next (IfOk-at_ok (Fits (scope_of m)) is (command_fits bound e fit c name)))
-  effects_agree bound (Send place port x rest) accepted e fit =
+  effects_agree bound (Send offset port x rest) accepted e fit =
       let k = known bound in
-      let parts = accepted_send k place port x rest accepted in
+      let parts = accepted_send k offset port x rest accepted in
       let stands_for = stands bound e fit port.number in
-      let there = sent_port_stands (scope_of m) (loops_of bound) port.number (k.sort port.number) port.place stands_for parts.target in
-      value_follows bound e fit Number x _ (λ v. sending (scope_of m) port.number v e) (by_places bound rest) (by_names bound rest)
+      let there = sent_port_stands (scope_of m) (loops_of bound) port.number (k.sort port.number) port.offset stands_for parts.target in
+      value_follows bound e fit Number x _ (λ v. sending (scope_of m) port.number v e) (by_indices bound rest) (by_names bound rest)
       parts.value (λ v is. sending_agrees (scope_of m) s e fit port.number v there is)
       (λ v. sending_keeps (scope_of m) (λ phase. Unit {0}) (Fits (scope_of m)) kept port.number v e fit)
       (effects_agree bound rest parts.rest)
-  effects_agree bound (IfOnly place x block rest) accepted e fit =
-      let parts = accepted_if (known bound) place x block rest accepted in
+  effects_agree bound (IfOnly offset x block rest) accepted e fit =
+      let parts = accepted_if (known bound) offset x block rest accepted in
       let context = context_within arrivals bound in
-      choice_follows bound e fit x (by_places bound block e) (Ok e) (by_names bound block e) (Ok e)
-      (by_places bound rest) (by_names bound rest) parts.condition (effects_agree bound block parts.first e fit) refl
+      choice_follows bound e fit x (by_indices bound block e) (Ok e) (by_names bound block e) (Ok e)
+      (by_indices bound rest) (by_names bound rest) parts.condition (effects_agree bound block parts.first e fit) refl
       (run_fits (scope_of m) context block e fit) fit (effects_agree bound rest parts.rest)
-  effects_agree bound (IfElse place x block other rest) accepted e fit =
-      let parts = accepted_if_else (known bound) place x block other rest accepted in
+  effects_agree bound (IfElse offset x block other rest) accepted e fit =
+      let parts = accepted_if_else (known bound) offset x block other rest accepted in
       let context = context_within arrivals bound in
       choice_effect (rule_shape (scope_of m) s) arrivals (items_within bound) (resolved (scope_of m) (loops_of bound) x)
       (all_resolved (scope_of m) (loops_of bound) block) (all_resolved (scope_of m) (loops_of bound) other)
       (all_resolved (scope_of m) (loops_of bound) rest) e
-      ∙ choice_follows bound e fit x (by_places bound block e) (by_places bound other e) (by_names bound block e) (by_names bound other e)
-      (by_places bound rest) (by_names bound rest) parts.condition (effects_agree bound block parts.first e fit)
+      ∙ choice_follows bound e fit x (by_indices bound block e) (by_indices bound other e) (by_names bound block e) (by_names bound other e)
+      (by_indices bound rest) (by_names bound rest) parts.condition (effects_agree bound block parts.first e fit)
       (effects_agree bound other parts.second e fit)
       (run_fits (scope_of m) context block e fit) (run_fits (scope_of m) context other e fit) (effects_agree bound rest parts.rest)
-  effects_agree bound (Each place v b block rest) accepted e fit =
-      let parts = accepted_loop (known bound) place v b block rest accepted in
+  effects_agree bound (Each offset v b block rest) accepted e fit =
+      let parts = accepted_loop (known bound) offset v b block rest accepted in
       let held = collection_agrees m none (Some s) arrivals bound e.state fit.state want.Values b.number parts.readable in
       let values = values_held (collection_of_name (scope_of m) (moment_in (context_within arrivals bound) e.state) b.number) in
-      let step = λ (n : ℤ). by_places ((v, n) ∷ bound) block in
+      let step = λ (n : ℤ). by_indices ((v, n) ∷ bound) block in
       let named = λ (n : ℤ). by_names ((v, n) ∷ bound) block in
       let keeps = λ (n : ℤ) (now : Effect). run_fits (scope_of m) (context_within arrivals ((v, n) ∷ bound)) block now in
       let same = walk_agrees (scope_of m) step named values e (λ n now. effects_agree ((v, n) ∷ bound) block parts.inside now) keeps fit in
-      ap (λ o. for_each step (values_in o) e >>= by_places bound rest) held.0
-      ∙ (ap (λ r. r >>= by_places bound rest) same
-      ∙ bind_agrees (repetition named values e) (by_places bound rest) (by_names bound rest) (λ next is.
+      ap (λ o. for_each step (values_in o) e >>= by_indices bound rest) held.0
+      ∙ (ap (λ r. r >>= by_indices bound rest) same
+      ∙ bind_agrees (repetition named values e) (by_indices bound rest) (by_names bound rest) (λ next is.
       effects_agree bound rest parts.rest next
       (IfOk-at_ok (Fits (scope_of m)) is (repetition_keeps (Fits (scope_of m)) named values e keeps fit))))
-  effects_agree bound (Changes c place x collection rest) accepted e fit =
+  effects_agree bound (Changes c offset x collection rest) accepted e fit =
       let q = collection.number in
-      let parts = accepted_change (known bound) c place x collection rest accepted in
+      let parts = accepted_change (known bound) c offset x collection rest accepted in
       let target = held_changed bound e fit (discipline_of_change c) collection parts.target in
       value_follows bound e fit Number x _ (λ v. changing (scope_of m) c q (number_of v) e)
-      (by_places bound rest) (by_names bound rest) parts.value (λ v is. change_agrees (scope_of m) s e fit q c v target is)
+      (by_indices bound rest) (by_names bound rest) parts.value (λ v is. change_agrees (scope_of m) s e fit q c v target is)
       (λ v. kept.changes c q (number_of v) e fit) (effects_agree bound rest parts.rest)
 
 -- ---- Rules and holds
@@ -298,4 +298,4 @@ module _ (m : AtomicTree) (none : atomic_refusals m ≡ []) where
 
   pub holds_agree : All (λ (h : HoldTree). IfSome h.ticks TicksAgree) m.holds
   holds_agree = each_hold m none TicksAgree (λ e accepted s fit.
-      value_agrees m none None nothing_arrived [] s fit e Number (place_typed (known_in m) Number e accepted))
+      value_agrees m none None nothing_arrived [] s fit e Number (index_typed (known_in m) Number e accepted))

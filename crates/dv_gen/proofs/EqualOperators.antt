@@ -1,4 +1,4 @@
--- Operators give the same by places as by names, of operands of their types.
+-- Operators give the same by indices as by names, of operands of their types.
 use Rattle.std.proofs.Common.{◌≡◌, ℤ, Bool, true, false, if◌then◌else◌, List, [], ◌∷◌, refl, ap, ◌∙◌, Option, Some, Result, Ok}
 use Rattle.std.proofs.Common.{Err}
 use Rattle.dv_syntax.specs.declared.tree.BagCall.{BagCall}
@@ -88,11 +88,11 @@ different_truths true false = refl
 different_truths false true = refl
 different_truths false false = refl
 
--- the operands by places and by names
+-- the operands by indices and by names
 module _ (arrivals : Arrivals) (items : List ℤ) (s : State) (a b : Expression) (left right : Result Value Fault)
     (is_left : value_of arrivals items s a ≡ left) (is_right : value_of arrivals items s b ≡ right) where
-  abbrev placed : Expression → Result Value Fault
-  placed e = value_of arrivals items s e
+  abbrev indexed : Expression → Result Value Fault
+  indexed e = value_of arrivals items s e
 
   -- where both are of a type, it is enough that the operation and the operator agree on the values of that type
   values_agree : {V : Type 0} (t : ValueType) (value_with : V → Value)
@@ -101,33 +101,33 @@ module _ (arrivals : Arrivals) (items : List ℤ) (s : State) (a b : Expression)
       → (operation : Operation) (o : Operator) → GivesType t left → GivesType t right
       → ((c d : V)
       → or_zero (binary_value operation (value_with c) (value_with d)) ≡ operator_result o (value_with c) (value_with d))
-      → placed (Infix operation a b) ≡ (left >>= λ x. right >>= λ y. operator_result o x y)
+      → indexed (Infix operation a b) ≡ (left >>= λ x. right >>= λ y. operator_result o x y)
   values_agree t value_with on_type operation o left_typed right_typed same =
-      let by_places = λ (x y : Value). or_zero (binary_value operation x y) in
+      let by_indices = λ (x y : Value). or_zero (binary_value operation x y) in
       rw (is_left, is_right) (bind_agrees left _ _ (λ x is_x.
       bind_agrees right _ _ (λ y is_y.
-      on_type (λ v. by_places v y) (λ v. operator_result o v y) x (left_typed x is_x) (λ c.
-      on_type (by_places (value_with c)) (operator_result o (value_with c)) y (right_typed y is_y) (same c)))))
+      on_type (λ v. by_indices v y) (λ v. operator_result o v y) x (left_typed x is_x) (λ c.
+      on_type (by_indices (value_with c)) (operator_result o (value_with c)) y (right_typed y is_y) (same c)))))
 
   numbers_agree : (operation : Operation) (o : Operator) → GivesType Number left → GivesType Number right
       → ((n k : ℤ) → or_zero (of_numbers operation n k) ≡ operator_result o (value.Number n) (value.Number k))
-      → placed (Infix operation a b) ≡ (left >>= λ x. right >>= λ y. operator_result o x y)
+      → indexed (Infix operation a b) ≡ (left >>= λ x. right >>= λ y. operator_result o x y)
   numbers_agree operation o left_typed right_typed same =
       values_agree Number value.Number on_number operation o left_typed right_typed same
 
   truths_agree : (operation : Operation) (o : Operator) → GivesType Truth left → GivesType Truth right
       → ((c d : Bool) → or_zero (of_truths operation c d) ≡ operator_result o (value.Truth c) (value.Truth d))
-      → placed (Infix operation a b) ≡ (left >>= λ x. right >>= λ y. operator_result o x y)
+      → indexed (Infix operation a b) ≡ (left >>= λ x. right >>= λ y. operator_result o x y)
   truths_agree operation o left_typed right_typed same =
       values_agree Truth value.Truth on_truth operation o left_typed right_typed same
 
   equal_agrees : (u : ValueType) → GivesType u left → GivesType u right
-      → placed (Infix (equal_of u) a b) ≡ (left >>= λ x. right >>= λ y. operator_result operator.Equal x y)
+      → indexed (Infix (equal_of u) a b) ≡ (left >>= λ x. right >>= λ y. operator_result operator.Equal x y)
   equal_agrees Number left_typed right_typed = numbers_agree binary.Equal operator.Equal left_typed right_typed (λ n k. refl)
   equal_agrees Truth left_typed right_typed = truths_agree binary.Same operator.Equal left_typed right_typed same_truths
 
   unequal_agrees : (u : ValueType) → GivesType u left → GivesType u right
-      → placed (Infix (unequal_of u) a b) ≡ (left >>= λ x. right >>= λ y. operator_result operator.Unequal x y)
+      → indexed (Infix (unequal_of u) a b) ≡ (left >>= λ x. right >>= λ y. operator_result operator.Unequal x y)
   unequal_agrees Number left_typed right_typed =
       numbers_agree binary.Unequal operator.Unequal left_typed right_typed (λ n k. refl)
   unequal_agrees Truth left_typed right_typed =
@@ -138,13 +138,13 @@ module _ (arrivals : Arrivals) (items : List ℤ) (s : State) (a b : Expression)
       (two : (u : ValueType) → q ≡ Some u → GivesType u right) (is : (u : ValueType) → p ≡ Some u → type_of a ≡ u) where
     of_numbers_agree : (operation : Operation) (o : Operator) (given : ValueType) → type_if (both_of Number p q) given ≡ Some t
         → ((n k : ℤ) → or_zero (of_numbers operation n k) ≡ operator_result o (value.Number n) (value.Number k))
-        → placed (Infix operation a b) ≡ (left >>= λ x. right >>= λ y. operator_result o x y)
+        → indexed (Infix operation a b) ≡ (left >>= λ x. right >>= λ y. operator_result o x y)
     of_numbers_agree operation o given typed same =
         let wanted = both_wanted Number given t p q typed in
         numbers_agree operation o (one Number wanted.0) (two Number wanted.1) same
 
     pub operator_agrees : (o : Operator) → type_of_operator o p q ≡ Some t
-        → placed (infix_of o a b) ≡ (left >>= λ x. decided_or o x right)
+        → indexed (infix_of o a b) ≡ (left >>= λ x. decided_or o x right)
     operator_agrees operator.Or typed =
         let wanted = both_wanted Truth Truth t p q typed in
         rw (is_left, is_right) (bind_agrees left _ _ (λ x is_x.
@@ -162,11 +162,11 @@ module _ (arrivals : Arrivals) (items : List ℤ) (s : State) (a b : Expression)
     operator_agrees operator.Remainder typed = of_numbers_agree binary.Remainder operator.Remainder Number typed (λ n k. refl)
     operator_agrees operator.Equal typed =
         let wanted = alike_wanted t p q typed in
-        ap (λ u. placed (Infix (equal_of u) a b)) (is wanted.0 wanted.1)
+        ap (λ u. indexed (Infix (equal_of u) a b)) (is wanted.0 wanted.1)
         ∙ equal_agrees wanted.0 (one wanted.0 wanted.1) (two wanted.0 wanted.2)
     operator_agrees operator.Unequal typed =
         let wanted = alike_wanted t p q typed in
-        ap (λ u. placed (Infix (unequal_of u) a b)) (is wanted.0 wanted.1)
+        ap (λ u. indexed (Infix (unequal_of u) a b)) (is wanted.0 wanted.1)
         ∙ unequal_agrees wanted.0 (one wanted.0 wanted.1) (two wanted.0 wanted.2)
     operator_agrees operator.Less typed = of_numbers_agree binary.Less operator.Less Truth typed (λ n k. refl)
     operator_agrees operator.AtMost typed = of_numbers_agree binary.AtMost operator.AtMost Truth typed (λ n k. refl)
@@ -196,6 +196,6 @@ call_agrees call.Most arrivals items s source held is suited =
     let bag = bag_read (collection_of arrivals s source) held is suited in
     rw bag refl
 call_agrees call.Front arrivals items s source (collection.Bag b) is suited = absurd (cc)
-call_agrees call.Front arrivals items s (Own d place) (collection.Queue []) is suited = rw is refl
-call_agrees call.Front arrivals items s (Own d place) (collection.Queue (n ∷ q)) is suited = rw is refl
+call_agrees call.Front arrivals items s (Own d index) (collection.Queue []) is suited = rw is refl
+call_agrees call.Front arrivals items s (Own d index) (collection.Queue (n ∷ q)) is suited = rw is refl
 call_agrees call.Front arrivals items s (Port port) (collection.Queue q) is suited = absurd (cc)

@@ -1,4 +1,4 @@
--- The value of what is accepted is the same by places as by names, in a state that fits.
+-- The value of what is accepted is the same by indices as by names, in a state that fits.
 use Rattle.std.proofs.Common.{◌≡◌, ℕ, ℤ, pos, true, ◌&&◌, List, [], refl, ap, ◌∙◌, Option, Some, None, Result, Ok}
 use Rattle.std.proofs.lemmas.Result.{IfOk-at_ok}
 use Rattle.dv_syntax.specs.Trees.{AtomicTree, Expression as NamedExpression, Literal, TruthValue, Named, Parens, Prefixed, Binary}
@@ -67,9 +67,9 @@ module _ (scope : Scope) (arrivals : Arrivals) (bound : List (Name × ℤ)) (s :
   name_agrees q (Some ForLoopVariable) t stands typed =
       let leaf = item_leaf scope (loops_of bound) q stands in
       let item = is_item bound q stands.loop stands.found in
-      rw (leaf, item.by_name, item.by_place) refl
+      rw (leaf, item.by_name, item.by_index) refl
 
-  -- a collection is the same by its place, and suits where this is wanted
+  -- a collection is the same by its index, and suits where this is wanted
   abbrev pub CollectionAgrees : Wanted → ℕ → Type 0
   CollectionAgrees w q =
       (collection_of arrivals s (source_of scope q) ≡ Some (collection_of_name scope moment q))
@@ -82,7 +82,7 @@ module _ (scope : Scope) (arrivals : Arrivals) (bound : List (Name × ℤ)) (s :
       rw (source, stands.has.found, held.1) (refl, ap (suits w) held.2 ∙ suited)
   source_agrees w rule q (InputPort stands suited seen) =
       let source = port_source scope q stands in
-      rw (source, stands.placeless, stands.port.found) (refl, suited)
+      rw (source, stands.indexless, stands.port.found) (refl, suited)
 
 -- ---- Expressions
 
@@ -94,8 +94,8 @@ module _ (m : AtomicTree) (none : atomic_refusals m ≡ []) (rule : Option RuleS
   abbrev by_names : NamedExpression → Result Value Fault
   by_names e = meaning (scope_of m) (moment_in (context_within arrivals bound) s) e
 
-  abbrev by_places : NamedExpression → Result Value Fault
-  by_places e = value_of arrivals (items_within bound) s (resolved (scope_of m) (loops_of bound) e)
+  abbrev by_indices : NamedExpression → Result Value Fault
+  by_indices e = value_of arrivals (items_within bound) s (resolved (scope_of m) (loops_of bound) e)
 
   pub gives_type : (e : NamedExpression) (t : ValueType) → type_in_text known e ≡ Some t → GivesType t (by_names e)
   gives_type e t typed v is = IfOk-at_ok (OfType t) is (value_typed m rule arrivals bound s fit e t typed)
@@ -106,21 +106,21 @@ module _ (m : AtomicTree) (none : atomic_refusals m ≡ []) (rule : Option RuleS
       source_agrees (scope_of m) arrivals bound s fit w rule q
       (known_readable (scope_of m) rule (loops_of bound) known (knows_within m none rule bound) w q is)
 
-  pub value_agrees : (e : NamedExpression) (t : ValueType) → type_in_text known e ≡ Some t → by_places e ≡ by_names e
+  pub value_agrees : (e : NamedExpression) (t : ValueType) → type_in_text known e ≡ Some t → by_indices e ≡ by_names e
   value_agrees (Literal n) t typed = refl
-  value_agrees (TruthValue place b) t typed = refl
+  value_agrees (TruthValue offset b) t typed = refl
   value_agrees (Named name) t typed =
       let knows = knows_within m none rule bound in
       name_agrees (scope_of m) arrivals bound s fit name.number (known.sort name.number) t (knows.name name.number) typed
-  value_agrees (Parens place e) t typed = value_agrees e t typed
-  value_agrees (Prefixed prefix.Minus place e) t typed =
+  value_agrees (Parens offset e) t typed = value_agrees e t typed
+  value_agrees (Prefixed prefix.Minus offset e) t typed =
       let is = type_given (is_of Number (type_in_text known e)) Number t typed in
       let operand = type_wanted Number (type_in_text known e) is.0 in
       ap (λ r. r >>= λ v. or_zero (unary_value arrivals s unary.Negate v)) (value_agrees e Number operand)
       ∙ bind_agrees (by_names e) _ _ (λ v is_v.
       on_number (λ x. or_zero (unary_value arrivals s unary.Negate x)) (λ x. prefix_result prefix.Minus x) v
       (gives_type e Number operand v is_v) (λ n. refl))
-  value_agrees (Prefixed prefix.Not place e) t typed =
+  value_agrees (Prefixed prefix.Not offset e) t typed =
       let is = type_given (is_of Truth (type_in_text known e)) Truth t typed in
       let operand = type_wanted Truth (type_in_text known e) is.0 in
       ap (λ r. r >>= λ v. or_zero (unary_value arrivals s unary.Not v)) (value_agrees e Truth operand)
@@ -136,12 +136,12 @@ module _ (m : AtomicTree) (none : atomic_refusals m ≡ []) (rule : Option RuleS
       (by_names a) (by_names b) (value_agrees a operands.left operands.left_is) (value_agrees b operands.right operands.right_is)
       left right t (gives_type a) (gives_type b) (λ u is. (expression_typed (scope_of m) rule (loops_of bound) known knows a u is).0)
       o typed
-  value_agrees (Call c place b) t typed =
+  value_agrees (Call c offset b) t typed =
       let is = type_given (is_readable (wanted_by c) known.rule (known.sort b.number)) Number t typed in
       let same = collection_agrees (wanted_by c) b.number is.0 in
       call_agrees c arrivals (items_within bound) s (source_of (scope_of m) b.number) _ same.0 same.1
-  value_agrees (Elapsed place) t typed = refl
-  value_agrees (Times place e b) t typed =
+  value_agrees (Elapsed offset) t typed = refl
+  value_agrees (Times offset e b) t typed =
       let number = is_of Number (type_in_text known e) in
       let readable = is_readable want.Bag known.rule (known.sort b.number) in
       let is = type_given (number && readable) Number t typed in

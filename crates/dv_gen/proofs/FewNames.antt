@@ -1,4 +1,4 @@
--- The names of an accepted model: there are few of each kind, so that a place is small.
+-- The names of an accepted model: there are few of each kind, so that an index is small.
 use Rattle.std.proofs.Common.{◌≡◌, ℕ, zero, suc, ◌+◌, ◌^◌, ◌<◌, ◌≤◌, Bool, true, false, if◌then◌else◌, List, [], ◌∷◌, ◌++◌}
 use Rattle.std.proofs.Common.{length, slice_get, map, Option, Some, None, refl, sym, ◌∙◌, arith}
 use Rattle.std.specs.Prelude.{IfSome}
@@ -10,7 +10,7 @@ use Rattle.dv_syntax.specs.declared.tree.Declaration.{Declaration}
 use Rattle.dv_syntax.specs.declared.tree.Declaration.TheVariants.{In, Out, Var, Flag, Held}
 use Rattle.dv_syntax.specs.declared.tree.RuleSort.TheVariants as rule
 use Rattle.dv_eval.specs.declared.scope.Domain.{Domain}
-use Rattle.dv_eval.specs.Scope.{Scope, inputs_in, is_declared, names_of, outputs_in, phases_in, place_from, place_of, scope_of}
+use Rattle.dv_eval.specs.Scope.{Scope, inputs_in, is_declared, names_of, outputs_in, phases_in, index_from, index_of, scope_of}
 use Rattle.dv_eval.specs.Scope.{state_variables_in, with_name, with_names, with_variable, with_variables}
 use Rattle.dv_check.specs.Limits.{greatest_names}
 use Rattle.dv_check.specs.Names.{excess, excess_of, excess_past, repeats}
@@ -18,39 +18,39 @@ use Rattle.dv_check.specs.Rules.{atomic_refusals, name_of_declaration, name_of_s
 use Rattle.dv_check.proofs.CheckedFiles.{both_nil}
 use Rattle.dv_gen.specs.Emission.{HasFewNames}
 
--- ---- Places
+-- ---- Indices
 
-place_if : (b : Bool) (k : ℕ) (rest : Option ℕ) (end place : ℕ) → k < end → (rest ≡ Some place → place < end)
-    → (if b then Some k else rest) ≡ Some place
-    → place < end
-place_if true k rest end place within later e = let same : k ≡ place = cc in omega arith
-place_if false k rest end place within later e = later e
+index_if : (b : Bool) (k : ℕ) (rest : Option ℕ) (end index : ℕ) → k < end → (rest ≡ Some index → index < end)
+    → (if b then Some k else rest) ≡ Some index
+    → index < end
+index_if true k rest end index within later e = let same : k ≡ index = cc in omega arith
+index_if false k rest end index within later e = later e
 
-place_from-within : (k name : ℕ) (names : List ℕ) (place : ℕ) → place_from k name names ≡ Some place → place < k + length names
-place_from-within k name [] place e = absurd (cc)
-place_from-within k name (n ∷ names) place e =
-    let later : place_from (k + 1) name names ≡ Some place → place < k + length (n ∷ names) =
-    λ h. let within = place_from-within (k + 1) name names place h in omega arith in
-    place_if _ k (place_from (k + 1) name names) (k + length (n ∷ names)) place (omega arith) later e
+index_from-within : (k name : ℕ) (names : List ℕ) (index : ℕ) → index_from k name names ≡ Some index → index < k + length names
+index_from-within k name [] index e = absurd (cc)
+index_from-within k name (n ∷ names) index e =
+    let later : index_from (k + 1) name names ≡ Some index → index < k + length (n ∷ names) =
+    λ h. let within = index_from-within (k + 1) name names index h in omega arith in
+    index_if _ k (index_from (k + 1) name names) (k + length (n ∷ names)) index (omega arith) later e
 
-pub place_of-within : (name : ℕ) (names : List ℕ) (place : ℕ) → place_of name names ≡ Some place → place < length names
-place_of-within name names place e = let within = place_from-within 0 name names place e in omega arith
+pub index_of-within : (name : ℕ) (names : List ℕ) (index : ℕ) → index_of name names ≡ Some index → index < length names
+index_of-within name names index e = let within = index_from-within 0 name names index e in omega arith
 
--- a place among few names has 16 bits
-small_if : (found : Option ℕ) (n : ℕ) → ((place : ℕ) → found ≡ Some place → place < n) → n ≤ greatest_names
-    → IfSome found (λ place. place < 2 ^ 16)
+-- an index among few names has 16 bits
+small_if : (found : Option ℕ) (n : ℕ) → ((index : ℕ) → found ≡ Some index → index < n) → n ≤ greatest_names
+    → IfSome found (λ index. index < 2 ^ 16)
 small_if None n within few = tt
-small_if (Some place) n within few = let h = within place refl in omega arith
+small_if (Some index) n within few = let h = within index refl in omega arith
 
-pub place_of-small : (found : Option ℕ) (name : ℕ) (names : List ℕ) → found ≡ place_of name names → length names ≤ greatest_names
-    → IfSome found (λ place. place < 2 ^ 16)
-place_of-small found name names is few = small_if found (length names) (λ place h. place_of-within name names place (sym is ∙ h)) few
+pub index_of-small : (found : Option ℕ) (name : ℕ) (names : List ℕ) → found ≡ index_of name names → length names ≤ greatest_names
+    → IfSome found (λ index. index < 2 ^ 16)
+index_of-small found name names is few = small_if found (length names) (λ index h. index_of-within name names index (sym is ∙ h)) few
 
-pub slot-small : (found : Option ℕ) (name : ℕ) (scope : Scope) → found ≡ place_of name (names_of scope.variables) → HasFewNames scope
-    → IfSome found (λ place. place < 2 ^ 16)
+pub slot-small : (found : Option ℕ) (name : ℕ) (scope : Scope) → found ≡ index_of name (names_of scope.variables) → HasFewNames scope
+    → IfSome found (λ index. index < 2 ^ 16)
 slot-small found name scope is few =
     let as_many = length-map scope.variables (λ v. v.0) in
-    place_of-small found name (names_of scope.variables) is (omega (arith, as_many, few.variables))
+    index_of-small found name (names_of scope.variables) is (omega (arith, as_many, few.variables))
 
 -- ---- The names of an accepted model
 

@@ -1,4 +1,4 @@
--- States that fit a model: they fit the slots of its tables, and have at each place what the name of that place stands for.
+-- States that fit a model: they fit the slots of its tables, and have at each index what the name of that index stands for.
 -- The bags and queues of an accepted model are small.
 use Rattle.std.proofs.Common.{◌≡◌, ℕ, zero, suc, ◌<◌, ◌≤◌, Bool, true, false, ◌&&◌, nat_le, if◌then◌else◌, List, [], ◌∷◌, ◌++◌, map}
 use Rattle.std.proofs.Common.{refl, sym, ap, ◌∙◌, Some, arith, ℤ, option_map}
@@ -60,7 +60,7 @@ data_fit_slots (v ∷ variables) (x ∷ xs) fit =
 pub states_fit : (m : AtomicTree) (s : State) → fits m s ≡ true → Fits (tables_of (scope_of m)).slots s.variables
 states_fit m s fit = data_fit_slots (scope_of m).variables s.variables (both_true _ (data_fit (scope_of m).variables s.variables) fit).1
 
--- ---- What a state that fits has at places
+-- ---- What a state that fits has at indices
 
 number_datum : (range : VariableRange) (d : Datum) → datum_fits (domain.Number range) d ≡ true → (n : ℤ) × (d ≡ datum.Number n)
 number_datum range (datum.Number n) fit = (n, refl)
@@ -82,28 +82,28 @@ held_datum d capacity (datum.Held c) fit =
 
 module _ (scope : Scope) (s : State) (fit : fits_in scope s ≡ true) (q : ℕ) where
   datum_there : (d : Domain) (has : HasDomain scope q d)
-      → (x : Datum) × (slice_get s.variables has.place ≡ Some x) × (datum_fits d x ≡ true)
+      → (x : Datum) × (slice_get s.variables has.index ≡ Some x) × (datum_fits d x ≡ true)
   datum_there d has =
       let there = ap (option_map (λ (v : ℕ × Domain). v.1)) has.there in
-      let held = fits_at scope.variables s.variables has.place d (both_true _ (data_fit scope.variables s.variables) fit).1 there in
+      let held = fits_at scope.variables s.variables has.index d (both_true _ (data_fit scope.variables s.variables) fit).1 there in
       (held.datum, held.there, held.fitting)
 
   pub number_there : (range : VariableRange) (has : HasDomain scope q (domain.Number range))
-      → (n : ℤ) × (slice_get s.variables has.place ≡ Some (datum.Number n))
+      → (n : ℤ) × (slice_get s.variables has.index ≡ Some (datum.Number n))
   number_there range has =
       let held = datum_there (domain.Number range) has in
       let number = number_datum range held.0 held.2 in
       (number.0, held.1 ∙ ap (λ x. Some x) number.1)
 
   pub flag_there : (start : Bool) (has : HasDomain scope q (domain.Flag start))
-      → (b : Bool) × (slice_get s.variables has.place ≡ Some (datum.Flag b))
+      → (b : Bool) × (slice_get s.variables has.index ≡ Some (datum.Flag b))
   flag_there start has =
       let held = datum_there (domain.Flag start) has in
       let flag = flag_datum start held.0 held.2 in
       (flag.0, held.1 ∙ ap (λ x. Some x) flag.1)
 
   pub held_there : (d : Discipline) (stands : StandsForHeld scope d q)
-      → (c : Collection) × (slice_get s.variables stands.has.place ≡ Some (datum.Held c)) × (discipline_of c ≡ d)
+      → (c : Collection) × (slice_get s.variables stands.has.index ≡ Some (datum.Held c)) × (discipline_of c ≡ d)
   held_there d stands =
       let there = datum_there (domain.Held d stands.capacity) stands.has in
       let held = held_datum d stands.capacity there.0 there.2 in
@@ -166,9 +166,9 @@ capacity_of_slot (domain.Held kind declared) d capacity has is =
     rw (← same) has
 
 capacities_of_slots : (variables : List (ℕ × Domain)) → HaveCapacities variables → AreSmall (map (λ v. slot_of v.1) variables)
-capacities_of_slots [] have place d capacity is = absurd (cc)
+capacities_of_slots [] have index d capacity is = absurd (cc)
 capacities_of_slots (v ∷ variables) have zero d capacity is = capacity_of_slot v.1 d capacity have.0 is
-capacities_of_slots (v ∷ variables) have (suc place) d capacity is = capacities_of_slots variables have.1 place d capacity is
+capacities_of_slots (v ∷ variables) have (suc index) d capacity is = capacities_of_slots variables have.1 index d capacity is
 
 pub tables_are_small : (m : AtomicTree) → atomic_refusals m ≡ [] → AreSmall (tables_of (scope_of m)).slots
 tables_are_small m none =

@@ -1,4 +1,4 @@
--- The gotos of a tree are the deeds Go of its program, and those of the text whose names became its places.
+-- The gotos of a tree are the deeds Go of its program, and those of the text whose names became its indices.
 use Rattle.std.proofs.Common.{◌≡◌, ℕ, ◌+◌, List, [], ◌∷◌, ◌++◌, append-nil, append_assoc, map, refl, sym, ap, ◌∙◌}
 use mathlib.Core.List.{map-append}
 use Rattle.dv_syntax.specs.Trees.{Statements as NamedStatements, Done as Ended, Assign, Does, Send, If as IfOnly, IfElse}
@@ -6,13 +6,13 @@ use Rattle.dv_syntax.specs.Trees.{For as Each, Changes}
 use Rattle.dv_syntax.specs.declared.tree.Command.{Command}
 use Rattle.dv_syntax.specs.declared.tree.Command.TheVariants as command
 use Rattle.dv_syntax.specs.declared.tree.Name.{Name}
-use Rattle.dv_eval.specs.Scope.{Scope, place_of}
+use Rattle.dv_eval.specs.Scope.{Scope, index_of}
 use Rattle.dv_accepted.specs.Gotos.{goto_of, gotos_in}
 use Rattle.dv_code.specs.declared.instruction.Instruction.{Instruction}
 use Rattle.dv_code.specs.declared.instruction.Instruction.TheVariants.{Do}
 use Rattle.dv_gen.specs.Resolved.{Expression, Read, Prefix, Infix, And, Or, Statements, Done, Act, Obey, When, If, For, gone, gotos}
 use Rattle.dv_gen.specs.Generator.{past, code_of, past_all, code_of_all, goes, program_of, hold_program_of}
-use Rattle.dv_gen.specs.Resolution.{all_resolved, choice, deed_of, goto_places, place_or_first, resolved}
+use Rattle.dv_gen.specs.Resolution.{all_resolved, choice, deed_of, goto_indices, index_or_first, resolved}
 
 goes_append : (is js : List Instruction) → goes (is ++ js) ≡ goes is ++ goes js
 goes_append [] js = refl
@@ -76,36 +76,36 @@ choice_gotos condition block (If inner then otherwise more) rest = refl
 choice_gotos condition block (For s body more) rest = refl
 
 module _ (scope : Scope) where
-  abbrev place_of_phase : ℕ → ℕ
-  place_of_phase name = place_or_first (place_of name scope.phases)
+  abbrev index_of_phase : ℕ → ℕ
+  index_of_phase name = index_or_first (index_of name scope.phases)
 
   -- a block before a rest
-  gotos_before : (block rest : List ℕ) (names more : List ℕ) → block ≡ map place_of_phase names → rest ≡ map place_of_phase more
-      → block ++ rest ≡ map place_of_phase (names ++ more)
+  gotos_before : (block rest : List ℕ) (names more : List ℕ) → block ≡ map index_of_phase names → rest ≡ map index_of_phase more
+      → block ++ rest ≡ map index_of_phase (names ++ more)
   gotos_before block rest names more e f =
-      ap (λ places. places ++ rest) e
-      ∙ ap (λ places. map place_of_phase names ++ places) f
-      ∙ sym (map-append place_of_phase names more)
+      ap (λ offsets. offsets ++ rest) e
+      ∙ ap (λ offsets. map index_of_phase names ++ offsets) f
+      ∙ sym (map-append index_of_phase names more)
 
-  -- a command goes to the place of the phase to which it went
-  gone_places : (c : Command) (name : Name) → gone (deed_of scope c name.number) ≡ map place_of_phase (goto_of c name)
-  gone_places command.Goto name = refl
-  gone_places command.Pop name = refl
+  -- a command goes to the index of the phase to which it went
+  gone_indices : (c : Command) (name : Name) → gone (deed_of scope c name.number) ≡ map index_of_phase (goto_of c name)
+  gone_indices command.Goto name = refl
+  gone_indices command.Pop name = refl
 
-  -- statements whose names became places go to the places of the phases to which they went
-  pub resolved_gotos : (loops : List ℕ) (body : NamedStatements) → gotos (all_resolved scope loops body) ≡ goto_places scope body
+  -- statements whose names became indices go to the indices of the phases to which they went
+  pub resolved_gotos : (loops : List ℕ) (body : NamedStatements) → gotos (all_resolved scope loops body) ≡ goto_indices scope body
   resolved_gotos loops Ended = refl
   resolved_gotos loops (Assign variable e rest) = resolved_gotos loops rest
-  resolved_gotos loops (Does c place name rest) =
-      gotos_before _ _ (goto_of c name) (gotos_in rest) (gone_places c name) (resolved_gotos loops rest)
-  resolved_gotos loops (Send place port e rest) = resolved_gotos loops rest
-  resolved_gotos loops (IfOnly place e block rest) =
+  resolved_gotos loops (Does c offset name rest) =
+      gotos_before _ _ (goto_of c name) (gotos_in rest) (gone_indices c name) (resolved_gotos loops rest)
+  resolved_gotos loops (Send offset port e rest) = resolved_gotos loops rest
+  resolved_gotos loops (IfOnly offset e block rest) =
       gotos_before _ _ (gotos_in block) (gotos_in rest) (resolved_gotos loops block) (resolved_gotos loops rest)
-  resolved_gotos loops (IfElse place e block other rest) =
+  resolved_gotos loops (IfElse offset e block other rest) =
       choice_gotos (resolved scope loops e) (all_resolved scope loops block) (all_resolved scope loops other)
       (all_resolved scope loops rest)
       ∙ gotos_before _ _ (gotos_in block) (gotos_in other ++ gotos_in rest) (resolved_gotos loops block)
       (gotos_before _ _ (gotos_in other) (gotos_in rest) (resolved_gotos loops other) (resolved_gotos loops rest))
-  resolved_gotos loops (Each place v b block rest) =
+  resolved_gotos loops (Each offset v b block rest) =
       gotos_before _ _ (gotos_in block) (gotos_in rest) (resolved_gotos (v.number ∷ loops) block) (resolved_gotos loops rest)
-  resolved_gotos loops (Changes c place e collection rest) = resolved_gotos loops rest
+  resolved_gotos loops (Changes c offset e collection rest) = resolved_gotos loops rest

@@ -1,4 +1,4 @@
--- What the names that are known in an accepted model stand for, by their places.
+-- What the names that are known in an accepted model stand for, by their indices.
 use Rattle.std.proofs.Common.{◌≡◌, ℕ, ◌<◌, ◌==◌, Bool, true, false, if◌then◌else◌, List, [], ◌∷◌, length, refl, sym, ap, subst}
 use Rattle.std.proofs.Common.{◌∙◌, Option, Some, None, option_map, arith}
 use Rattle.std.specs.Prelude.{slice_get}
@@ -6,7 +6,7 @@ use Rattle.std.proofs.lemmas.Option.{slice_get-map}
 use Rattle.dv_syntax.specs.Trees.{AtomicTree}
 use Rattle.dv_syntax.specs.declared.tree.Name.{Name}
 use Rattle.dv_syntax.specs.declared.tree.RuleSort.{RuleSort}
-use Rattle.dv_eval.specs.Scope.{Scope, names_of, phases_in, place_of, scope_of}
+use Rattle.dv_eval.specs.Scope.{Scope, names_of, phases_in, index_of, scope_of}
 use Rattle.dv_eval.specs.declared.scope.VariableRange.{VariableRange}
 use Rattle.dv_eval.specs.declared.scope.Domain.{Domain}
 use Rattle.dv_eval.specs.declared.scope.Domain.TheVariants as domain
@@ -27,9 +27,9 @@ use Rattle.dv_check.specs.Rules.{known_in_loop, known_in_rule, sent_port_refusal
 use Rattle.dv_check.specs.Types.{Known, is_readable, sees_inputs, suits, suits_port, type_of_name}
 use Rattle.dv_check.proofs.CheckedFiles.{not_false, not_refused}
 use Rattle.dv_check.proofs.Declared.{input_declared, output_declared}
-use Rattle.dv_accepted.specs.Fitting.{domain_named, domain_at as domain_of_place}
-use Rattle.dv_accepted.proofs.Fitting.{HasPlace, among_declared, both_true, place_of_declared}
-use Rattle.dv_accepted.proofs.Inputs.{port_placeless}
+use Rattle.dv_accepted.specs.Fitting.{domain_named, domain_at as domain_of_index}
+use Rattle.dv_accepted.proofs.Fitting.{HasIndex, among_declared, both_true, index_of_declared}
+use Rattle.dv_accepted.proofs.Inputs.{port_indexless}
 use Rattle.dv_accepted.proofs.Known.{is_of_loop, is_stored, of_no_loop, sort_named, sort_of_domain}
 use Rattle.dv_code.specs.declared.instruction.Source.TheVariants.{Own, Port}
 use Rattle.dv_code.specs.declared.instruction.Leaf.TheVariants as leaf
@@ -38,12 +38,12 @@ use Rattle.dv_gen.specs.Resolution.{assignment_at, leaf_of, loop_of, slot_of, so
 
 -- ---- What a name stands for
 
--- the name has a place among the state variables, with this domain
+-- the name has an index among the state variables, with this domain
 pub record HasDomain (scope : Scope) (q : ℕ) (d : Domain) : Type 0 where
-  pub place : ℕ
-  pub found : place_of q (names_of scope.variables) ≡ Some place
+  pub index : ℕ
+  pub found : index_of q (names_of scope.variables) ≡ Some index
   pub name : ℕ
-  pub there : slice_get scope.variables place ≡ Some (name, d)
+  pub there : slice_get scope.variables index ≡ Some (name, d)
 
 -- a variable that no loop around hides
 pub record StandsForVariable (scope : Scope) (loops : List ℕ) (q : ℕ) : Type 0 where
@@ -63,8 +63,8 @@ pub record StandsForHeld (scope : Scope) (d : Discipline) (q : ℕ) : Type 0 whe
   pub has : HasDomain scope q (domain.Held d capacity)
 
 pub record StandsForInput (scope : Scope) (q : ℕ) : Type 0 where
-  pub placeless : place_of q (names_of scope.variables) ≡ None
-  pub port : HasPlace q scope.inputs
+  pub indexless : index_of q (names_of scope.variables) ≡ None
+  pub port : HasIndex q scope.inputs
 
 pub record StandsForLoop (loops : List ℕ) (q : ℕ) : Type 0 where
   pub loop : ℕ
@@ -78,16 +78,16 @@ Stands scope loops q (Some ForVariable) = StandsForVariable scope loops q
 Stands scope loops q (Some ForFlag) = StandsForFlag scope loops q
 Stands scope loops q (Some (ForHeld d)) = StandsForHeld scope d q
 Stands scope loops q (Some ForInput) = StandsForInput scope q
-Stands scope loops q (Some ForOutput) = HasPlace q scope.outputs
+Stands scope loops q (Some ForOutput) = HasIndex q scope.outputs
 Stands scope loops q (Some ForLoopVariable) = StandsForLoop loops q
 
 -- all that is known in a rule, in loops of these variables, stands for something
 pub record Knows (scope : Scope) (rule : Option RuleSort) (loops : List ℕ) (known : Known) : Type 0 where
   pub rule_is : known.rule ≡ rule
   pub name : (q : ℕ) → Stands scope loops q (known.sort q)
-  pub phase : (q : ℕ) → known.has_phase q ≡ true → HasPlace q scope.phases
+  pub phase : (q : ℕ) → known.has_phase q ≡ true → HasIndex q scope.phases
 
--- ---- Domains by place
+-- ---- Domains by index
 
 domain_there : (o : Option (ℕ × Domain)) (d : Domain) → option_map (λ v. v.1) o ≡ Some d → (name : ℕ) × (o ≡ Some (name, d))
 domain_there None d is = absurd (cc)
@@ -95,31 +95,31 @@ domain_there (Some v) d is =
     let same : v.1 ≡ d = cc in
     (v.0, ap (λ x. Some (v.0, x)) same)
 
-domain_at_place : (scope : Scope) (q : ℕ) (d : Domain) (o : Option ℕ) → place_of q (names_of scope.variables) ≡ o
-    → domain_of_place scope.variables o ≡ Some d → HasDomain scope q d
-domain_at_place scope q d None found is = absurd (cc)
-domain_at_place scope q d (Some place) found is =
-    let entry = domain_there (slice_get scope.variables place) d is in
-    record { place = place; found = found; name = entry.0; there = entry.1 }
+domain_at_index : (scope : Scope) (q : ℕ) (d : Domain) (o : Option ℕ) → index_of q (names_of scope.variables) ≡ o
+    → domain_of_index scope.variables o ≡ Some d → HasDomain scope q d
+domain_at_index scope q d None found is = absurd (cc)
+domain_at_index scope q d (Some index) found is =
+    let entry = domain_there (slice_get scope.variables index) d is in
+    record { index = index; found = found; name = entry.0; there = entry.1 }
 
 pub has_domain : (scope : Scope) (q : ℕ) (d : Domain) → domain_named scope q ≡ Some d → HasDomain scope q d
-has_domain scope q d is = domain_at_place scope q d (place_of q (names_of scope.variables)) refl is
+has_domain scope q d is = domain_at_index scope q d (index_of q (names_of scope.variables)) refl is
 
--- the slot at the place of a name
+-- the slot at the index of a name
 pub slot_there : (scope : Scope) (q : ℕ) (d : Domain) (has : HasDomain scope q d)
-    → slice_get (tables_of scope).slots has.place ≡ Some (slot_of d)
+    → slice_get (tables_of scope).slots has.index ≡ Some (slot_of d)
 slot_there scope q d has =
-    slice_get-map (λ (v : ℕ × Domain). slot_of v.1) scope.variables has.place ∙ ap (option_map (λ (v : ℕ × Domain). slot_of v.1)) has.there
+    slice_get-map (λ (v : ℕ × Domain). slot_of v.1) scope.variables has.index ∙ ap (option_map (λ (v : ℕ × Domain). slot_of v.1)) has.there
 
--- ---- Leaves, sources and actions by place
+-- ---- Leaves, sources and actions by index
 
--- a variable that no loop hides is read at its place, and so is a flag
+-- a variable that no loop hides is read at its index, and so is a flag
 pub variable_leaf : (scope : Scope) (loops : List ℕ) (q : ℕ) (stands : StandsForVariable scope loops q)
-    → leaf_of scope loops q ≡ leaf.Variable stands.has.place
+    → leaf_of scope loops q ≡ leaf.Variable stands.has.index
 variable_leaf scope loops q stands = rw (stands.outside, stands.has.found, stands.has.there) refl
 
 pub flag_leaf : (scope : Scope) (loops : List ℕ) (q : ℕ) (stands : StandsForFlag scope loops q)
-    → leaf_of scope loops q ≡ leaf.Flag stands.has.place
+    → leaf_of scope loops q ≡ leaf.Flag stands.has.index
 flag_leaf scope loops q stands = rw (stands.outside, stands.has.found, stands.has.there) refl
 
 pub item_leaf : (scope : Scope) (loops : List ℕ) (q : ℕ) (stands : StandsForLoop loops q)
@@ -128,19 +128,19 @@ item_leaf scope loops q stands = rw stands.found refl
 
 -- what an assignment to a variable, and to a flag, is
 pub variable_assignment : (scope : Scope) (loops : List ℕ) (q : ℕ) (stands : StandsForVariable scope loops q)
-    → assignment_at scope (place_of q (names_of scope.variables)) ≡ action.SetVariable stands.has.place
+    → assignment_at scope (index_of q (names_of scope.variables)) ≡ action.SetVariable stands.has.index
 variable_assignment scope loops q stands = rw (stands.has.found, stands.has.there) refl
 
 pub flag_assignment : (scope : Scope) (loops : List ℕ) (q : ℕ) (stands : StandsForFlag scope loops q)
-    → assignment_at scope (place_of q (names_of scope.variables)) ≡ action.SetFlag stands.has.place
+    → assignment_at scope (index_of q (names_of scope.variables)) ≡ action.SetFlag stands.has.index
 flag_assignment scope loops q stands = rw (stands.has.found, stands.has.there) refl
 
 -- where a collection is read
-pub own_source : (scope : Scope) (d : Discipline) (q : ℕ) (stands : StandsForHeld scope d q) → source_of scope q ≡ Own d stands.has.place
+pub own_source : (scope : Scope) (d : Discipline) (q : ℕ) (stands : StandsForHeld scope d q) → source_of scope q ≡ Own d stands.has.index
 own_source scope d q stands = rw (stands.has.found, stands.has.there) refl
 
-pub port_source : (scope : Scope) (q : ℕ) (stands : StandsForInput scope q) → source_of scope q ≡ Port stands.port.place
-port_source scope q stands = rw (stands.placeless, stands.port.found) refl
+pub port_source : (scope : Scope) (q : ℕ) (stands : StandsForInput scope q) → source_of scope q ≡ Port stands.port.index
+port_source scope q stands = rw (stands.indexless, stands.port.found) refl
 
 -- ---- Outside of all loops
 
@@ -165,9 +165,9 @@ module _ (m : AtomicTree) (none : atomic_refusals m ≡ []) where
   stands_outside_as q (Some (ForHeld d)) sort = stored_stands q (ForHeld d) sort refl
   stands_outside_as q (Some ForInput) sort =
       let declared = input_declared q m.declarations [] (ap is_input sort) in
-      record { placeless = port_placeless m q none declared; port = place_of_declared q (scope_of m).inputs declared }
+      record { indexless = port_indexless m q none declared; port = index_of_declared q (scope_of m).inputs declared }
   stands_outside_as q (Some ForOutput) sort =
-      place_of_declared q (scope_of m).outputs (output_declared q m.declarations [] (ap is_output sort))
+      index_of_declared q (scope_of m).outputs (output_declared q m.declarations [] (ap is_output sort))
   stands_outside_as q (Some ForLoopVariable) sort =
       let both : false ≡ true = sym (of_no_loop q m.declarations) ∙ ap is_of_loop sort in
       absurd (cc)
@@ -176,7 +176,7 @@ module _ (m : AtomicTree) (none : atomic_refusals m ≡ []) where
   knows_outside rule = record {
     rule_is = refl;
     name = λ q. stands_outside_as q (sort_in m.declarations q) refl;
-    phase = λ q has. place_of_declared q (scope_of m).phases (among_declared q (phases_in m.phases) has);
+    phase = λ q has. index_of_declared q (scope_of m).phases (among_declared q (phases_in m.phases) has);
   }
 
 -- ---- In the block of one loop more
@@ -234,41 +234,41 @@ module _ (scope : Scope) (loops : List ℕ) (q : ℕ) where
   readable_stands w rule (Some ForOutput) stands is = absurd (cc)
   readable_stands w rule (Some ForLoopVariable) stands is = absurd (cc)
 
-  pub assigned_stands : (rule : Option RuleSort) (o : Option NameSort) (place : ℕ) → Stands scope loops q o
-      → assignment_refusals rule o place ≡ [] → Assigned scope loops q o × (is_output_rule rule ≡ false)
-  assigned_stands rule None place stands none = absurd (cc)
-  assigned_stands rule (Some ForVariable) place stands none = (ToVariable stands, not_refused _ _ _ none)
-  assigned_stands rule (Some ForFlag) place stands none = (ToFlag stands, not_refused _ _ _ none)
-  assigned_stands rule (Some (ForHeld d)) place stands none = absurd (cc)
-  assigned_stands rule (Some ForInput) place stands none = absurd (cc)
-  assigned_stands rule (Some ForOutput) place stands none = absurd (cc)
-  assigned_stands rule (Some ForLoopVariable) place stands none = absurd (cc)
+  pub assigned_stands : (rule : Option RuleSort) (o : Option NameSort) (offset : ℕ) → Stands scope loops q o
+      → assignment_refusals rule o offset ≡ [] → Assigned scope loops q o × (is_output_rule rule ≡ false)
+  assigned_stands rule None offset stands none = absurd (cc)
+  assigned_stands rule (Some ForVariable) offset stands none = (ToVariable stands, not_refused _ _ _ none)
+  assigned_stands rule (Some ForFlag) offset stands none = (ToFlag stands, not_refused _ _ _ none)
+  assigned_stands rule (Some (ForHeld d)) offset stands none = absurd (cc)
+  assigned_stands rule (Some ForInput) offset stands none = absurd (cc)
+  assigned_stands rule (Some ForOutput) offset stands none = absurd (cc)
+  assigned_stands rule (Some ForLoopVariable) offset stands none = absurd (cc)
 
   -- its type is that which is wanted of the value
   pub assigned_type : {o : Option NameSort} → Assigned scope loops q o → (t : ValueType) × (type_of_name o ≡ Some t)
   assigned_type (ToVariable stands) = (Number, refl)
   assigned_type (ToFlag stands) = (Truth, refl)
 
-  pub changed_stands : (d : Discipline) (o : Option NameSort) (place : ℕ) → Stands scope loops q o → changed_refusals d o place ≡ []
+  pub changed_stands : (d : Discipline) (o : Option NameSort) (offset : ℕ) → Stands scope loops q o → changed_refusals d o offset ≡ []
       → StandsForHeld scope d q
-  changed_stands d None place stands none = absurd (cc)
-  changed_stands d (Some ForVariable) place stands none = absurd (cc)
-  changed_stands d (Some ForFlag) place stands none = absurd (cc)
-  changed_stands d (Some (ForHeld other)) place stands none =
+  changed_stands d None offset stands none = absurd (cc)
+  changed_stands d (Some ForVariable) offset stands none = absurd (cc)
+  changed_stands d (Some ForFlag) offset stands none = absurd (cc)
+  changed_stands d (Some (ForHeld other)) offset stands none =
       subst (λ (x : Discipline). StandsForHeld scope x q) (disciplines_same other d (not_false _ (not_refused _ _ _ none))) stands
-  changed_stands d (Some ForInput) place stands none = absurd (cc)
-  changed_stands d (Some ForOutput) place stands none = absurd (cc)
-  changed_stands d (Some ForLoopVariable) place stands none = absurd (cc)
+  changed_stands d (Some ForInput) offset stands none = absurd (cc)
+  changed_stands d (Some ForOutput) offset stands none = absurd (cc)
+  changed_stands d (Some ForLoopVariable) offset stands none = absurd (cc)
 
-  pub sent_port_stands : (o : Option NameSort) (place : ℕ) → Stands scope loops q o → sent_port_refusals o place ≡ []
-      → HasPlace q scope.outputs
-  sent_port_stands None place stands none = absurd (cc)
-  sent_port_stands (Some ForVariable) place stands none = absurd (cc)
-  sent_port_stands (Some ForFlag) place stands none = absurd (cc)
-  sent_port_stands (Some (ForHeld d)) place stands none = absurd (cc)
-  sent_port_stands (Some ForInput) place stands none = absurd (cc)
-  sent_port_stands (Some ForOutput) place stands none = stands
-  sent_port_stands (Some ForLoopVariable) place stands none = absurd (cc)
+  pub sent_port_stands : (o : Option NameSort) (offset : ℕ) → Stands scope loops q o → sent_port_refusals o offset ≡ []
+      → HasIndex q scope.outputs
+  sent_port_stands None offset stands none = absurd (cc)
+  sent_port_stands (Some ForVariable) offset stands none = absurd (cc)
+  sent_port_stands (Some ForFlag) offset stands none = absurd (cc)
+  sent_port_stands (Some (ForHeld d)) offset stands none = absurd (cc)
+  sent_port_stands (Some ForInput) offset stands none = absurd (cc)
+  sent_port_stands (Some ForOutput) offset stands none = stands
+  sent_port_stands (Some ForLoopVariable) offset stands none = absurd (cc)
 
 pub known_readable : (scope : Scope) (rule : Option RuleSort) (loops : List ℕ) (known : Known) → Knows scope rule loops known
     → (w : Wanted) (q : ℕ) → is_readable w known.rule (known.sort q) ≡ true → Readable scope w rule q

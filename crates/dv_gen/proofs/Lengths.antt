@@ -29,7 +29,7 @@ use Rattle.dv_gen.proofs.Emission.{length-code_of, length-code_of_all}
 
 -- ---- Expressions
 
--- the code of an expression ends so many places behind its first one, at most
+-- the code of an expression ends so many addresses behind its first one, at most
 abbrev EndsWithin : ℕ → Expression → Type 0
 EndsWithin n e = (p : ℕ) → past p e ≤ p + n
 
@@ -41,12 +41,12 @@ infix_within _ a b m n x y p = omega (arith, x p, y (past p a))
 expression_within : (scope : Scope) (loops : List ℕ) (e : NamedExpression)
     → EndsWithin (length (expression_spelling e)) (resolved scope loops e)
 expression_within scope loops (Literal n) p = omega arith
-expression_within scope loops (TruthValue place b) p = omega arith
+expression_within scope loops (TruthValue offset b) p = omega arith
 expression_within scope loops (Named n) p = omega arith
-expression_within scope loops (Parens place e) p =
+expression_within scope loops (Parens offset e) p =
     omega (arith, expression_within scope loops e p, length-append (expression_spelling e) (sign symbol.CloseParen ∷ []))
-expression_within scope loops (Prefixed prefix.Minus place e) p = omega (arith, expression_within scope loops e p)
-expression_within scope loops (Prefixed prefix.Not place e) p = omega (arith, expression_within scope loops e p)
+expression_within scope loops (Prefixed prefix.Minus offset e) p = omega (arith, expression_within scope loops e p)
+expression_within scope loops (Prefixed prefix.Not offset e) p = omega (arith, expression_within scope loops e p)
 expression_within scope loops (Binary o a b) p =
     let left = expression_within scope loops a in
     let right = expression_within scope loops b in
@@ -55,15 +55,15 @@ expression_within scope loops (Binary o a b) p =
       infix_within o (resolved scope loops a) (resolved scope loops b) _ _ left right p,
       length-append (expression_spelling a) (Anywhere (operator_kind o) ∷ expression_spelling b),
     )
-expression_within scope loops (Call c place b) p = omega arith
-expression_within scope loops (Elapsed place) p = omega arith
-expression_within scope loops (Times place e b) p =
+expression_within scope loops (Call c offset b) p = omega arith
+expression_within scope loops (Elapsed offset) p = omega arith
+expression_within scope loops (Times offset e b) p =
     let behind = sign symbol.Comma ∷ name b ∷ sign symbol.CloseParen ∷ [] in
     omega (arith, expression_within scope loops e p, length-append (expression_spelling e) behind)
 
 -- ---- Statements
 
--- the code of statements ends so many places behind its first one, at most
+-- the code of statements ends so many addresses behind its first one, at most
 abbrev AllEndWithin : ℕ → Statements → Type 0
 AllEndWithin n body = (p : ℕ) → past_all p body ≤ p + n
 
@@ -88,12 +88,12 @@ statements_within scope loops (Assign variable e rest) p =
     let behind = sign symbol.Semicolon ∷ statements_spelling rest in
     let later = statements_within scope loops rest (past p (resolved scope loops e) + 1) in
     omega (arith, expression_within scope loops e p, later, length-append (expression_spelling e) behind)
-statements_within scope loops (Does c place name rest) p = omega (arith, statements_within scope loops rest (p + 1))
-statements_within scope loops (Send place port e rest) p =
+statements_within scope loops (Does c offset name rest) p = omega (arith, statements_within scope loops rest (p + 1))
+statements_within scope loops (Send offset port e rest) p =
     let behind = sign symbol.Semicolon ∷ statements_spelling rest in
     let later = statements_within scope loops rest (past p (resolved scope loops e) + 1) in
     omega (arith, expression_within scope loops e p, later, length-append (expression_spelling e) behind)
-statements_within scope loops (IfOnly place e block rest) p =
+statements_within scope loops (IfOnly offset e block rest) p =
     let behind = braces (statements_spelling block) ++ statements_spelling rest in
     let then_at = past p (resolved scope loops e) + 1 in
     omega (
@@ -104,7 +104,7 @@ statements_within scope loops (IfOnly place e block rest) p =
       length-append (expression_spelling e) behind,
       length-block (statements_spelling block) (statements_spelling rest),
     )
-statements_within scope loops (IfElse place e block other rest) p =
+statements_within scope loops (IfElse offset e block other rest) p =
     let last = braces (statements_spelling other) ++ statements_spelling rest in
     let behind = braces (statements_spelling block) ++ word keyword.Else ∷ last in
     omega (
@@ -116,7 +116,7 @@ statements_within scope loops (IfElse place e block other rest) p =
       length-block (statements_spelling block) (word keyword.Else ∷ last),
       length-block (statements_spelling other) (statements_spelling rest),
     )
-statements_within scope loops (Each place v b block rest) p =
+statements_within scope loops (Each offset v b block rest) p =
     let inside = all_resolved scope (v.number ∷ loops) block in
     omega (
       arith,
@@ -124,7 +124,7 @@ statements_within scope loops (Each place v b block rest) p =
       statements_within scope loops rest (past_all (p + 1) inside + 1),
       length-block (statements_spelling block) (statements_spelling rest),
     )
-statements_within scope loops (Changes c place e collection rest) p =
+statements_within scope loops (Changes c offset e collection rest) p =
     let behind = word (change_preposition c) ∷ name collection ∷ sign symbol.Semicolon ∷ statements_spelling rest in
     let later = statements_within scope loops rest (past p (resolved scope loops e) + 1) in
     omega (arith, expression_within scope loops e p, later, length-append (expression_spelling e) behind)
@@ -142,11 +142,11 @@ rule_within m r =
       length-braces (statements_spelling r.body),
     )
 
-ticks_within : (m : AtomicTree) (place : ℕ) (phase : Name) (ticks : Option NamedExpression)
+ticks_within : (m : AtomicTree) (offset : ℕ) (phase : Name) (ticks : Option NamedExpression)
     → IfSome ticks (λ e. length (hold_program_of (hold_tree m e))
-    ≤ length (hold_spelling (record { place = place; phase = phase; ticks = ticks })))
-ticks_within m place phase None = tt
-ticks_within m place phase (Some e) =
+    ≤ length (hold_spelling (record { offset = offset; phase = phase; ticks = ticks })))
+ticks_within m offset phase None = tt
+ticks_within m offset phase (Some e) =
     omega (
       arith,
       expression_within (scope_of m) [] e 0,
@@ -157,7 +157,7 @@ ticks_within m place phase (Some e) =
 
 pub hold_within : (m : AtomicTree) (h : HoldTree)
     → IfSome h.ticks (λ e. length (hold_program_of (hold_tree m e)) ≤ length (hold_spelling h))
-hold_within m h = ticks_within m h.place h.phase h.ticks
+hold_within m h = ticks_within m h.offset h.phase h.ticks
 
 -- ---- Texts
 

@@ -19,7 +19,7 @@ pub mod LoopVariables
 pub mod Marks
 pub mod OperandTypes
 pub mod Over
-pub mod Places
+pub mod Indices
 pub mod Programs
 pub mod Simulation
 pub mod TypedTrees

@@ -11,12 +11,12 @@ use Rattle.dv_syntax.specs.Trees.{Expression, Statements, Done, If, IfElse, For,
 loop_depth-before : (s : Stmt) (rest : Statements)
     → loop_depth (statement_before s rest) ≡ max (loop_depth (statement_before s Done)) (loop_depth rest)
 loop_depth-before (stmt.Assign name e) rest = omega arith
-loop_depth-before (stmt.Command c place name) rest = omega arith
-loop_depth-before (stmt.Send place port e) rest = omega arith
-loop_depth-before (stmt.If' place e shape block) rest = omega arith
-loop_depth-before (stmt.IfElse' place e shape block other_shape other) rest = omega arith
-loop_depth-before (stmt.For' place v b shape block) rest = omega arith
-loop_depth-before (stmt.Change c place e collection) rest = omega arith
+loop_depth-before (stmt.Command c offset name) rest = omega arith
+loop_depth-before (stmt.Send offset port e) rest = omega arith
+loop_depth-before (stmt.If' offset e shape block) rest = omega arith
+loop_depth-before (stmt.IfElse' offset e shape block other_shape other) rest = omega arith
+loop_depth-before (stmt.For' offset v b shape block) rest = omega arith
+loop_depth-before (stmt.Change c offset e collection) rest = omega arith
 
 -- no statement of a list is deeper than the list
 pub loop_depth-at : (statements : List Stmt) (i : ℕ) (d : Stmt) → i < length statements
@@ -28,16 +28,16 @@ loop_depth-at (s ∷ statements) (suc i) d within =
 
 -- ---- The blocks of a statement, below some loops
 
-module _ (outer : ℕ) (s : Statements) (place : ℕ) (e : Expression) (shallow : outer + loop_depth s ≤ deepest_loops) where
-  pub block_shallow : (block : Statements) → s ≡ If place e block Done → outer + loop_depth block ≤ deepest_loops
+module _ (outer : ℕ) (s : Statements) (offset : ℕ) (e : Expression) (shallow : outer + loop_depth s ≤ deepest_loops) where
+  pub block_shallow : (block : Statements) → s ≡ If offset e block Done → outer + loop_depth block ≤ deepest_loops
   block_shallow block tree = let depth = ap loop_depth tree in omega arith
 
-  pub first_shallow : (block other : Statements) → s ≡ IfElse place e block other Done → outer + loop_depth block ≤ deepest_loops
+  pub first_shallow : (block other : Statements) → s ≡ IfElse offset e block other Done → outer + loop_depth block ≤ deepest_loops
   first_shallow block other tree = let depth = ap loop_depth tree in omega arith
 
-  pub other_shallow : (block other : Statements) → s ≡ IfElse place e block other Done → outer + loop_depth other ≤ deepest_loops
+  pub other_shallow : (block other : Statements) → s ≡ IfElse offset e block other Done → outer + loop_depth other ≤ deepest_loops
   other_shallow block other tree = let depth = ap loop_depth tree in omega arith
 
-pub loop_shallow : (outer : ℕ) (s : Statements) (place : ℕ) (v b : Name) (block : Statements) → outer + loop_depth s ≤ deepest_loops
-    → s ≡ For place v b block Done → suc outer + loop_depth block ≤ deepest_loops
-loop_shallow outer s place v b block shallow tree = let depth = ap loop_depth tree in omega arith
+pub loop_shallow : (outer : ℕ) (s : Statements) (offset : ℕ) (v b : Name) (block : Statements) → outer + loop_depth s ≤ deepest_loops
+    → s ≡ For offset v b block Done → suc outer + loop_depth block ≤ deepest_loops
+loop_shallow outer s offset v b block shallow tree = let depth = ap loop_depth tree in omega arith

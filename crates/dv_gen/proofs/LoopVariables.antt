@@ -32,7 +32,7 @@ pub record IsItem (bound : List (Name × ℤ)) (q loop : ℕ) : Type 0 where
   pub within : loop < length (items_within bound)
   pub number : ℤ
   pub by_name : loop_value q (values_within bound) ≡ Some number
-  pub by_place : item_of (items_within bound) loop ≡ Some (Ok (value.Number number))
+  pub by_index : item_of (items_within bound) loop ≡ Some (Ok (value.Number number))
 
 is_item_if : (b : Bool) (v : Name × ℤ) (bound : List (Name × ℤ)) (q loop : ℕ) → (v.0.number == q) ≡ b
     → (if b then Some (length (loops_of bound)) else loop_of q (loops_of bound)) ≡ Some loop
@@ -40,11 +40,11 @@ is_item_if : (b : Bool) (v : Name × ℤ) (bound : List (Name × ℤ)) (q loop :
 is_item_if true v bound q loop test found later =
     let innermost : length (loops_of bound) ≡ loop = cc in
     let here = eq-eqb loop (length (items_within bound)) (omega (arith, as_many bound)) in
-    record { within = omega (arith, as_many bound); number = v.1; by_name = rw test refl; by_place = rw here refl }
+    record { within = omega (arith, as_many bound); number = v.1; by_name = rw test refl; by_index = rw here refl }
 is_item_if false v bound q loop test found later =
     let h = later found in
     let further = ne_eqb loop (length (items_within bound)) (λ same. absurd (omega (arith, same, h.within))) in
-    record { within = omega (arith, h.within); number = h.number; by_name = rw test h.by_name; by_place = rw further h.by_place }
+    record { within = omega (arith, h.within); number = h.number; by_name = rw test h.by_name; by_index = rw further h.by_index }
 
 pub is_item : (bound : List (Name × ℤ)) (q loop : ℕ) → loop_of q (loops_of bound) ≡ Some loop → IsItem bound q loop
 is_item [] q loop found = absurd (cc)

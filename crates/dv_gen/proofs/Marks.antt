@@ -1,4 +1,4 @@
--- Generated code with the mark of each place.
+-- Generated code with the mark of each address.
 use Rattle.std.proofs.Common.{◌≡◌, ℕ, ◌+◌, List, [], ◌∷◌, ◌++◌, append_assoc, map, Option, refl, sym, ap, ◌∙◌}
 use Rattle.std.specs.Prelude.{slice_get, option_map}
 use Rattle.std.proofs.lemmas.Option.{slice_get-map}
@@ -9,7 +9,7 @@ use Rattle.dv_code.specs.declared.instruction.Instruction.TheVariants as code
 use Rattle.dv_gen.specs.Resolved.{Expression, Read, Prefix, Infix, And, Or, Statements, Done, Act, Obey, When, If, For, type_of}
 use Rattle.dv_gen.specs.Generator.{past, code_of, past_all, code_of_all}
 
--- an instruction, and the mark of its place
+-- an instruction, and the mark of its address
 pub record MarkedInstruction : Type 0 where
   pub instruction : Instruction
   pub mark : Mark
@@ -20,14 +20,14 @@ with_mark i types nest = record { instruction = i; mark = mark types nest }
 abbrev pub instructions : List MarkedInstruction → List Instruction
 instructions program = map (λ (i : MarkedInstruction). i.instruction) program
 
--- at each place the instruction without its mark
+-- at each address the instruction without its mark
 pub instruction_at : (program : List MarkedInstruction) (p : ℕ) (o : Option MarkedInstruction) → slice_get program p ≡ o
     → slice_get (instructions program) p ≡ option_map (λ (i : MarkedInstruction). i.instruction) o
 instruction_at program p o e =
     slice_get-map (λ (i : MarkedInstruction). i.instruction) program p
     ∙ ap (option_map (λ (i : MarkedInstruction). i.instruction)) e
 
--- the body of a loop that begins at a place
+-- the body of a loop that begins at an address
 abbrev pub body_at : ℕ → Statements → Body
 body_at p block = record { first = p + 1; past = past_all (p + 1) block + 1 }
 

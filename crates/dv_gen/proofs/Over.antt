@@ -30,12 +30,12 @@ phase-over m phase = record {
   hold = shape-of_some (hold_program m) (hold_shape (scope_of m)) (λ (e : Expression). refl) (hold_ticks phase m.holds);
 }
 
-over-each : (m : AtomicTree) (phases : List ℕ) (place : ℕ) (c : PhaseCode) → slice_get (map (phase_code m) phases) place ≡ Some c →
+over-each : (m : AtomicTree) (phases : List ℕ) (index : ℕ) (c : PhaseCode) → slice_get (map (phase_code m) phases) index ≡ Some c →
     IsOver (tables_of (scope_of m)) c
-over-each m [] place c there = absurd (cc)
+over-each m [] index c there = absurd (cc)
 over-each m (p ∷ phases) zero c there =
     let same : phase_code m p ≡ c = cc in subst (IsOver (tables_of (scope_of m))) same (phase-over m p)
-over-each m (p ∷ phases) (suc place) c there = over-each m phases place c there
+over-each m (p ∷ phases) (suc index) c there = over-each m phases index c there
 
 pub programs_over : (m : AtomicTree) → AreOver (tables_of (scope_of m)) (phase_codes m)
 programs_over m = over-each m (scope_of m).phases

@@ -24,7 +24,7 @@ deeper : (shape : Shape) (left : List ValueType) (depth more : ℕ) (code : List
 deeper shape left depth more code within valid = record {
   marks = valid.marks;
   start = valid.start;
-  each = λ place i there. let fine = valid.each place i there in
+  each = λ address i there. let fine = valid.each address i there in
       record { lies = fine.lies; shallow = let so = fine.shallow in omega arith; agrees = fine.agrees };
 }
 

@@ -25,13 +25,13 @@ use Rattle.dv_gen.specs.Resolved.{IsTyped, effect_from, for_each, or_same, or_ze
 use Rattle.dv_gen.specs.Resolved.{values_in}
 use Rattle.dv_gen.specs.Generator.{ending, hold_ending, past, past_all}
 use Rattle.dv_gen.proofs.Marks.{MarkedInstruction, body_at, instruction_at, instructions}
-use Rattle.dv_gen.proofs.Places.{HasCode, HasCodeOfAll, IsAt, hold_program_stands, marked_hold_program_of, marked_program_of}
-use Rattle.dv_gen.proofs.Places.{program_stands}
+use Rattle.dv_gen.proofs.Indices.{HasCode, HasCodeOfAll, IsAt, hold_program_stands, marked_hold_program_of, marked_program_of}
+use Rattle.dv_gen.proofs.Indices.{program_stands}
 use Rattle.dv_gen.proofs.Validity.{hold_valid, rule_valid}
 
--- the machine at a place
+-- the machine at an address
 abbrev at : ℕ → List Value → List Turn → Effect → Configuration
-at p stack loops e = record { place = p; stack = stack; loops = loops; effect = e }
+at p stack loops e = record { address = p; stack = stack; loops = loops; effect = e }
 
 -- a loop at a value, with those still to come
 abbrev turn : ℤ → List ℤ → Turn
@@ -93,7 +93,7 @@ module _ (shape : Shape) (arrivals : Arrivals) (program : List MarkedInstruction
   in_sequence c (Ok x) f mid to free l next = reaches_through c (mid x) (f x) to l (next x (stays_free c (mid x) l free))
   in_sequence c (Err e) f mid to free l next = l
 
-  -- an instruction stands at a place
+  -- an instruction stands at an address
   abbrev Stands : ℕ → Instruction → Type 0
   Stands p i = slice_get (instructions program) p ≡ Some i
 
@@ -101,19 +101,19 @@ module _ (shape : Shape) (arrivals : Arrivals) (program : List MarkedInstruction
   stands p i types nest h = instruction_at program p _ h
 
   -- the step there is that of the instruction
-  step_at : (c : Configuration) (i : Instruction) → Stands c.place i → steps c ≡ performed shape arrivals c (Some i)
+  step_at : (c : Configuration) (i : Instruction) → Stands c.address i → steps c ≡ performed shape arrivals c (Some i)
   step_at c i h = ap (performed shape arrivals c) h
 
   -- a value more, or a fault
   pushes : (c : Configuration) (stack : List Value) (o : Option (Result Value Fault)) → IsFree c → steps c ≡ pushed c stack o
-      → ReachesMeant c (or_zero o) (λ v. at (c.place + 1) (v ∷ stack) c.loops c.effect)
+      → ReachesMeant c (or_zero o) (λ v. at (c.address + 1) (v ∷ stack) c.loops c.effect)
   pushes c stack None free e = free_not_stuck c free e
   pushes c stack (Some (Ok v)) free e = goes_to c _ e
   pushes c stack (Some (Err f)) free e = faults c f e
 
   -- another effect, or a fault
   acts : (c : Configuration) (stack : List Value) (o : Option (Result Effect Fault)) → IsFree c → steps c ≡ acted c stack o
-      → ReachesMeant c (or_same c.effect o) (λ e. at (c.place + 1) stack c.loops e)
+      → ReachesMeant c (or_same c.effect o) (λ e. at (c.address + 1) stack c.loops e)
   acts c stack None free e = free_not_stuck c free e
   acts c stack (Some (Ok v)) free e = goes_to c _ e
   acts c stack (Some (Err f)) free e = faults c f e

@@ -1,4 +1,4 @@
--- What is accepted is well typed where its names are places.
+-- What is accepted is well typed where its names are indices.
 use Rattle.std.proofs.Common.{◌≡◌, ℕ, ◌+◌, ◌≤◌, Bool, true, false, ◌&&◌, List, [], ◌∷◌, length, refl, sym, ap, subst, ◌∙◌, Option, Some}
 use Rattle.std.proofs.Common.{None, IfSome, arith}
 use Rattle.std.specs.List.{All}
@@ -22,7 +22,7 @@ use Rattle.dv_bag.specs.declared.discipline.Discipline.{Discipline}
 use Rattle.dv_bag.specs.declared.discipline.Discipline.TheVariants as discipline
 use Rattle.dv_bag.specs.declared.value.ValueType.{ValueType}
 use Rattle.dv_bag.specs.declared.value.ValueType.TheVariants.{Number, Truth}
-use Rattle.dv_eval.specs.Scope.{Scope, names_of, place_of, scope_of}
+use Rattle.dv_eval.specs.Scope.{Scope, names_of, index_of, scope_of}
 use Rattle.dv_eval.specs.declared.scope.Domain.TheVariants as domain
 use Rattle.dv_check.specs.declared.declarations.NameSort.{NameSort}
 use Rattle.dv_check.specs.declared.declarations.NameSort.TheVariants.{Variable as ForVariable, Flag as ForFlag, Held as ForHeld}
@@ -32,11 +32,11 @@ use Rattle.dv_check.specs.declared.wanted.Wanted.{Wanted}
 use Rattle.dv_check.specs.declared.wanted.Wanted.TheVariants as want
 use Rattle.dv_check.specs.Rules.{atomic_refusals, command_name_refusals, is_output_rule, known_in, known_in_loop, known_in_rule}
 use Rattle.dv_check.specs.Rules.{statements_refusals}
-use Rattle.dv_check.specs.Types.{Known, both_of, type_if, is_of, is_readable, knows_elapsed, place_refusals, sees_inputs, suits}
+use Rattle.dv_check.specs.Types.{Known, both_of, type_if, is_of, is_readable, knows_elapsed, offset_refusals, sees_inputs, suits}
 use Rattle.dv_check.specs.Types.{suits_port, type_of_name, type_of_operator, value_refusals, wanted_by, type_of as type_in_text}
 use Rattle.dv_check.proofs.CheckedFiles.{not_false, not_refused}
 use Rattle.dv_accepted.proofs.Fitting.{both_true}
-use Rattle.dv_accepted.proofs.Typed.{place_typed}
+use Rattle.dv_accepted.proofs.Typed.{index_typed}
 use Rattle.dv_code.specs.Known.{IsBagOf, IsSourceOf, KnowsAction, KnowsDeed, action_type, is_bag_source, operand_type, result_type}
 use Rattle.dv_code.specs.Shape.{Shape, may_change, may_read_elapsed, may_receive, may_send, shape_of}
 use Rattle.dv_code.specs.declared.shape.ProgramSort.{ProgramSort}
@@ -47,7 +47,7 @@ use Rattle.dv_code.specs.declared.instruction.Action.TheVariants as act
 use Rattle.dv_code.specs.declared.instruction.Binary.{Binary as Operation}
 use Rattle.dv_code.specs.declared.instruction.Binary.TheVariants as binary
 use Rattle.dv_gen.specs.Resolution.{all_resolved, assignment_at, call_leaf, choice, deed_of, equal_of, hold_shape, hold_tree}
-use Rattle.dv_gen.specs.Resolution.{infix_of, leaf_of, program_sort, resolved, rule_shape, rule_tree, slot_place, source_of, tables_of}
+use Rattle.dv_gen.specs.Resolution.{infix_of, leaf_of, program_sort, resolved, rule_shape, rule_tree, slot_index, source_of, tables_of}
 use Rattle.dv_gen.specs.Resolution.{unequal_of}
 use Rattle.dv_gen.specs.Resolved.{Act, AreTyped, Done, Expression, For, If, Infix, IsTyped, Obey, Read, Statements, When, type_of}
 use Rattle.dv_gen.proofs.OperandTypes.{alike_wanted, both_wanted, type_given, type_wanted}
@@ -99,7 +99,7 @@ HasType shape inside t e = (type_of e ≡ t) × IsTyped shape inside e
 
 -- a source where this is wanted
 abbrev suits_source : Wanted → Source → Bool
-suits_source w (Own d place) = suits w d
+suits_source w (Own d index) = suits w d
 suits_source w (Port port) = suits_port w
 
 -- one that the shape knows
@@ -107,7 +107,7 @@ abbrev IsWanted : Shape → Wanted → Source → Type 0
 IsWanted shape w source = IsSourceOf shape source × (suits_source w source ≡ true)
 
 bag_suits : (source : Source) → suits_source want.Bag source ≡ is_bag_source source
-bag_suits (Own d place) = refl
+bag_suits (Own d index) = refl
 bag_suits (Port port) = refl
 
 -- where a bag is wanted it is a bag
@@ -178,8 +178,8 @@ module _ (shape : Shape) (inside : ℕ) where
   call_typed call.Sum t source same is = (same, bag_wanted shape source is)
   call_typed call.Least t source same is = (same, bag_wanted shape source is)
   call_typed call.Most t source same is = (same, bag_wanted shape source is)
-  call_typed call.Front t (Own discipline.Bag place) same is = let bag = is.1 in absurd (cc)
-  call_typed call.Front t (Own discipline.Queue place) same is = (same, is.0)
+  call_typed call.Front t (Own discipline.Bag index) same is = let bag = is.1 in absurd (cc)
+  call_typed call.Front t (Own discipline.Queue index) same is = (same, is.0)
   call_typed call.Front t (Port port) same is = let bag = is.1 in absurd (cc)
 
 -- the shape of a rule's program, or of a hold's
@@ -221,30 +221,30 @@ module _ (scope : Scope) (rule : Option RuleSort) (loops : List ℕ) where
     expression_typed (Literal n) t typed =
         let same : Number ≡ t = cc in
         (same, tt)
-    expression_typed (TruthValue place b) t typed =
+    expression_typed (TruthValue offset b) t typed =
         let same : Truth ≡ t = cc in
         (same, tt)
     expression_typed (Named name) t typed = name_typed name.number (known.sort name.number) t (knows.name name.number) typed
-    expression_typed (Parens place e) t typed = expression_typed e t typed
-    expression_typed (Prefixed prefix.Minus place e) t typed =
+    expression_typed (Parens offset e) t typed = expression_typed e t typed
+    expression_typed (Prefixed prefix.Minus offset e) t typed =
         let is = type_given (is_of Number (type_in_text known e)) Number t typed in
         let operand = expression_typed e Number (type_wanted Number (type_in_text known e) is.0) in
         (is.1, (tt, operand.0, operand.1))
-    expression_typed (Prefixed prefix.Not place e) t typed =
+    expression_typed (Prefixed prefix.Not offset e) t typed =
         let is = type_given (is_of Truth (type_in_text known e)) Truth t typed in
         let operand = expression_typed e Truth (type_wanted Truth (type_in_text known e) is.0) in
         (is.1, (tt, operand.0, operand.1))
     expression_typed (Binary o a b) t typed =
         operator_typed (shape_for scope rule) (length loops) (type_in_text known a) (type_in_text known b) t (resolved scope loops a)
         (resolved scope loops b) (expression_typed a) (expression_typed b) o typed
-    expression_typed (Call c place b) t typed =
+    expression_typed (Call c offset b) t typed =
         let w = wanted_by c in
         let is = type_given (is_readable w known.rule (known.sort b.number)) Number t typed in
         call_typed (shape_for scope rule) (length loops) c t (source_of scope b.number) is.1 (readable_typed w b.number is.0)
-    expression_typed (Elapsed place) t typed =
+    expression_typed (Elapsed offset) t typed =
         let is = type_given (knows_elapsed known.rule) Number t typed in
         (is.1, reads_elapsed rule ∙ (ap knows_elapsed (sym knows.rule_is) ∙ is.0))
-    expression_typed (Times place e b) t typed =
+    expression_typed (Times offset e b) t typed =
         let number = is_of Number (type_in_text known e) in
         let readable = is_readable want.Bag known.rule (known.sort b.number) in
         let is = type_given (number && readable) Number t typed in
@@ -258,8 +258,8 @@ module _ (scope : Scope) (rule : Option RuleSort) (loops : List ℕ) where
 -- an assignment is known, and takes what is of the type of what it sets
 assignment_known : (scope : Scope) (s : RuleSort) (loops : List ℕ) (q : ℕ) {o : Option NameSort} (t : ValueType) → Assigned scope loops q o
     → is_output_rule (Some s) ≡ false → type_of_name o ≡ Some t
-    → KnowsAction (rule_shape scope s) (assignment_at scope (place_of q (names_of scope.variables)))
-    × (t ≡ action_type (assignment_at scope (place_of q (names_of scope.variables))))
+    → KnowsAction (rule_shape scope s) (assignment_at scope (index_of q (names_of scope.variables)))
+    × (t ≡ action_type (assignment_at scope (index_of q (names_of scope.variables))))
 assignment_known scope s loops q t (ToVariable stands) changing typed =
     let there = slot_there scope q (domain.Number stands.range) stands.has in
     let same : Number ≡ t = cc in
@@ -281,22 +281,22 @@ choice_typed shape depth inside condition block (For source b next) rest typed =
 
 module _ (scope : Scope) (s : RuleSort) (depth : ℕ) where
   module _ (loops : List ℕ) (known : Known) (knows : Knows scope (Some s) loops known) where
-    value_typed : (wanted : ValueType) (e : NamedExpression) → place_refusals wanted known e ≡ []
+    value_typed : (wanted : ValueType) (e : NamedExpression) → offset_refusals wanted known e ≡ []
         → HasType (rule_shape scope s) (length loops) wanted (resolved scope loops e)
-    value_typed wanted e none = expression_typed scope (Some s) loops known knows e wanted (place_typed known wanted e none)
+    value_typed wanted e none = expression_typed scope (Some s) loops known knows e wanted (index_typed known wanted e none)
 
     changes_here : is_output_rule known.rule ≡ false → may_change (program_sort s) ≡ true
     changes_here none = changes s (ap is_output_rule (sym knows.rule_is) ∙ none)
 
     -- the slot of a collection that is changed
-    slot_known : (d : Discipline) (q : ℕ) → StandsForHeld scope d q → IsSourceOf (rule_shape scope s) (Own d (slot_place scope q))
+    slot_known : (d : Discipline) (q : ℕ) → StandsForHeld scope d q → IsSourceOf (rule_shape scope s) (Own d (slot_index scope q))
     slot_known d q stands = rw stands.has.found (stands.capacity, slot_there scope q (domain.Held d stands.capacity) stands.has)
 
     change_known : (c : Change) (e : NamedExpression) (x : Name) (rest : NamedStatements) → AcceptedChange known c e x rest
-        → KnowsAction (rule_shape scope s) (act.Change c (slot_place scope x.number))
+        → KnowsAction (rule_shape scope s) (act.Change c (slot_index scope x.number))
     change_known c e x rest parts =
         let d = discipline_of_change c in
-        let stands = changed_stands scope loops x.number d (known.sort x.number) x.place (knows.name x.number) parts.target in
+        let stands = changed_stands scope loops x.number d (known.sort x.number) x.offset (knows.name x.number) parts.target in
         (slot_known d x.number stands, changes_here parts.changing)
 
     deed_known : (c : Command) (name : Name) → is_output_rule known.rule ≡ false → command_name_refusals known c name ≡ []
@@ -306,7 +306,7 @@ module _ (scope : Scope) (s : RuleSort) (depth : ℕ) where
         rw there.found (there.within, changes_here changing)
     deed_known command.Pop name changing none =
         let d = discipline.Queue in
-        let stands = changed_stands scope loops name.number d (known.sort name.number) name.place (knows.name name.number) none in
+        let stands = changed_stands scope loops name.number d (known.sort name.number) name.offset (knows.name name.number) none in
         (slot_known d name.number stands, changes_here changing)
 
   statements_typed : (loops : List ℕ) (known : Known) (knows : Knows scope (Some s) loops known) (body : NamedStatements)
@@ -316,43 +316,43 @@ module _ (scope : Scope) (s : RuleSort) (depth : ℕ) where
   statements_typed loops known knows (Assign n e rest) none deep =
       let parts = accepted_assignment known n e rest none in
       let declared = known.sort n.number in
-      let target = assigned_stands scope loops n.number known.rule declared n.place (knows.name n.number) parts.target in
+      let target = assigned_stands scope loops n.number known.rule declared n.offset (knows.name n.number) parts.target in
       let type = assigned_type scope loops n.number target.0 in
       let changing = ap is_output_rule (sym knows.rule_is) ∙ target.1 in
       let action = assignment_known scope s loops n.number type.0 target.0 changing type.1 in
       let value = value_typed loops known knows type.0 e (ap (λ o. value_refusals o known e) (sym type.1) ∙ parts.value) in
       (action.0, value.0 ∙ action.1, value.1, statements_typed loops known knows rest parts.rest deep)
-  statements_typed loops known knows (Does c place name rest) none deep =
-      let parts = accepted_command known c place name rest none in
+  statements_typed loops known knows (Does c offset name rest) none deep =
+      let parts = accepted_command known c offset name rest none in
       (deed_known loops known knows c name parts.changing parts.target, statements_typed loops known knows rest parts.rest deep)
-  statements_typed loops known knows (Send place port e rest) none deep =
-      let parts = accepted_send known place port e rest none in
-      let there = sent_port_stands scope loops port.number (known.sort port.number) port.place (knows.name port.number) parts.target in
+  statements_typed loops known knows (Send offset port e rest) none deep =
+      let parts = accepted_send known offset port e rest none in
+      let there = sent_port_stands scope loops port.number (known.sort port.number) port.offset (knows.name port.number) parts.target in
       let sending = ap is_output_rule (sym knows.rule_is) ∙ parts.sending in
       let value = value_typed loops known knows Number e parts.value in
       let rest_typed = statements_typed loops known knows rest parts.rest deep in
       rw there.found ((there.within, sends s sending), value.0, value.1, rest_typed)
-  statements_typed loops known knows (IfOnly place e block rest) none deep =
-      let parts = accepted_if known place e block rest none in
+  statements_typed loops known knows (IfOnly offset e block rest) none deep =
+      let parts = accepted_if known offset e block rest none in
       let condition = value_typed loops known knows Truth e parts.condition in
       let first = statements_typed loops known knows block parts.first (omega arith) in
       (condition.0, condition.1, first, statements_typed loops known knows rest parts.rest (omega arith))
-  statements_typed loops known knows (IfElse place e block other rest) none deep =
-      let parts = accepted_if_else known place e block other rest none in
+  statements_typed loops known knows (IfElse offset e block other rest) none deep =
+      let parts = accepted_if_else known offset e block other rest none in
       let condition = value_typed loops known knows Truth e parts.condition in
       let first = statements_typed loops known knows block parts.first (omega arith) in
       let second = statements_typed loops known knows other parts.second (omega arith) in
       let rest_typed = statements_typed loops known knows rest parts.rest (omega arith) in
       choice_typed (rule_shape scope s) depth (length loops) (resolved scope loops e) (all_resolved scope loops block)
       (all_resolved scope loops other) (all_resolved scope loops rest) (condition.0, condition.1, first, second, rest_typed)
-  statements_typed loops known knows (Each place v b block rest) none deep =
-      let parts = accepted_loop known place v b block rest none in
+  statements_typed loops known knows (Each offset v b block rest) none deep =
+      let parts = accepted_loop known offset v b block rest none in
       let inner = knows_inside scope (Some s) loops known v knows in
       let source = readable_typed scope (Some s) loops known knows want.Values b.number parts.readable in
       let inside = statements_typed (v.number ∷ loops) (known_in_loop v known) inner block parts.inside (omega arith) in
       (omega arith, source.0, inside, statements_typed loops known knows rest parts.rest (omega arith))
-  statements_typed loops known knows (Changes c place e x rest) none deep =
-      let parts = accepted_change known c place e x rest none in
+  statements_typed loops known knows (Changes c offset e x rest) none deep =
+      let parts = accepted_change known c offset e x rest none in
       let value = value_typed loops known knows Number e parts.value in
       (change_known loops known knows c e x rest parts, value.0, value.1, statements_typed loops known knows rest parts.rest deep)
 
@@ -373,4 +373,4 @@ module _ (m : AtomicTree) (none : atomic_refusals m ≡ []) where
   pub holds_typed : All (λ (h : HoldTree). IfSome h.ticks IsHoldTyped) m.holds
   holds_typed = each_hold m none IsHoldTyped (λ e accepted.
       let known = known_in m in
-      expression_typed (scope_of m) None [] known (knows_outside m none None) e Number (place_typed known Number e accepted))
+      expression_typed (scope_of m) None [] known (knows_outside m none None) e Number (index_typed known Number e accepted))

@@ -12,10 +12,10 @@ use Rattle.dv_gen.specs.Resolved.{Expression, Read, Prefix, Infix, And, Or, Stat
 use Rattle.dv_gen.specs.Resolved.{IsTyped, type_of}
 use Rattle.dv_gen.specs.Generator.{past, past_all}
 use Rattle.dv_gen.proofs.Marks.{MarkedInstruction, body_at, instruction_at, instructions, marked_code_of, marked_code_of_all}
-use Rattle.dv_gen.proofs.Places.{HasCode, HasCodeOfAll, IsAt, hold_program_stands, marked_hold_program_of, marked_program_of}
-use Rattle.dv_gen.proofs.Places.{past_all_no_earlier, past_later, program_stands}
+use Rattle.dv_gen.proofs.Indices.{HasCode, HasCodeOfAll, IsAt, hold_program_stands, marked_hold_program_of, marked_program_of}
+use Rattle.dv_gen.proofs.Indices.{past_all_no_earlier, past_later, program_stands}
 
--- what lies between two places of the same bodies lies in them
+-- what lies between two addresses of the same bodies lies in them
 lies_between : (end : ℕ) (nest : List Body) (p k q : ℕ) → LiesIn end p nest → LiesIn end q nest → p ≤ k → k ≤ q → LiesIn end k nest
 lies_between end [] p k q a b le me = omega (arith, b, me)
 lies_between end (x ∷ nest) p k q a b le me = (omega (arith, a.0, le), omega (arith, b.1, me), a.2)
@@ -34,13 +34,13 @@ module _ (shape : Shape) (left : List ValueType) (depth : ℕ) (program : List M
   same_end : end ≡ length program
   same_end = length-map program (λ (i : MarkedInstruction). i.instruction)
 
-  -- an instruction with its mark is fine at a place
+  -- an instruction with its mark is fine at an address
   abbrev IsFineAt : ℕ → MarkedInstruction → Type 0
   IsFineAt p i =
       LiesIn end p i.mark.nest × (length i.mark.nest ≤ depth)
       × Agrees shape left end marks p i.mark.types i.mark.nest i.instruction
 
-  -- from a place on each of these is
+  -- from an address on each of these is
   abbrev AreFineFrom : ℕ → List MarkedInstruction → Type 0
   AreFineFrom p [] = Unit {0}
   AreFineFrom p (i ∷ rest) = IsFineAt p i × AreFineFrom (p + 1) rest

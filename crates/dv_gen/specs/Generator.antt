@@ -1,4 +1,4 @@
--- From trees to programs. The place past the code of a tree is a function of the tree and of the place where it begins.
+-- From trees to programs. The address past the code of a tree is a function of the tree and of the address where it begins.
 use Rattle.std.specs.Prelude.{ℕ, ◌+◌, List, [], ◌∷◌, ◌++◌, Result, Ok, Err}
 use Rattle.dv_bag.specs.declared.fault.Fault.{Fault}
 use Rattle.dv_bag.specs.declared.state.Effect.{Effect}
@@ -8,7 +8,7 @@ use Rattle.dv_code.specs.declared.instruction.Instruction.{Instruction}
 use Rattle.dv_code.specs.declared.instruction.Instruction.TheVariants as code
 use Rattle.dv_gen.specs.Resolved.{Expression, Read, Prefix, Infix, And, Or, Statements, Done, Act, Obey, When, If, For, gone}
 
--- the place past the code of an expression that begins at a place
+-- the address past the code of an expression that begins at an address
 abbrev pub past : ℕ → Expression → ℕ
 past p (Read l) = p + 1
 past p (Prefix u a) = past p a + 1
@@ -23,7 +23,7 @@ code_of p (Infix o a b) = code_of p a ++ (code_of (past p a) b ++ code.Combine o
 code_of p (And a b) = code_of p a ++ code.FalseKeep (past (past p a + 1) b) ∷ code_of (past p a + 1) b
 code_of p (Or a b) = code_of p a ++ code.TrueKeep (past (past p a + 1) b) ∷ code_of (past p a + 1) b
 
--- the place past the code of statements that begins at a place
+-- the address past the code of statements that begins at an address
 abbrev pub past_all : ℕ → Statements → ℕ
 past_all p Done = p
 past_all p (Act a value rest) = past_all (past p value + 1) rest

@@ -1,4 +1,4 @@
--- What a reader believes: trees in which names are places, what they mean, and their programs; and rows.
+-- What a reader believes: trees in which names are indices, what they mean, and their programs; and rows.
 pub mod Resolved
 pub mod Resolution
 pub mod Generator

@@ -30,7 +30,7 @@ phase_code m phase = record {
   hold = option_map (hold_program m) (hold_ticks phase m.holds);
 }
 
--- the phases by their places
+-- the phases by their indices
 abbrev pub phase_codes : AtomicTree → List PhaseCode
 phase_codes m = map (phase_code m) (scope_of m).phases
 

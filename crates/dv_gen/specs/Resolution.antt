@@ -1,4 +1,4 @@
--- From the trees of a text, whose names a scope knows, to trees in which every name is a place.
+-- From the trees of a text, whose names a scope knows, to trees in which every name is an index.
 use Rattle.std.specs.Prelude.{ℕ, ◌==◌, pos, if◌then◌else◌, unwrap_or, List, [], ◌∷◌, length, map, option_map, slice_get, Option, Some, None}
 use Rattle.dv_syntax.specs.Trees.{AtomicTree, Expression as NamedExpression, Literal, TruthValue, Named, Parens, Prefixed, Binary}
 use Rattle.dv_syntax.specs.Trees.{Call, Elapsed, Times, Statements as NamedStatements, Done as Ended, Assign, Does, Send}
@@ -16,7 +16,7 @@ use Rattle.dv_bag.specs.declared.discipline.Discipline.{Discipline}
 use Rattle.dv_bag.specs.declared.discipline.Discipline.TheVariants as discipline
 use Rattle.dv_bag.specs.declared.value.ValueType.{ValueType}
 use Rattle.dv_bag.specs.declared.value.ValueType.TheVariants as type
-use Rattle.dv_eval.specs.Scope.{Scope, names_of, place_of, scope_of}
+use Rattle.dv_eval.specs.Scope.{Scope, names_of, index_of, scope_of}
 use Rattle.dv_eval.specs.declared.scope.Domain.{Domain}
 use Rattle.dv_accepted.specs.Gotos.{gotos_in}
 use Rattle.dv_eval.specs.declared.scope.Domain.TheVariants as domain
@@ -65,14 +65,14 @@ rule_shape scope s = shape_of (tables_of scope) (program_sort s)
 abbrev pub hold_shape : Scope → Shape
 hold_shape scope = shape_of (tables_of scope) sort.Hold
 
--- the place of a name, or the first
-abbrev pub place_or_first : Option ℕ → ℕ
-place_or_first place = unwrap_or place 0
+-- the index of a name, or the first
+abbrev pub index_or_first : Option ℕ → ℕ
+index_or_first index = unwrap_or index 0
 
--- what the state variable at a place may hold
+-- what the state variable at an index may hold
 abbrev pub domain_at : Scope → Option ℕ → Option Domain
 domain_at scope None = None
-domain_at scope (Some place) = option_map (λ v. v.1) (slice_get scope.variables place)
+domain_at scope (Some index) = option_map (λ v. v.1) (slice_get scope.variables index)
 
 -- the discipline of what a state variable holds; that of bags where it holds no collection
 abbrev pub discipline_in : Option Domain → Discipline
@@ -83,11 +83,11 @@ discipline_in (Some (domain.Held d capacity)) = d
 
 -- where a collection is read: a bag or a queue of the state, or an input port
 abbrev pub source_between : Scope → Option ℕ → Option ℕ → Source
-source_between scope (Some place) port = Own (discipline_in (domain_at scope (Some place))) place
-source_between scope None port = Port (place_or_first port)
+source_between scope (Some index) port = Own (discipline_in (domain_at scope (Some index))) index
+source_between scope None port = Port (index_or_first port)
 
 abbrev pub source_of : Scope → ℕ → Source
-source_of scope name = source_between scope (place_of name (names_of scope.variables)) (place_of name scope.inputs)
+source_of scope name = source_between scope (index_of name (names_of scope.variables)) (index_of name scope.inputs)
 
 -- the number of the innermost loop of a variable, from the outermost on; the innermost stands first
 abbrev pub loop_of : ℕ → List ℕ → Option ℕ
@@ -95,13 +95,13 @@ loop_of name [] = None
 loop_of name (v ∷ loops) = if v == name then Some (length loops) else loop_of name loops
 
 abbrev pub leaf_in : ℕ → Option Domain → Leaf
-leaf_in place None = leaf.Number (pos 0)
-leaf_in place (Some (domain.Number range)) = leaf.Variable place
-leaf_in place (Some (domain.Flag start)) = leaf.Flag place
-leaf_in place (Some (domain.Held d capacity)) = leaf.Number (pos 0)
+leaf_in index None = leaf.Number (pos 0)
+leaf_in index (Some (domain.Number range)) = leaf.Variable index
+leaf_in index (Some (domain.Flag start)) = leaf.Flag index
+leaf_in index (Some (domain.Held d capacity)) = leaf.Number (pos 0)
 
 abbrev pub leaf_at : Scope → Option ℕ → Leaf
-leaf_at scope place = leaf_in (place_or_first place) (domain_at scope place)
+leaf_at scope index = leaf_in (index_or_first index) (domain_at scope index)
 
 abbrev pub leaf_by : Option ℕ → Leaf → Leaf
 leaf_by None l = l
@@ -109,11 +109,11 @@ leaf_by (Some loop) l = leaf.Item loop
 
 -- what a name stands for: the innermost loop variable of that name, else a variable or a flag
 abbrev pub leaf_of : Scope → List ℕ → ℕ → Leaf
-leaf_of scope loops name = leaf_by (loop_of name loops) (leaf_at scope (place_of name (names_of scope.variables)))
+leaf_of scope loops name = leaf_by (loop_of name loops) (leaf_at scope (index_of name (names_of scope.variables)))
 
 -- the first value of a queue; a port has none, and gives 0
 abbrev pub front_of : Source → Leaf
-front_of (Own d place) = leaf.Front place
+front_of (Own d index) = leaf.Front index
 front_of (Port port) = leaf.Number (pos 0)
 
 abbrev pub call_leaf : BagCall → Source → Leaf
@@ -151,34 +151,34 @@ infix_of operator.AtLeast a b = Infix binary.AtLeast a b
 -- an expression in loops of these variables, the innermost first; parentheses go
 abbrev pub resolved : Scope → List ℕ → NamedExpression → Expression
 resolved scope loops (Literal n) = Read (leaf.Number (pos n.value))
-resolved scope loops (TruthValue place b) = Read (leaf.Truth b)
+resolved scope loops (TruthValue offset b) = Read (leaf.Truth b)
 resolved scope loops (Named name) = Read (leaf_of scope loops name.number)
-resolved scope loops (Parens place e) = resolved scope loops e
-resolved scope loops (Prefixed prefix.Minus place e) = Prefix unary.Negate (resolved scope loops e)
-resolved scope loops (Prefixed prefix.Not place e) = Prefix unary.Not (resolved scope loops e)
+resolved scope loops (Parens offset e) = resolved scope loops e
+resolved scope loops (Prefixed prefix.Minus offset e) = Prefix unary.Negate (resolved scope loops e)
+resolved scope loops (Prefixed prefix.Not offset e) = Prefix unary.Not (resolved scope loops e)
 resolved scope loops (Binary o a b) = infix_of o (resolved scope loops a) (resolved scope loops b)
-resolved scope loops (Call c place b) = Read (call_leaf c (source_of scope b.number))
-resolved scope loops (Elapsed place) = Read leaf.Elapsed
-resolved scope loops (Times place e b) = Prefix (unary.Times (source_of scope b.number)) (resolved scope loops e)
+resolved scope loops (Call c offset b) = Read (call_leaf c (source_of scope b.number))
+resolved scope loops (Elapsed offset) = Read leaf.Elapsed
+resolved scope loops (Times offset e b) = Prefix (unary.Times (source_of scope b.number)) (resolved scope loops e)
 
 -- an assignment to the state variable of a name
 abbrev pub assignment_in : ℕ → Option Domain → Action
-assignment_in place None = action.SetVariable place
-assignment_in place (Some (domain.Number range)) = action.SetVariable place
-assignment_in place (Some (domain.Flag start)) = action.SetFlag place
-assignment_in place (Some (domain.Held d capacity)) = action.SetVariable place
+assignment_in index None = action.SetVariable index
+assignment_in index (Some (domain.Number range)) = action.SetVariable index
+assignment_in index (Some (domain.Flag start)) = action.SetFlag index
+assignment_in index (Some (domain.Held d capacity)) = action.SetVariable index
 
 abbrev pub assignment_at : Scope → Option ℕ → Action
-assignment_at scope place = assignment_in (place_or_first place) (domain_at scope place)
+assignment_at scope index = assignment_in (index_or_first index) (domain_at scope index)
 
--- the place of a state variable
-abbrev pub slot_place : Scope → ℕ → ℕ
-slot_place scope name = place_or_first (place_of name (names_of scope.variables))
+-- the index of a state variable
+abbrev pub slot_index : Scope → ℕ → ℕ
+slot_index scope name = index_or_first (index_of name (names_of scope.variables))
 
 -- what a command does with a name: a phase to which it goes, or a queue that loses its first value
 abbrev pub deed_of : Scope → Command → ℕ → Deed
-deed_of scope command.Goto name = Go (place_or_first (place_of name scope.phases))
-deed_of scope command.Pop name = Pop (slot_place scope name)
+deed_of scope command.Goto name = Go (index_or_first (index_of name scope.phases))
+deed_of scope command.Pop name = Pop (slot_index scope name)
 
 -- a choice between blocks; an empty second one is none
 abbrev pub choice : Expression → Statements → Statements → Statements → Statements
@@ -189,22 +189,22 @@ choice condition block other rest = If condition block other rest
 abbrev pub all_resolved : Scope → List ℕ → NamedStatements → Statements
 all_resolved scope loops Ended = Done
 all_resolved scope loops (Assign variable e rest) =
-    Act (assignment_at scope (place_of variable.number (names_of scope.variables))) (resolved scope loops e) (all_resolved scope loops rest)
-all_resolved scope loops (Does c place name rest) = Obey (deed_of scope c name.number) (all_resolved scope loops rest)
-all_resolved scope loops (Send place port e rest) =
-    Act (action.Send (place_or_first (place_of port.number scope.outputs))) (resolved scope loops e) (all_resolved scope loops rest)
-all_resolved scope loops (IfOnly place e block rest) =
+    Act (assignment_at scope (index_of variable.number (names_of scope.variables))) (resolved scope loops e) (all_resolved scope loops rest)
+all_resolved scope loops (Does c offset name rest) = Obey (deed_of scope c name.number) (all_resolved scope loops rest)
+all_resolved scope loops (Send offset port e rest) =
+    Act (action.Send (index_or_first (index_of port.number scope.outputs))) (resolved scope loops e) (all_resolved scope loops rest)
+all_resolved scope loops (IfOnly offset e block rest) =
     When (resolved scope loops e) (all_resolved scope loops block) (all_resolved scope loops rest)
-all_resolved scope loops (IfElse place e block other rest) =
+all_resolved scope loops (IfElse offset e block other rest) =
     choice (resolved scope loops e) (all_resolved scope loops block) (all_resolved scope loops other) (all_resolved scope loops rest)
-all_resolved scope loops (Each place v b block rest) =
+all_resolved scope loops (Each offset v b block rest) =
     For (source_of scope b.number) (all_resolved scope (v.number ∷ loops) block) (all_resolved scope loops rest)
-all_resolved scope loops (Changes c place e collection rest) =
-    Act (action.Change c (slot_place scope collection.number)) (resolved scope loops e) (all_resolved scope loops rest)
+all_resolved scope loops (Changes c offset e collection rest) =
+    Act (action.Change c (slot_index scope collection.number)) (resolved scope loops e) (all_resolved scope loops rest)
 
--- the places of the phases to which statements go, in the order of the text
-abbrev pub goto_places : Scope → NamedStatements → List ℕ
-goto_places scope body = map (λ name. place_or_first (place_of name scope.phases)) (gotos_in body)
+-- the indices of the phases to which statements go, in the order of the text
+abbrev pub goto_indices : Scope → NamedStatements → List ℕ
+goto_indices scope body = map (λ name. index_or_first (index_of name scope.phases)) (gotos_in body)
 
 -- the tree of a rule, and of a hold
 abbrev pub rule_tree : AtomicTree → NamedStatements → Statements

@@ -1,4 +1,4 @@
--- Trees in which every name is a place already, and their meaning, by recursion on the tree.
+-- Trees in which every name is an index already, and their meaning, by recursion on the tree.
 use Rattle.std.specs.Prelude.{◌≡◌, ℕ, suc, ℤ, pos, ◌<◌, Bool, false, if◌then◌else◌, List, [], ◌∷◌, ◌++◌, Option, Some, None, Result, Ok}
 use Rattle.dv_bag.specs.Arrivals.{Arrivals}
 use Rattle.dv_bag.specs.Collections.{values_in as values_held}
@@ -126,7 +126,7 @@ AreTyped shape depth inside (For s block rest) =
 -- the phase to which a deed goes, if it goes to one
 abbrev pub gone : Deed → List ℕ
 gone (Go phase) = phase ∷ []
-gone (Pop place) = []
+gone (Pop index) = []
 
 -- the phases of its gotos, in the order of the text
 abbrev pub gotos : Statements → List ℕ

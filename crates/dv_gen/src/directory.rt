@@ -21,7 +21,9 @@ const GREATEST_FEW: usize = 8;
 /// take a time linear in the model's text.
 #[derive(Drop)]
 pub enum Directory<'a> {
+    /// A model with few rules and holds, which are looked for one after the other.
     Few(&'a Atomic),
+    /// Tables of the first rules and holds of each phase.
     Many(Firsts<'a>),
 }
 

@@ -7,7 +7,7 @@ use std::alloc::{AllocError, Global};
 use std::marker::Model;
 
 /// A program as far as it is written. It has fewer instructions than there are numbers of 32 bits,
-/// so that each place has one.
+/// so that each address has one.
 #[derive(Drop)]
 pub struct Draft {
     instructions: Vec<Instruction>,
@@ -34,8 +34,8 @@ impl Draft {
         }
     }
 
-    /// The place of the next instruction.
-    pub fn place(&self) -> u32
+    /// The address of the next instruction.
+    pub fn address(&self) -> u32
         ensures { result ≡ length self.now }
     {
         self.instructions.len() as u32
@@ -45,7 +45,7 @@ impl Draft {
     ///
     /// # Errors
     ///
-    /// No memory for the instruction, or no number of 32 bits for the next place.
+    /// No memory for the instruction, or no number of 32 bits for the next address.
     pub fn push(&mut self, instruction: Instruction) -> Result<(), AllocError>
         ensures { OnOk result (self.new ≡ self.old ++ instruction ∷ []) }
     {
@@ -56,12 +56,12 @@ impl Draft {
         Ok(())
     }
 
-    /// Another instruction at a place, such as a jump whose aim was not known before.
-    pub fn replace(&mut self, place: u32, instruction: Instruction)
-        requires { place < length self.old }
-        ensures { self.new ≡ slice_set self.old place instruction }
+    /// Another instruction at an address, such as a jump whose aim was not known before.
+    pub fn replace(&mut self, address: u32, instruction: Instruction)
+        requires { address < length self.old }
+        ensures { self.new ≡ slice_set self.old address instruction }
     {
-        self.instructions[place as usize] = instruction;
+        self.instructions[address as usize] = instruction;
     }
 
     /// The instructions.

@@ -97,18 +97,18 @@ fn emit_second(
         → type ≡ type_of (junction joint left right)) }
 {
     // Where a jump past the second operand leads is known behind it: until then it leads to itself.
-    let jump = draft.place();
+    let jump = draft.address();
     match joint {
         Joint::IfTrue => {
             draft.push(Instruction::FalseKeep(jump))?;
             emit_expression(right, names, loops, draft)?;
-            draft.replace(jump, Instruction::FalseKeep(draft.place()));
+            draft.replace(jump, Instruction::FalseKeep(draft.address()));
             Ok(ValueType::Truth)
         }
         Joint::IfFalse => {
             draft.push(Instruction::TrueKeep(jump))?;
             emit_expression(right, names, loops, draft)?;
-            draft.replace(jump, Instruction::TrueKeep(draft.place()));
+            draft.replace(jump, Instruction::TrueKeep(draft.address()));
             Ok(ValueType::Truth)
         }
         Joint::Operation(operation) => {
@@ -204,7 +204,7 @@ fn front_of(source: Source) -> Leaf
     ensures { result ≡ front_of source }
 {
     match source {
-        Source::Own(_, place) => Leaf::Front(place),
+        Source::Own(_, index) => Leaf::Front(index),
         Source::Port(_) => Leaf::Number(0),
     }
 }

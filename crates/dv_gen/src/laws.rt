@@ -20,7 +20,7 @@ ghost use Rattle.dv_code.specs.Valid.{IsValid};
 ghost use Rattle.dv_gen.specs.Generator.{ending, goes, hold_ending, hold_program_of, program_of};
 ghost use Rattle.dv_gen.specs.ModelCode.{HasProgramsWithin, IsCompilableModel, phase_codes};
 ghost use Rattle.dv_gen.specs.Over.{AreOver};
-ghost use Rattle.dv_gen.specs.Resolution.{goto_places, hold_shape, hold_tree, rule_shape, rule_tree, tables_of};
+ghost use Rattle.dv_gen.specs.Resolution.{goto_indices, hold_shape, hold_tree, rule_shape, rule_tree, tables_of};
 ghost use Rattle.dv_gen.specs.Resolved.{AreTyped, Expression, IsTyped, Statements, gotos, rule_effect, type_of, value_of};
 
 use dv_lex::laws::tokens_are_no_more_than_bytes;
@@ -47,11 +47,11 @@ pub fn generated_programs_do_what_the_tree_means()
 {}
 
 /// The phases of a program's deeds `Go` are those of its tree's gotos, in their order: so those of a rule's
-/// program are the places of the phases to which the rule goes in the text. A hold's program has none.
+/// program are the indices of the phases to which the rule goes in the text. A hold's program has none.
 pub fn generated_programs_go_where_the_tree_goes()
     ensures rule { (body : Statements) → goes (program_of body) ≡ gotos body }
     ensures text { (m : AtomicTree) (r : RuleTree) →
-        goes (program_of (rule_tree m r.body)) ≡ goto_places (scope_of m) r.body }
+        goes (program_of (rule_tree m r.body)) ≡ goto_indices (scope_of m) r.body }
     ensures hold { (e : Expression) → goes (hold_program_of e) ≡ [] }
 {}
 
@@ -81,10 +81,10 @@ pub fn compiled_rules_have_the_rules_effect()
     generated_programs_do_what_the_tree_means();
     accepted_rules_are_well_typed();
     states_fit_the_tables();
-    places_mean_what_names_mean();
+    indices_mean_what_names_mean();
 }
 
-/// The rules and holds of an accepted model are well typed where their names are places; the loops of a rule are as
+/// The rules and holds of an accepted model are well typed where their names are indices; the loops of a rule are as
 /// deep as in the text.
 pub fn accepted_rules_are_well_typed()
     ensures rules { (m : AtomicTree) → atomic_refusals m ≡ [] → All (λ (r : RuleTree).
@@ -109,9 +109,9 @@ pub fn programs_stand_over_their_tables()
     ensures { (m : AtomicTree) → AreOver (tables_of (scope_of m)) (phase_codes m) }
 {}
 
-/// Places in place of names change nothing: in a state that fits, whatever has arrived, the rules and the holds of an
+/// Indices in place of names change nothing: in a state that fits, whatever has arrived, the rules and the holds of an
 /// accepted model mean what they mean in the text.
-pub fn places_mean_what_names_mean()
+pub fn indices_mean_what_names_mean()
     ensures rules { (m : AtomicTree) → atomic_refusals m ≡ [] → All (λ (r : RuleTree).
         (arrivals : Arrivals) (s : State) → fits m s ≡ true →
         rule_effect (rule_shape (scope_of m) r.sort) arrivals (rule_tree m r.body) s

@@ -1,4 +1,13 @@
-//! From the rules of an atomic model to programs.
+//! The compiler of rules: from an atomic model to programs of the stack machine.
+//!
+//! `generate` gives the `ModelCode` of a model: for each phase the programs of its output rule, its transitions and
+//! its hold. The theorem of the compiler says of every accepted model: each program is valid, and from every state
+//! that fits, whatever has arrived, it ends with the effect of its rule or with the rule's first fault, and that of a
+//! hold with its ticks or fault. A program has no more instructions than its rule has tokens.
+//!
+//! `dv_coded` makes the programs of a run here, `dv_listing` prints them, and `dv_compiled` takes the theorem up to
+//! whole models. Links are not compiled here: that is `dv_flat`. Nothing is optimised; what is done faster, the
+//! machine does.
 #![tactic(auto)]
 
 /// The rules and the holds by the names of their phases.
@@ -15,7 +24,7 @@ pub mod laws;
 pub mod loops;
 /// The programs of a model.
 pub mod model_code;
-/// The places of names.
+/// The indices of names.
 pub mod names;
 /// The programs of rules and holds.
 pub mod program;

@@ -19,9 +19,11 @@ pub struct PhaseCode {
     pub hold: Option<Valid>,
 }
 
-/// The programs of an atomic model, by the places of its phases, and the tables that they share.
+/// The programs of an atomic model, by the indices of its phases, and the tables that they share.
 #[derive(Drop)]
 pub struct ModelCode {
+    /// The tables that all programs of the model share.
     pub tables: Arc<Tables>,
+    /// The programs of each phase, in the order of the phases' declaration.
     pub phases: Vec<PhaseCode>,
 }

@@ -1,10 +1,10 @@
-//! The places of the names of an atomic model.
+//! The indices of the names of an atomic model.
 
 ghost use Rattle.std.specs.Prelude.{◌≡◌, ◌<◌, ◌≤◌, ◌^◌, length, IfSome};
-ghost use Rattle.dv_eval.specs.Scope.{names_of, place_of};
+ghost use Rattle.dv_eval.specs.Scope.{names_of, index_of};
 ghost use Rattle.dv_gen.specs.Emission.{HasFewNames, loops_of};
 ghost use Rattle.dv_gen.specs.Resolution.{assignment_at, assignment_in, deed_of, discipline_in, domain_at, leaf_at, leaf_by};
-ghost use Rattle.dv_gen.specs.Resolution.{leaf_in, leaf_of, place_or_first, slot_place, source_of};
+ghost use Rattle.dv_gen.specs.Resolution.{leaf_in, leaf_of, index_or_first, slot_index, source_of};
 ghost use Rattle.dv_code.specs.Limits.{deepest_loops};
 
 use crate::loops::Loops;
@@ -14,7 +14,7 @@ use dv_eval::{Domain, Scope};
 use dv_syntax::Command;
 use std::marker::Model;
 
-/// The names of an atomic model, so few of each kind that a place has 16 bits.
+/// The names of an atomic model, so few of each kind that an index has 16 bits.
 #[derive(Drop)]
 pub struct Names<'a> {
     scope: &'a Scope,
@@ -40,18 +40,18 @@ impl<'a> Names<'a> {
         Names { scope }
     }
 
-    /// The place of a variable, a flag, a bag or a queue.
+    /// The index of a variable, a flag, a bag or a queue.
     pub fn slot(&self, name: u32) -> u16
-        ensures { result ≡ slot_place self.now name }
+        ensures { result ≡ slot_index self.now name }
     {
-        place_or_first(self.scope.variable(name))
+        index_or_first(self.scope.variable(name))
     }
 
-    /// The place of an output port.
+    /// The index of an output port.
     pub fn output(&self, name: u32) -> u16
-        ensures { result ≡ place_or_first (place_of name self.now.outputs) }
+        ensures { result ≡ index_or_first (index_of name self.now.outputs) }
     {
-        place_or_first(self.scope.output(name))
+        index_or_first(self.scope.output(name))
     }
 
     /// What a command does with a name: a phase to which it goes, or a queue that loses its first value.
@@ -69,8 +69,8 @@ impl<'a> Names<'a> {
         ensures { result ≡ source_of self.now name }
     {
         match self.scope.variable(name) {
-            Some(place) => Source::Own(discipline_in(self.scope.domain(place)), place as u16),
-            None => Source::Port(place_or_first(self.scope.input(name))),
+            Some(index) => Source::Own(discipline_in(self.scope.domain(index)), index as u16),
+            None => Source::Port(index_or_first(self.scope.input(name))),
         }
     }
 
@@ -88,58 +88,58 @@ impl<'a> Names<'a> {
 
     /// What is done where a value is assigned to a name.
     pub fn assignment(&self, name: u32) -> Action
-        ensures { result ≡ assignment_at self.now (place_of name (names_of self.now.variables)) }
+        ensures { result ≡ assignment_at self.now (index_of name (names_of self.now.variables)) }
     {
         assignment_in(self.slot(name), self.domain(name))
     }
 
-    // The place of a phase.
+    // The index of a phase.
     fn phase(&self, name: u32) -> u32
-        ensures { result ≡ place_or_first (place_of name self.now.phases) }
+        ensures { result ≡ index_or_first (index_of name self.now.phases) }
     {
         self.scope.phase(name).unwrap_or(0)
     }
 
     // What the variable, the flag, the bag or the queue of a name may hold.
     fn domain(&self, name: u32) -> Option<Domain>
-        ensures { result ≡ domain_at self.now (place_of name (names_of self.now.variables)) }
+        ensures { result ≡ domain_at self.now (index_of name (names_of self.now.variables)) }
     {
         match self.scope.variable(name) {
-            Some(place) => self.scope.domain(place),
+            Some(index) => self.scope.domain(index),
             None => None,
         }
     }
 }
 
-// A place, and of a name that is not declared the first.
-fn place_or_first(place: Option<usize>) -> u16
-    requires { IfSome place (λ place. place < 2 ^ 16) }
-    ensures { result ≡ place_or_first place }
+// An index, and of a name that is not declared the first.
+fn index_or_first(index: Option<usize>) -> u16
+    requires { IfSome index (λ index. index < 2 ^ 16) }
+    ensures { result ≡ index_or_first index }
 {
-    match place {
-        Some(place) => place as u16,
+    match index {
+        Some(index) => index as u16,
         None => 0,
     }
 }
 
-// How the variable or the flag at a place is read.
-fn leaf_in(place: u16, domain: Option<Domain>) -> Leaf
-    ensures { result ≡ leaf_in place domain }
+// How the variable or the flag at an index is read.
+fn leaf_in(index: u16, domain: Option<Domain>) -> Leaf
+    ensures { result ≡ leaf_in index domain }
 {
     match domain {
-        Some(Domain::Number(_)) => Leaf::Variable(place),
-        Some(Domain::Flag { .. }) => Leaf::Flag(place),
+        Some(Domain::Number(_)) => Leaf::Variable(index),
+        Some(Domain::Flag { .. }) => Leaf::Flag(index),
         Some(Domain::Held { .. }) | None => Leaf::Number(0),
     }
 }
 
-// How the variable or the flag at a place gets another value.
-fn assignment_in(place: u16, domain: Option<Domain>) -> Action
-    ensures { result ≡ assignment_in place domain }
+// How the variable or the flag at an index gets another value.
+fn assignment_in(index: u16, domain: Option<Domain>) -> Action
+    ensures { result ≡ assignment_in index domain }
 {
     match domain {
-        Some(Domain::Flag { .. }) => Action::SetFlag(place),
-        Some(Domain::Number(_) | Domain::Held { .. }) | None => Action::SetVariable(place),
+        Some(Domain::Flag { .. }) => Action::SetFlag(index),
+        Some(Domain::Number(_) | Domain::Held { .. }) | None => Action::SetVariable(index),
     }
 }
 

@@ -143,14 +143,14 @@ fn emit_when(
 {
     emit_expression(condition, names, loops, draft)?;
     // Where the jump leads is known behind the block: until then it leads to itself.
-    let test = draft.place();
+    let test = draft.address();
     draft.push(Instruction::JumpFalse(test))?;
     emit_statements(block, names, loops, draft)?;
-    draft.replace(test, Instruction::JumpFalse(draft.place()));
+    draft.replace(test, Instruction::JumpFalse(draft.address()));
     Ok(())
 }
 
-// Writes the first of two blocks, which is done where a condition holds, and gives the place of the
+// Writes the first of two blocks, which is done where a condition holds, and gives the address of the
 // jump past the other one, whose aim is not known yet.
 #[cycle(statements)]
 fn emit_first_block(
@@ -170,16 +170,16 @@ fn emit_first_block(
         (all_resolved names.now (loops_of loops.now) (statements_of block.now)) other rest)) }
 {
     emit_expression(condition, names, loops, draft)?;
-    let test = draft.place();
+    let test = draft.address();
     draft.push(Instruction::JumpFalse(test))?;
     emit_statements(block, names, loops, draft)?;
-    let jump = draft.place();
+    let jump = draft.address();
     draft.push(Instruction::Jump(jump))?;
-    draft.replace(test, Instruction::JumpFalse(draft.place()));
+    draft.replace(test, Instruction::JumpFalse(draft.address()));
     Ok(jump)
 }
 
-// Writes the other of two blocks, past which the jump at a place leads.
+// Writes the other of two blocks, past which the jump at an address leads.
 #[cycle(statements)]
 fn emit_other_block(
     block: &[Stmt],
@@ -195,7 +195,7 @@ fn emit_other_block(
         (all_resolved names.now (loops_of loops.now) (statements_of block.now))) }
 {
     emit_statements(block, names, loops, draft)?;
-    draft.replace(jump, Instruction::Jump(draft.place()));
+    draft.replace(jump, Instruction::Jump(draft.address()));
     Ok(())
 }
 
@@ -214,12 +214,12 @@ fn emit_loop(
         ≡ with_statements draft.old (For source
         (all_resolved names.now (loops_of loops.now) (statements_of block.now)) rest)) }
 {
-    let entry = draft.place();
+    let entry = draft.address();
     draft.push(Instruction::Loop(source, entry))?;
-    let first = draft.place();
+    let first = draft.address();
     emit_statements(block, names, loops, draft)?;
     draft.push(Instruction::Next(first))?;
-    draft.replace(entry, Instruction::Loop(source, draft.place()));
+    draft.replace(entry, Instruction::Loop(source, draft.address()));
     Ok(())
 }
 

@@ -5,7 +5,7 @@ use crate::unlinked::{LinkedPorts, UnlinkedPort, push_unlinked};
 use dv_check::GREATEST_DEPTH;
 use dv_partition::Groups;
 use dv_text::{WriteError, hand_over_if_long};
-use dv_tree::{Level, PlacedPart, Tree, level_at};
+use dv_tree::{Level, ResolvedPart, Tree, level_at};
 use std::alloc::{AllocError, Global};
 use std::io::Write;
 
@@ -61,7 +61,7 @@ pub(crate) fn write_parts<W: Write>(
 pub(crate) fn push_cluster(
     text: &mut String,
     tree: &Tree,
-    part: &PlacedPart,
+    part: &ResolvedPart,
     number: u32,
     tabs: usize,
 ) -> Result<(), AllocError> {
@@ -76,7 +76,7 @@ pub(crate) fn push_cluster(
 fn push_counted(
     text: &mut String,
     scene: Scene<'_>,
-    part: &PlacedPart,
+    part: &ResolvedPart,
     counts: &mut Counts,
 ) -> Result<(), AllocError> {
     let component = counts.components;
@@ -91,7 +91,7 @@ fn push_counted(
 pub(crate) fn push_component(
     text: &mut String,
     scene: Scene<'_>,
-    part: &PlacedPart,
+    part: &ResolvedPart,
     component: u32,
     unlinked: &[UnlinkedPort<'_>],
 ) -> Result<(), AllocError> {

@@ -6,7 +6,7 @@ use dv_flat::LinkLists;
 use dv_partition::Groups;
 use std::alloc::{AllocError, Global};
 
-/// A link from one node to another, by their places.
+/// A link from one node to another, by their indices.
 #[derive(Clone, Copy)]
 struct Joint {
     from: u32,
@@ -15,7 +15,7 @@ struct Joint {
     is_crossing: bool,
 }
 
-/// All links from one node to another, by their places.
+/// All links from one node to another, by their indices.
 #[derive(Clone, Copy)]
 pub(crate) struct JoinedLinks {
     pub(crate) from: u32,
@@ -27,7 +27,7 @@ pub(crate) struct JoinedLinks {
 }
 
 /// The links between different nodes, and from a component to itself, joined: those from the root's inputs, between components, and
-/// to the root's outputs, each ascending by places. The first input and the first output of the root have these places.
+/// to the root's outputs, each ascending by indices. The first input and the first output of the root have these indices.
 pub(crate) fn joined_links(
     alloc: Global,
     links: &LinkLists,
@@ -59,7 +59,7 @@ fn entries_of(
     for link in &links.entries {
         joints.push(Joint {
             from: first_input.saturating_add(link.from),
-            to: nodes.place_of(link.to.component),
+            to: nodes.index_of(link.to.component),
             copies: link.copies,
             is_crossing: false,
         })?;
@@ -75,8 +75,8 @@ fn direct_of(
 ) -> Result<Vec<Joint>, AllocError> {
     let mut joints = Vec::new(alloc);
     for link in &links.direct {
-        let from = nodes.place_of(link.from.component);
-        let to = nodes.place_of(link.to.component);
+        let from = nodes.index_of(link.from.component);
+        let to = nodes.index_of(link.to.component);
         if from != to || nodes.is_component(from) {
             joints.push(Joint {
                 from,
@@ -98,7 +98,7 @@ fn exits_of(
     let mut joints = Vec::new(alloc);
     for link in &links.exits {
         joints.push(Joint {
-            from: nodes.place_of(link.from.component),
+            from: nodes.index_of(link.from.component),
             to: first_output.saturating_add(link.to),
             copies: link.copies,
             is_crossing: false,

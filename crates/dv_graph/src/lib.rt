@@ -1,5 +1,12 @@
-//! A model as a graph in the DOT language of Graphviz: its components with their links, an overview of these, or the phases of one
-//! of its atomic models.
+//! A model as a graph in the DOT language of Graphviz.
+//!
+//! `write_graph` draws each component as a node within the clusters of its coupled models, and each link as an edge.
+//! `write_overview` draws a model down to a depth, with one edge for all links between two boxes. `write_phases`
+//! draws the phases of one atomic model, with the rules that go from one to another. The groups of a partition show
+//! as colours.
+//!
+//! `dv_views` calls these for `pdevs graph`. Nothing is claimed of a graph but that it is made without a fault of the
+//! program, and nothing is laid out here: Graphviz does that.
 #![tactic(auto)]
 
 /// The nodes of components, in clusters.

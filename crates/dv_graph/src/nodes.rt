@@ -6,7 +6,7 @@ use crate::pieces::{push_name, push_part, push_tabs, tabs_at};
 use dv_check::GREATEST_DEPTH;
 use dv_partition::Groups;
 use dv_text::{WriteError, hand_over_if_long};
-use dv_tree::{Level, PlacedPart, level_at};
+use dv_tree::{Level, ResolvedPart, level_at};
 use std::alloc::{AllocError, Global};
 use std::fmt;
 use std::io::Write;
@@ -32,14 +32,14 @@ impl fmt::Display for Node {
     }
 }
 
-/// The nodes so far, and of each component so far the place of its node.
+/// The nodes so far, and of each component so far the index of its node.
 #[derive(Drop)]
 pub(crate) struct Nodes {
     pub(crate) nodes: Vec<Node>,
     /// Of each node the number of the part of the root in which it is; ports count as parts.
     pub(crate) parts: Vec<u32>,
     part: u32,
-    places: Vec<u32>,
+    indices: Vec<u32>,
     boxes: u32,
     clusters: u32,
 }
@@ -51,20 +51,20 @@ impl Nodes {
             nodes: Vec::new(alloc),
             parts: Vec::new(alloc),
             part: 0,
-            places: Vec::new(alloc),
+            indices: Vec::new(alloc),
             boxes: 0,
             clusters: 0,
         }
     }
 
-    /// The place of the node in which a component is.
-    pub(crate) fn place_of(&self, component: u32) -> u32 {
-        self.places.get(component as usize).copied().unwrap_or(0)
+    /// The index of the node in which a component is.
+    pub(crate) fn index_of(&self, component: u32) -> u32 {
+        self.indices.get(component as usize).copied().unwrap_or(0)
     }
 
-    /// Whether the node at a place is one component.
-    pub(crate) fn is_component(&self, place: u32) -> bool {
-        matches!(self.nodes.get(place as usize), Some(Node::Component(_)))
+    /// Whether the node at an index is one component.
+    pub(crate) fn is_component(&self, index: u32) -> bool {
+        matches!(self.nodes.get(index as usize), Some(Node::Component(_)))
     }
 
     // Another part of the root begins.
@@ -80,17 +80,17 @@ impl Nodes {
 
     // A node for the next component, whose number is returned.
     fn add_component(&mut self) -> Result<u32, AllocError> {
-        let component = number_of(self.places.len());
-        self.places.push(number_of(self.nodes.len()))?;
+        let component = number_of(self.indices.len());
+        self.indices.push(number_of(self.nodes.len()))?;
         self.add(Node::Component(component))?;
         Ok(component)
     }
 
     // A node for a box of the next so many components, which is returned.
     fn add_box(&mut self, components: usize) -> Result<Node, AllocError> {
-        let place = number_of(self.nodes.len());
+        let index = number_of(self.nodes.len());
         for _component in 0..components {
-            self.places.push(place)?;
+            self.indices.push(index)?;
         }
         let node = Node::Box(self.boxes);
         self.boxes = self.boxes.saturating_add(1);
@@ -105,7 +105,7 @@ impl Nodes {
         number
     }
 
-    /// Nodes for the ports of the root, inputs before outputs. The places of the first input and of the first output are returned.
+    /// Nodes for the ports of the root, inputs before outputs. The indices of the first input and of the first output are returned.
     pub(crate) fn add_ports(
         &mut self,
         inputs: usize,
@@ -180,12 +180,12 @@ pub(crate) fn push_root_box(
 fn push_part_box(
     text: &mut String,
     scene: Scene<'_>,
-    part: &PlacedPart,
+    part: &ResolvedPart,
     inside: &Level,
     nodes: &mut Nodes,
 ) -> Result<(), AllocError> {
     let count = components_in(scene.tree.levels(), inside, GREATEST_DEPTH);
-    let first = nodes.places.len();
+    let first = nodes.indices.len();
     let node = nodes.add_box(count)?;
     write!(text, "{node} [label=\"")?;
     push_part(text, scene.tree, part)?;

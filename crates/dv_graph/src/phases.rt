@@ -73,8 +73,8 @@ fn write_nodes<W: Write>(
     text: &mut String,
     writer: &mut W,
 ) -> Result<(), WriteError> {
-    for (place, name) in diagram.phases.iter().enumerate() {
-        write!(text, "\tp{place} [label=\"")?;
+    for (index, name) in diagram.phases.iter().enumerate() {
+        write!(text, "\tp{index} [label=\"")?;
         push_name(text, diagram.tree.name(name.number))?;
         push_hold(text, diagram, name.number)?;
         push_sends(text, diagram, name.number)?;
@@ -126,8 +126,8 @@ fn push_sends_of(text: &mut String, diagram: Diagram<'_>, rule: &Rule) -> Result
 // An arrow to the start.
 fn push_starts(text: &mut String, diagram: Diagram<'_>) -> Result<(), AllocError> {
     for start in &diagram.atomic.starts {
-        if let Some(place) = diagram.place_of(start.phase.number) {
-            write!(text, "\tstart [shape=point];\n\tstart -> p{place};\n")?;
+        if let Some(index) = diagram.index_of(start.phase.number) {
+            write!(text, "\tstart [shape=point];\n\tstart -> p{index};\n")?;
         }
     }
     Ok(())
@@ -148,9 +148,9 @@ fn write_edges<W: Write>(
         }
         hand_over_if_long(text, writer)?;
     }
-    for (place, name) in diagram.phases.iter().enumerate() {
+    for (index, name) in diagram.phases.iter().enumerate() {
         if diagram.begins_again(name.number) {
-            writeln!(text, "\tp{place} -> p{place};")?;
+            writeln!(text, "\tp{index} -> p{index};")?;
         }
         hand_over_if_long(text, writer)?;
     }
@@ -159,13 +159,13 @@ fn write_edges<W: Write>(
 
 // The edges of a rule.
 fn push_rule(text: &mut String, diagram: Diagram<'_>, rule: &Rule) -> Result<(), AllocError> {
-    let Some(from) = diagram.place_of(rule.phase.number) else {
+    let Some(from) = diagram.index_of(rule.phase.number) else {
         return Ok(());
     };
     let steps = diagram.steps(rule, "\\n")?;
     for step in &steps {
         if let Deed::GoTo(phase) = step.deed
-            && let Some(to) = diagram.place_of(phase)
+            && let Some(to) = diagram.index_of(phase)
         {
             push_edge(text, from, to, rule.sort, step.conditions.as_str())?;
         }
@@ -202,8 +202,8 @@ fn looks_of(sort: RuleSort) -> (&'static str, &'static str) {
 }
 
 impl<'d> Diagram<'d> {
-    // The place of the phase with a name of this number.
-    fn place_of(self, phase: u32) -> Option<usize> {
+    // The index of the phase with a name of this number.
+    fn index_of(self, phase: u32) -> Option<usize> {
         self.phases.iter().position(|name| name.number == phase)
     }
 

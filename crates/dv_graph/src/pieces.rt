@@ -2,7 +2,7 @@
 
 use dv_check::GREATEST_DEPTH;
 use dv_syntax::Model;
-use dv_tree::{PlacedPart, Tree};
+use dv_tree::{ResolvedPart, Tree};
 use std::alloc::AllocError;
 
 /// The name of a graph, and how its nodes and edges look.
@@ -29,15 +29,15 @@ pub(crate) fn push_name(text: &mut String, name: &str) -> Result<(), AllocError>
 pub(crate) fn push_part(
     text: &mut String,
     tree: &Tree,
-    part: &PlacedPart,
+    part: &ResolvedPart,
 ) -> Result<(), AllocError> {
     push_name(text, tree.name(part.name.number))?;
     text.push_str(": ")?;
     push_name(text, model_name(tree, part.model))
 }
 
-fn model_name<'t>(tree: &'t Tree<'_>, place: usize) -> &'t str {
-    match tree.reached().get(place) {
+fn model_name<'t>(tree: &'t Tree<'_>, index: usize) -> &'t str {
+    match tree.reached().get(index) {
         Some(Model::Atomic(model)) => tree.name(model.name.number),
         Some(Model::Coupled(model)) => tree.name(model.name.number),
         None => "",
@@ -77,7 +77,7 @@ pub(crate) fn inputs_of<'t>(tree: &'t Tree<'_>, component: u32) -> &'t [u32] {
     }
 }
 
-/// The name of the port at a place of some ports.
+/// The name of the port at an index of some ports.
 pub(crate) fn port_name<'t>(tree: &'t Tree<'_>, ports: &[u32], port: u32) -> &'t str {
     match ports.get(port as usize) {
         Some(number) => tree.name(*number),

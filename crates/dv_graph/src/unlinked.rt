@@ -9,8 +9,8 @@ use std::alloc::{AllocError, Global};
 /// The most unlinked ports that a node names.
 const MOST_TOLD: usize = 3;
 
-/// The ports from and to which links lead, through whatever coupled models, ascending: of components by number and place, and of the
-/// root by place.
+/// The ports from and to which links lead, through whatever coupled models, ascending: of components by number and index, and of the
+/// root by index.
 #[derive(Drop)]
 pub(crate) struct LinkedPorts {
     inputs: Vec<(u32, u32)>,
@@ -119,8 +119,8 @@ pub(crate) fn push_unlinked(
     ports: &[UnlinkedPort<'_>],
 ) -> Result<(), AllocError> {
     text.push_str("<br/><font point-size=\"10\" color=\"gray40\">unlinked: ")?;
-    for (place, port) in ports.iter().take(MOST_TOLD).enumerate() {
-        if place > 0 {
+    for (index, port) in ports.iter().take(MOST_TOLD).enumerate() {
+        if index > 0 {
             text.push_str(", ")?;
         }
         push_port(text, *port)?;

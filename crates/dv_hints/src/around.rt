@@ -6,8 +6,11 @@ use dv_syntax::{Name, RuleSort};
 /// and the variables of the loops around, the outermost first.
 #[derive(Clone, Copy)]
 pub struct Around {
+    /// The sort of the rule; none in a hold.
     pub rule: Option<RuleSort>,
+    /// The phase of the rule or the hold.
     pub phase: Name,
+    /// The variables of the loops around, the outermost first.
     pub loops: [Option<Name>; 3],
 }
 

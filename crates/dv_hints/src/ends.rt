@@ -18,7 +18,7 @@ enum Side {
 
 /// An end of a link, and which one it is.
 #[derive(Clone, Copy)]
-struct PlacedEnd {
+struct LocatedEnd {
     side: Side,
     end: End,
     link: Link,
@@ -53,9 +53,9 @@ impl Side {
     }
 }
 
-impl PlacedEnd {
+impl LocatedEnd {
     fn of(link: &Link, side: Side) -> Self {
-        PlacedEnd {
+        LocatedEnd {
             side,
             end: match side {
                 Side::From => link.from,
@@ -75,27 +75,27 @@ impl PlacedEnd {
 
     /// The end on the other side.
     fn other(&self) -> Self {
-        PlacedEnd::of(&self.link, self.side.other())
+        LocatedEnd::of(&self.link, self.side.other())
     }
 }
 
-/// The end of a link whose part or port stands at a place.
-fn end_at(model: &Coupled, place: u32) -> Option<PlacedEnd> {
+/// The end of a link whose part or port stands at an offset.
+fn end_at(model: &Coupled, offset: u32) -> Option<LocatedEnd> {
     for link in &model.links {
-        if is_at(&link.from, place) {
-            return Some(PlacedEnd::of(link, Side::From));
+        if is_at(&link.from, offset) {
+            return Some(LocatedEnd::of(link, Side::From));
         }
-        if is_at(&link.to, place) {
-            return Some(PlacedEnd::of(link, Side::To));
+        if is_at(&link.to, offset) {
+            return Some(LocatedEnd::of(link, Side::To));
         }
     }
     None
 }
 
-fn is_at(end: &End, place: u32) -> bool {
+fn is_at(end: &End, offset: u32) -> bool {
     match end.part {
-        Some(part) if part.place == place => true,
-        _ => end.port.place == place,
+        Some(part) if part.offset == offset => true,
+        _ => end.port.offset == offset,
     }
 }
 
@@ -108,23 +108,23 @@ pub fn unknown_in(
     alloc: Global,
     read: &ReadText,
     model: &Coupled,
-    place: u32,
+    offset: u32,
 ) -> Result<Option<Cause>, AllocError> {
-    if let Some(part) = model.parts.iter().find(|part| part.model.place == place) {
+    if let Some(part) = model.parts.iter().find(|part| part.model.offset == offset) {
         let names = model_names(alloc, read)?;
         let cause = unknown(alloc, read, part.model, "a model", "the text", &names)?;
         return Ok(Some(cause));
     }
-    let Some(placed) = end_at(model, place) else {
+    let Some(located) = end_at(model, offset) else {
         return Ok(None);
     };
-    match placed.end.part {
-        Some(part) if part.place == place => {
+    match located.end.part {
+        Some(part) if part.offset == offset => {
             let mut cause = unknown_part(alloc, read, model, part)?;
-            tell_own_port(&mut cause, read, model, &placed)?;
+            tell_own_port(&mut cause, read, model, &located)?;
             Ok(Some(cause))
         }
-        _ => Ok(Some(unknown_port(alloc, read, model, &placed)?)),
+        _ => Ok(Some(unknown_port(alloc, read, model, &located)?)),
     }
 }
 
@@ -175,12 +175,12 @@ fn tell_own_port(
     cause: &mut Cause,
     read: &ReadText,
     model: &Coupled,
-    placed: &PlacedEnd,
+    located: &LocatedEnd,
 ) -> Result<(), AllocError> {
-    let Some(part) = placed.end.part else {
+    let Some(part) = located.end.part else {
         return Ok(());
     };
-    let port = read.name(placed.end.port.number);
+    let port = read.name(located.end.port.number);
     if part.number == model.name.number {
         write!(
             cause.sentences,
@@ -202,12 +202,12 @@ fn unknown_port(
     alloc: Global,
     read: &ReadText,
     model: &Coupled,
-    placed: &PlacedEnd,
+    located: &LocatedEnd,
 ) -> Result<Cause, AllocError> {
-    let ports = ports_of(alloc, read, model, placed)?;
+    let ports = ports_of(alloc, read, model, located)?;
     Ok(Cause {
-        summary: unknown_name(alloc, read.name(placed.end.port.number), &ports)?,
-        sentences: ports_sentence(alloc, read, model, placed, &ports)?,
+        summary: unknown_name(alloc, read.name(located.end.port.number), &ports)?,
+        sentences: ports_sentence(alloc, read, model, located, &ports)?,
     })
 }
 
@@ -216,14 +216,14 @@ fn ports_sentence(
     alloc: Global,
     read: &ReadText,
     model: &Coupled,
-    placed: &PlacedEnd,
+    located: &LocatedEnd,
     ports: &[&str],
 ) -> Result<String, AllocError> {
-    let owner = owner_of(alloc, read, model, placed)?;
+    let owner = owner_of(alloc, read, model, located)?;
     if ports.is_empty() {
-        return wanted_sentence(alloc, placed.wanted(), owner.as_str(), ports);
+        return wanted_sentence(alloc, located.wanted(), owner.as_str(), ports);
     }
-    let wanted = format!(in alloc; "{} of {owner}", placed.wanted())?;
+    let wanted = format!(in alloc; "{} of {owner}", located.wanted())?;
     wanted_sentence(alloc, wanted.as_str(), owner.as_str(), ports)
 }
 
@@ -232,18 +232,18 @@ fn owner_of(
     alloc: Global,
     read: &ReadText,
     model: &Coupled,
-    placed: &PlacedEnd,
+    located: &LocatedEnd,
 ) -> Result<String, AllocError> {
-    match face(read, model, placed) {
+    match face(read, model, located) {
         Some(model) => format!(in alloc; "{}", Quoted(read.name(name_of_model(model).number))),
         None => String::from_str(alloc, "it"),
     }
 }
 
 /// The model whose port an end names.
-fn face<'a>(read: &'a ReadText, model: &Coupled, placed: &PlacedEnd) -> Option<&'a Model> {
-    match placed.end.part {
-        None => model_around(&read.file, model.name.place),
+fn face<'a>(read: &'a ReadText, model: &Coupled, located: &LocatedEnd) -> Option<&'a Model> {
+    match located.end.part {
+        None => model_around(&read.file, model.name.offset),
         Some(name) => {
             let part = model
                 .parts
@@ -259,10 +259,10 @@ fn ports_of<'a>(
     alloc: Global,
     read: &'a ReadText,
     model: &Coupled,
-    placed: &PlacedEnd,
+    located: &LocatedEnd,
 ) -> Result<Vec<&'a str>, AllocError> {
-    let wanted = placed.wanted();
-    match face(read, model, placed) {
+    let wanted = located.wanted();
+    match face(read, model, located) {
         Some(Model::Atomic(atomic)) => ports_of_atomic(alloc, read, atomic, wanted),
         Some(Model::Coupled(coupled)) => match wanted {
             NameSort::Input => texts_of(alloc, read, &coupled.inputs),
@@ -301,7 +301,7 @@ fn texts_of<'a>(
     Ok(texts)
 }
 
-/// The words on an end of a link that leads the wrong way, whose port is at a place.
+/// The words on an end of a link that leads the wrong way, whose port is at an offset.
 ///
 /// # Errors
 ///
@@ -310,24 +310,24 @@ pub fn wrong_way_in(
     alloc: Global,
     read: &ReadText,
     model: &Coupled,
-    place: u32,
+    offset: u32,
 ) -> Result<Option<Cause>, AllocError> {
-    let Some(placed) = end_at(model, place) else {
+    let Some(located) = end_at(model, offset) else {
         return Ok(None);
     };
-    let found = match placed.wanted() {
+    let found = match located.wanted() {
         NameSort::Input => NameSort::Output,
         _ => NameSort::Input,
     };
-    let instead = instead_of(alloc, read, model, &placed)?;
+    let instead = instead_of(alloc, read, model, &located)?;
     Ok(Some(Cause {
         summary: format!(in alloc;
             "a link can't {} at `{}.{}`, which is {found}",
-            placed.side.verb(),
-            part_name(read, &placed.end),
-            read.name(placed.end.port.number)
+            located.side.verb(),
+            part_name(read, &located.end),
+            read.name(located.end.port.number)
         )?,
-        sentences: format!(in alloc; "{}{instead}", placed.side.rule())?,
+        sentences: format!(in alloc; "{}{instead}", located.side.rule())?,
     }))
 }
 
@@ -336,24 +336,24 @@ fn instead_of(
     alloc: Global,
     read: &ReadText,
     model: &Coupled,
-    placed: &PlacedEnd,
+    located: &LocatedEnd,
 ) -> Result<String, AllocError> {
-    if is_turned(read, model, &placed.other()) {
-        let turned = ends_text(alloc, read, &placed.link.to, &placed.link.from)?;
+    if is_turned(read, model, &located.other()) {
+        let turned = ends_text(alloc, read, &located.link.to, &located.link.from)?;
         format!(in alloc; "The other way round it may stand: `{turned}`.\n")
     } else {
-        let ports = ports_of(alloc, read, model, placed)?;
-        ports_sentence(alloc, read, model, placed, &ports)
+        let ports = ports_of(alloc, read, model, located)?;
+        ports_sentence(alloc, read, model, located, &ports)
     }
 }
 
 /// Whether the port of an end has the direction that is not wanted there.
-fn is_turned(read: &ReadText, model: &Coupled, placed: &PlacedEnd) -> bool {
-    let Some(face) = face(read, model, placed) else {
+fn is_turned(read: &ReadText, model: &Coupled, located: &LocatedEnd) -> bool {
+    let Some(face) = face(read, model, located) else {
         return false;
     };
-    match port_sort(face, placed.end.port.number) {
-        Some(sort) => sort != placed.wanted(),
+    match port_sort(face, located.end.port.number) {
+        Some(sort) => sort != located.wanted(),
         None => false,
     }
 }
@@ -394,9 +394,9 @@ pub fn leads_back(
     alloc: Global,
     read: &ReadText,
     model: &Coupled,
-    place: u32,
+    offset: u32,
 ) -> Result<Option<Cause>, AllocError> {
-    let Some(link) = model.links.iter().find(|link| link.place == place) else {
+    let Some(link) = model.links.iter().find(|link| link.offset == offset) else {
         return Ok(None);
     };
     let from = part_name(read, &link.from);

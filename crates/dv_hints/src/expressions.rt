@@ -10,11 +10,11 @@ use dv_bag::ValueType;
 use dv_lex::RefusalNumber;
 use dv_syntax::{Expr, Name, Operator, RuleSort};
 
-/// The type of an expression, where it has one, and the place of its first token.
+/// The type of an expression, where it has one, and the offset of its first token.
 #[derive(Clone, Copy)]
 struct Typed {
     value_type: Option<ValueType>,
-    place: u32,
+    offset: u32,
 }
 
 /// Looks through an expression whose value is taken.
@@ -48,21 +48,21 @@ pub fn look_through_assigned(
 
 fn look_through(known: &Known, around: &Around, expression: &Expr, search: &mut Search) -> Typed {
     match expression {
-        Expr::Literal(number) => of_type(Some(ValueType::Number), number.place),
-        Expr::TruthValue { place, .. } => of_type(Some(ValueType::Truth), *place),
-        Expr::Named(name) => of_type(look_at_value(known, around, *name, search), name.place),
-        Expr::Parens { place, inner } => {
+        Expr::Literal(number) => of_type(Some(ValueType::Number), number.offset),
+        Expr::TruthValue { offset, .. } => of_type(Some(ValueType::Truth), *offset),
+        Expr::Named(name) => of_type(look_at_value(known, around, *name, search), name.offset),
+        Expr::Parens { offset, inner } => {
             let given = look_through(known, around, inner, search);
-            of_type(given.value_type, *place)
+            of_type(given.value_type, *offset)
         }
         Expr::Prefixed {
             operator,
-            place,
+            offset,
             operand,
         } => {
             let given = look_through(known, around, operand, search);
             let taker = Taker::Prefix(*operator);
-            of_type(take(taker, given, search), *place)
+            of_type(take(taker, given, search), *offset)
         }
         Expr::Binary {
             operator,
@@ -71,29 +71,29 @@ fn look_through(known: &Known, around: &Around, expression: &Expr, search: &mut 
         } => {
             let a = look_through(known, around, left, search);
             let b = look_through(known, around, right, search);
-            of_type(operate(*operator, a, b, search), a.place)
+            of_type(operate(*operator, a, b, search), a.offset)
         }
-        Expr::Call { call, place, bag } => {
+        Expr::Call { call, offset, bag } => {
             look_at_held(known, around, Wanted::by(*call), *bag, search);
-            of_type(Some(ValueType::Number), *place)
+            of_type(Some(ValueType::Number), *offset)
         }
-        Expr::Elapsed { place } => {
+        Expr::Elapsed { offset } => {
             if around.rule != Some(RuleSort::External) {
-                search.note_misplaced(*place, Misplaced::Elapsed, around);
+                search.note_misplaced(*offset, Misplaced::Elapsed, around);
             }
-            of_type(Some(ValueType::Number), *place)
+            of_type(Some(ValueType::Number), *offset)
         }
-        Expr::Times { place, value, bag } => {
+        Expr::Times { offset, value, bag } => {
             let given = look_through(known, around, value, search);
             take(Taker::Times, given, search);
             look_at_held(known, around, Wanted::Bag, *bag, search);
-            of_type(Some(ValueType::Number), *place)
+            of_type(Some(ValueType::Number), *offset)
         }
     }
 }
 
-fn of_type(value_type: Option<ValueType>, place: u32) -> Typed {
-    Typed { value_type, place }
+fn of_type(value_type: Option<ValueType>, offset: u32) -> Typed {
+    Typed { value_type, offset }
 }
 
 /// Looks at a name where a value is wanted, and answers the type of it.
@@ -123,7 +123,7 @@ pub fn look_at_held(
     let sort = known.sort(around, name.number);
     search.note_name(name, sort, wanted, around);
     if sort == Some(NameSort::Input) && wanted.suits(NameSort::Input) && !around.sees_inputs() {
-        search.note_misplaced(name.place, Misplaced::Input(name), around);
+        search.note_misplaced(name.offset, Misplaced::Input(name), around);
     }
 }
 
@@ -162,7 +162,7 @@ fn take(taker: Taker, given: Typed, search: &mut Search) -> Option<ValueType> {
     }
     search.note(
         RefusalNumber::E8,
-        given.place,
+        given.offset,
         Reason::Type { found, taker },
     );
     None

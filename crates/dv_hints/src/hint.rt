@@ -22,13 +22,13 @@ use std::alloc::{AllocError, Global};
 ///
 /// No memory for the tokens, the tree or the words.
 pub fn hint_on(alloc: Global, text: &[u8], refusal: &TextError) -> Result<Cause, AllocError> {
-    let place = refusal.place as usize;
+    let offset = refusal.offset as usize;
     match refusal.number {
         RefusalNumber::E1 => Cause::of(alloc, "a byte that belongs to no whole character", ""),
-        RefusalNumber::E2 => stray_at(alloc, text, place),
+        RefusalNumber::E2 => stray_at(alloc, text, offset),
         RefusalNumber::E3 => Cause::of(alloc, "a number above 9223372036854775807", ""),
-        RefusalNumber::E4 => unexpected_at(alloc, text, place),
-        RefusalNumber::E5 => Cause::of(alloc, nesting_at(text, place), ""),
+        RefusalNumber::E4 => unexpected_at(alloc, text, offset),
+        RefusalNumber::E5 => Cause::of(alloc, nesting_at(text, offset), ""),
         RefusalNumber::E17 if text.len() > GREATEST_LENGTH => too_long(alloc, text.len()),
         _ => match read(alloc, text)? {
             Some(read) => hint_in_tree(alloc, text, &read, refusal),
@@ -44,21 +44,21 @@ fn hint_in_tree(
     read: &ReadText,
     refusal: &TextError,
 ) -> Result<Cause, AllocError> {
-    let place = refusal.place;
-    if place == read.file.root.place {
+    let offset = refusal.offset;
+    if offset == read.file.root.offset {
         return hint_on_root(alloc, read, refusal.number);
     }
     match refusal.number {
-        RefusalNumber::E15 => return own_part(alloc, read, place),
-        RefusalNumber::E17 => return limit_at(alloc, read, place),
+        RefusalNumber::E15 => return own_part(alloc, read, offset),
+        RefusalNumber::E17 => return limit_at(alloc, read, offset),
         RefusalNumber::E6 => {
-            if let Some(cause) = repeat_at(alloc, text, read, place)? {
+            if let Some(cause) = repeat_at(alloc, text, read, offset)? {
                 return Ok(cause);
             }
         }
         _ => {}
     }
-    match model_around(&read.file, place) {
+    match model_around(&read.file, offset) {
         Some(Model::Atomic(atomic)) => hint_in_atomic(alloc, text, read, atomic, refusal),
         Some(Model::Coupled(coupled)) => {
             let cause = hint_in_coupled(alloc, text, read, coupled, refusal)?;
@@ -84,7 +84,7 @@ fn hint_on_root(
     match number {
         RefusalNumber::E7 => unknown_root(alloc, read),
         RefusalNumber::E16 => atomic_root(alloc, read),
-        _ => limit_at(alloc, read, read.file.root.place),
+        _ => limit_at(alloc, read, read.file.root.offset),
     }
 }
 
@@ -96,11 +96,11 @@ fn hint_in_atomic(
     refusal: &TextError,
 ) -> Result<Cause, AllocError> {
     match refusal.number {
-        RefusalNumber::E10 => item_at(alloc, text, read, model, refusal.place),
-        RefusalNumber::E11 => start_at(alloc, model, refusal.place),
+        RefusalNumber::E10 => item_at(alloc, text, read, model, refusal.offset),
+        RefusalNumber::E11 => start_at(alloc, model, refusal.offset),
         _ => {
             let known = Known::of(alloc, model)?;
-            let mut search = Search::new(refusal.number, refusal.place);
+            let mut search = Search::new(refusal.number, refusal.offset);
             look_through_model(&known, model, &mut search);
             match search.found {
                 Some(reason) => cause_of(alloc, text, read, model, &known, &reason),
@@ -118,10 +118,10 @@ fn hint_in_coupled(
     refusal: &TextError,
 ) -> Result<Option<Cause>, AllocError> {
     match refusal.number {
-        RefusalNumber::E7 => unknown_in(alloc, read, model, refusal.place),
-        RefusalNumber::E12 => wrong_way_in(alloc, read, model, refusal.place),
-        RefusalNumber::E13 => leads_back(alloc, read, model, refusal.place),
-        RefusalNumber::E14 => repeated_link(alloc, text, read, model, refusal.place),
+        RefusalNumber::E7 => unknown_in(alloc, read, model, refusal.offset),
+        RefusalNumber::E12 => wrong_way_in(alloc, read, model, refusal.offset),
+        RefusalNumber::E13 => leads_back(alloc, read, model, refusal.offset),
+        RefusalNumber::E14 => repeated_link(alloc, text, read, model, refusal.offset),
         _ => Ok(None),
     }
 }

@@ -6,11 +6,13 @@ use dv_syntax::Atomic;
 use std::alloc::{AllocError, Global};
 use std::collections::{HashMap, HashSet};
 
-/// A name as it is declared first: what it stands for, and its place.
+/// A name as it is declared first: what it stands for, and its offset.
 #[derive(Clone, Copy)]
 pub struct Declared {
+    /// What the name stands for.
     pub sort: NameSort,
-    pub place: u32,
+    /// The offset of its first declaration, in bytes of the text.
+    pub offset: u32,
 }
 
 /// What the names of an atomic model stand for.
@@ -33,7 +35,7 @@ impl Known {
             if declared.get(&name.number).is_none() {
                 let first = Declared {
                     sort: sort_of(declaration),
-                    place: name.place,
+                    offset: name.offset,
                 };
                 declared.insert(name.number, first)?;
             }
@@ -49,7 +51,7 @@ impl Known {
         self.declared.get(&number).copied()
     }
 
-    /// What a name that is no phase stands for at a place.
+    /// What a name that is no phase stands for at an offset.
     pub fn sort(&self, around: &Around, number: u32) -> Option<NameSort> {
         match around.loop_variable(number) {
             Some(_) => Some(NameSort::LoopVariable),

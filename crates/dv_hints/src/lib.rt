@@ -1,7 +1,12 @@
-//! Which case of its number the refusal of a model is, and what to write instead.
+//! Of a refused model: which case of its number the refusal is, and what to write instead.
 //!
-//! A refusal is a number and a place. What stands at the place is found anew in the tree of the text, with the names that are in
-//! reach there; that the text is refused is decided elsewhere.
+//! A refusal is a number and an offset in the text. `hint_on` looks there once more, in the tokens or the tree of the
+//! text, with the names that are in reach, and gives a `Cause` of `dv_explain`: a summary in one line, and sentences
+//! that help. `unknown_name` lists names that are near one that is not known.
+//!
+//! `dv_cause` prints these causes for `--explain`, and `dv_views` looks near names up. That a text is refused, and by
+//! which number, is decided in `dv_check` and below. Nothing is claimed of hints but that they are made without a
+//! fault of the program.
 #![tactic(auto)]
 
 /// From a refusal to its cause: the door of the crate.
@@ -31,7 +36,7 @@ mod models;
 /// Near names, which other refusals of names tell too.
 pub mod near;
 
-/// What is wrong at a place of an atomic model.
+/// What is wrong at an offset of an atomic model.
 mod reason;
 
 /// Texts that have a tree.
@@ -58,7 +63,7 @@ mod taker;
 /// What a name has to stand for.
 mod wanted;
 
-/// Sentences on what is wrong at a place of an atomic model.
+/// Sentences on what is wrong at an offset of an atomic model.
 mod words;
 
 pub use hint::hint_on;

@@ -32,7 +32,7 @@ impl fmt::Display for Choice<'_> {
     }
 }
 
-/// A sentence with a line feed on what is wanted at a place, and the names that may stand there. `owner` is what may have such
+/// A sentence with a line feed on what is wanted at an offset, and the names that may stand there. `owner` is what may have such
 /// names.
 ///
 /// # Errors

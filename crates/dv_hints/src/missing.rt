@@ -9,7 +9,7 @@ use std::collections::HashSet;
 /// The most items that are told to be missing.
 const MOST_TOLD: usize = 8;
 
-/// The words on an item that the model lacks whose name is at a place, or on the word at a place that stands there twice.
+/// The words on an item that the model lacks whose name is at an offset, or on the word at an offset that stands there twice.
 ///
 /// # Errors
 ///
@@ -19,12 +19,12 @@ pub fn item_at(
     text: &[u8],
     read: &ReadText,
     model: &Atomic,
-    place: u32,
+    offset: u32,
 ) -> Result<Cause, AllocError> {
-    if model.name.place == place {
+    if model.name.offset == offset {
         missing(alloc, read, model)
     } else {
-        twice(alloc, text, read, model, place)
+        twice(alloc, text, read, model, offset)
     }
 }
 
@@ -100,16 +100,16 @@ fn held_phases(alloc: Global, model: &Atomic) -> Result<HashSet<u32>, AllocError
     Ok(held)
 }
 
-/// The item whose word is at a place, which stands there twice.
+/// The item whose word is at an offset, which stands there twice.
 fn twice(
     alloc: Global,
     text: &[u8],
     read: &ReadText,
     model: &Atomic,
-    place: u32,
+    offset: u32,
 ) -> Result<Cause, AllocError> {
-    if model.phases.iter().any(|item| item.place == place) {
-        let first = model.phases.first().map(|item| item.place);
+    if model.phases.iter().any(|item| item.offset == offset) {
+        let first = model.phases.first().map(|item| item.offset);
         return told_twice(
             alloc,
             text,
@@ -118,11 +118,11 @@ fn twice(
             "`phases z, w;` names all phases.\n",
         );
     }
-    if model.starts.iter().any(|item| item.place == place) {
-        let first = model.starts.first().map(|item| item.place);
+    if model.starts.iter().any(|item| item.offset == offset) {
+        let first = model.starts.first().map(|item| item.offset);
         return told_twice(alloc, text, "`start`", first, "");
     }
-    match model.holds.iter().find(|item| item.place == place) {
+    match model.holds.iter().find(|item| item.offset == offset) {
         Some(second) => {
             let first = first_hold(model, second.phase);
             let name = format!(in alloc; "the hold of {}", Quoted(read.name(second.phase.number)))?;
@@ -132,13 +132,13 @@ fn twice(
     }
 }
 
-/// The place of the first hold of a phase.
+/// The offset of the first hold of a phase.
 fn first_hold(model: &Atomic, phase: Name) -> Option<u32> {
     let hold = model
         .holds
         .iter()
         .find(|hold| hold.phase.number == phase.number)?;
-    Some(hold.place)
+    Some(hold.offset)
 }
 
 fn told_twice(

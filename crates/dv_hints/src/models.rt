@@ -11,12 +11,12 @@ pub fn name_of(model: &Model) -> Name {
     }
 }
 
-/// The model around a place. Behind the models it is the last one.
-pub fn model_around(file: &File, place: u32) -> Option<&Model> {
+/// The model around an offset. Behind the models it is the last one.
+pub fn model_around(file: &File, offset: u32) -> Option<&Model> {
     file.models
         .iter()
         .rev()
-        .find(|model| name_of(model).place <= place)
+        .find(|model| name_of(model).offset <= offset)
 }
 
 /// The first model of a name.
@@ -37,8 +37,8 @@ pub fn port_sort(model: &Model, number: u32) -> Option<NameSort> {
             if_port(sort_of(declaration))
         }
         Model::Coupled(coupled) => {
-            let input = place_of(&coupled.inputs, number);
-            let output = place_of(&coupled.outputs, number);
+            let input = offset_of(&coupled.inputs, number);
+            let output = offset_of(&coupled.outputs, number);
             match (input, output) {
                 (None, None) => None,
                 (Some(_), None) => Some(NameSort::Input),
@@ -62,6 +62,6 @@ fn if_port(sort: NameSort) -> Option<NameSort> {
 }
 
 /// Where a name stands first.
-fn place_of(names: &[Name], number: u32) -> Option<u32> {
-    Some(names.iter().find(|name| name.number == number)?.place)
+fn offset_of(names: &[Name], number: u32) -> Option<u32> {
+    Some(names.iter().find(|name| name.number == number)?.offset)
 }

@@ -10,7 +10,9 @@ use std::alloc::{AllocError, Global};
 /// A text that has a tree.
 #[derive(Drop)]
 pub struct ReadText {
+    /// The tree of the text.
     pub file: File,
+    /// The texts of the names.
     pub names: Names,
     /// Whether the text knows the words of queues.
     pub knows_queues: bool,
@@ -51,7 +53,7 @@ fn parsed(alloc: Global, text: &[u8]) -> Result<ReadText, LoadError> {
     })
 }
 
-/// The position of a place of a text.
-pub fn position(text: &[u8], place: u32) -> Position {
-    Position::of(text, place as usize)
+/// The position of an offset of a text.
+pub fn position(text: &[u8], offset: u32) -> Position {
+    Position::of(text, offset as usize)
 }

@@ -1,4 +1,4 @@
-//! What is wrong at a place of an atomic model.
+//! What is wrong at an offset of an atomic model.
 
 use crate::around::Around;
 use crate::sorts::NameSort;
@@ -23,53 +23,67 @@ pub enum Misplaced {
     Input(Name),
 }
 
-/// What is wrong at a place of an atomic model.
+/// What is wrong at an offset of an atomic model.
 #[derive(Clone, Copy)]
 pub enum Reason {
     /// A name that is unknown, or stands for something else than is wanted.
     Name {
+        /// The name.
         name: Name,
+        /// What it stands for; none where it is unknown.
         sort: Option<NameSort>,
+        /// What it should stand for.
         wanted: Wanted,
+        /// Where it stands.
         around: Around,
     },
     /// An expression whose value is of another type than is taken.
     Type {
+        /// The type of the value.
         found: ValueType,
+        /// What takes it.
         taker: Taker,
     },
+    /// What may not stand in this rule, or in a hold.
     Misplaced {
+        /// What stands there.
         what: Misplaced,
+        /// Where it stands.
         around: Around,
     },
     /// The variable of a loop and another name, which are the same.
     LoopVariable {
+        /// The variable of the loop.
         variable: Name,
+        /// The offset of the other name, in bytes of the text.
         other: u32,
     },
 }
 
-/// What is looked for: what is wrong by one number at one place, and what was found of it first.
+/// What is looked for: what is wrong by one number at one offset, and what was found of it first.
 #[derive(Clone, Copy)]
 pub struct Search {
+    /// The number of the refusal.
     pub number: RefusalNumber,
-    pub place: u32,
+    /// The offset that the refusal names, in bytes of the text.
+    pub offset: u32,
+    /// What was found there first.
     pub found: Option<Reason>,
 }
 
 impl Search {
     /// Nothing is found yet.
-    pub fn new(number: RefusalNumber, place: u32) -> Self {
+    pub fn new(number: RefusalNumber, offset: u32) -> Self {
         Search {
             number,
-            place,
+            offset,
             found: None,
         }
     }
 
-    /// Notes what is wrong by a number at a place, if it is looked for.
-    pub fn note(&mut self, number: RefusalNumber, place: u32, reason: Reason) {
-        if self.found.is_none() && number == self.number && place == self.place {
+    /// Notes what is wrong by a number at an offset, if it is looked for.
+    pub fn note(&mut self, number: RefusalNumber, offset: u32, reason: Reason) {
+        if self.found.is_none() && number == self.number && offset == self.offset {
             self.found = Some(reason);
         }
     }
@@ -93,15 +107,15 @@ impl Search {
             wanted,
             around: *around,
         };
-        self.note(number, name.place, reason);
+        self.note(number, name.offset, reason);
     }
 
     /// Notes what stands where it is not allowed.
-    pub fn note_misplaced(&mut self, place: u32, what: Misplaced, around: &Around) {
+    pub fn note_misplaced(&mut self, offset: u32, what: Misplaced, around: &Around) {
         let reason = Reason::Misplaced {
             what,
             around: *around,
         };
-        self.note(RefusalNumber::E9, place, reason);
+        self.note(RefusalNumber::E9, offset, reason);
     }
 }

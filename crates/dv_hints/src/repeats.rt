@@ -24,13 +24,13 @@ enum Space {
 
 /// A name, with what it is among, and as what it is declared.
 #[derive(Clone, Copy)]
-struct Placed {
+struct Located {
     name: Name,
     space: Space,
     kind: &'static str,
 }
 
-/// The words on a name at a place that stands there for the second time, but for the variables of loops.
+/// The words on a name at an offset that stands there for the second time, but for the variables of loops.
 ///
 /// # Errors
 ///
@@ -39,25 +39,25 @@ pub fn repeat_at(
     alloc: Global,
     text: &[u8],
     read: &ReadText,
-    place: u32,
+    offset: u32,
 ) -> Result<Option<Cause>, AllocError> {
-    let names = names_around(alloc, read, place)?;
-    let Some(second) = names.iter().find(|placed| placed.name.place == place) else {
+    let names = names_around(alloc, read, offset)?;
+    let Some(second) = names.iter().find(|located| located.name.offset == offset) else {
         return Ok(None);
     };
     let first = names
         .iter()
-        .filter(|placed| is_same(placed, second))
-        .min_by_key(|placed| placed.name.place);
+        .filter(|located| is_same(located, second))
+        .min_by_key(|located| located.name.offset);
     match first {
-        Some(first) if first.name.place < place => {
+        Some(first) if first.name.offset < offset => {
             Ok(Some(told(alloc, text, read, first, second)?))
         }
         _ => Ok(None),
     }
 }
 
-fn is_same(one: &Placed, other: &Placed) -> bool {
+fn is_same(one: &Located, other: &Located) -> bool {
     one.space == other.space && one.name.number == other.name.number
 }
 
@@ -65,11 +65,11 @@ fn told(
     alloc: Global,
     text: &[u8],
     read: &ReadText,
-    first: &Placed,
-    second: &Placed,
+    first: &Located,
+    second: &Located,
 ) -> Result<Cause, AllocError> {
     let name = Quoted(read.name(second.name.number));
-    let position = position(text, first.name.place);
+    let position = position(text, first.name.offset);
     let kind = first.kind;
     match first.space {
         Space::Rules(_) => Ok(Cause {
@@ -83,17 +83,17 @@ fn told(
     }
 }
 
-/// The names of the models, and those that the model around a place declares.
-fn names_around(alloc: Global, read: &ReadText, place: u32) -> Result<Vec<Placed>, AllocError> {
+/// The names of the models, and those that the model around an offset declares.
+fn names_around(alloc: Global, read: &ReadText, offset: u32) -> Result<Vec<Located>, AllocError> {
     let mut names = Vec::new(alloc);
     for model in &read.file.models {
-        names.push(Placed {
+        names.push(Located {
             name: name_of(model),
             space: Space::Models,
             kind: "a model",
         })?;
     }
-    match model_around(&read.file, place) {
+    match model_around(&read.file, offset) {
         Some(Model::Atomic(atomic)) => push_atomic(&mut names, atomic)?,
         Some(Model::Coupled(coupled)) => push_coupled(&mut names, coupled)?,
         None => {}
@@ -101,9 +101,9 @@ fn names_around(alloc: Global, read: &ReadText, place: u32) -> Result<Vec<Placed
     Ok(names)
 }
 
-fn push_atomic(names: &mut Vec<Placed>, model: &Atomic) -> Result<(), AllocError> {
+fn push_atomic(names: &mut Vec<Located>, model: &Atomic) -> Result<(), AllocError> {
     for declaration in &model.declarations {
-        names.push(Placed {
+        names.push(Located {
             name: name_of_declaration(declaration),
             space: Space::Declarations,
             kind: sort_of(declaration).words(),
@@ -113,7 +113,7 @@ fn push_atomic(names: &mut Vec<Placed>, model: &Atomic) -> Result<(), AllocError
         push_all(names, &item.names, Space::Phases, "a phase")?;
     }
     for rule in &model.rules {
-        names.push(Placed {
+        names.push(Located {
             name: rule.phase,
             space: Space::Rules(rule.sort),
             kind: Rule(Some(rule.sort)).words(),
@@ -122,11 +122,11 @@ fn push_atomic(names: &mut Vec<Placed>, model: &Atomic) -> Result<(), AllocError
     Ok(())
 }
 
-fn push_coupled(names: &mut Vec<Placed>, model: &Coupled) -> Result<(), AllocError> {
+fn push_coupled(names: &mut Vec<Located>, model: &Coupled) -> Result<(), AllocError> {
     push_all(names, &model.inputs, Space::Ports, "an input port")?;
     push_all(names, &model.outputs, Space::Ports, "an output port")?;
     for part in &model.parts {
-        names.push(Placed {
+        names.push(Located {
             name: part.name,
             space: Space::Parts,
             kind: "a part",
@@ -136,13 +136,13 @@ fn push_coupled(names: &mut Vec<Placed>, model: &Coupled) -> Result<(), AllocErr
 }
 
 fn push_all(
-    placed: &mut Vec<Placed>,
+    located: &mut Vec<Located>,
     names: &[Name],
     space: Space,
     kind: &'static str,
 ) -> Result<(), AllocError> {
     for name in names {
-        placed.push(Placed {
+        located.push(Located {
             name: *name,
             space,
             kind,
@@ -151,7 +151,7 @@ fn push_all(
     Ok(())
 }
 
-/// The words on a link whose word `link` is at a place, and that stands there for the second time.
+/// The words on a link whose word `link` is at an offset, and that stands there for the second time.
 ///
 /// # Errors
 ///
@@ -161,21 +161,21 @@ pub fn repeated_link(
     text: &[u8],
     read: &ReadText,
     model: &Coupled,
-    place: u32,
+    offset: u32,
 ) -> Result<Option<Cause>, AllocError> {
-    let Some(second) = model.links.iter().find(|link| link.place == place) else {
+    let Some(second) = model.links.iter().find(|link| link.offset == offset) else {
         return Ok(None);
     };
     let written = link_text(alloc, read, second)?;
     for first in &model.links {
-        if first.place < place
+        if first.offset < offset
             && is_same_end(&first.from, &second.from)
             && is_same_end(&first.to, &second.to)
         {
             return Ok(Some(Cause {
                 summary: format!(in alloc;
                     "`{written}` stands twice, first at {}",
-                    position(text, first.place)
+                    position(text, first.offset)
                 )?,
                 sentences: String::new(alloc),
             }));

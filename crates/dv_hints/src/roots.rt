@@ -83,16 +83,20 @@ fn wrapping(alloc: Global, read: &ReadText, model: &Atomic) -> Result<String, Al
     format!(in alloc; "Write `coupled {top} {{ {ports}part a: {name}; {links}}} root {top};`.\n")
 }
 
-/// The words on a part whose model, which is named at a place, leads back to the one that has the part.
+/// The words on a part whose model, which is named at an offset, leads back to the one that has the part.
 ///
 /// # Errors
 ///
 /// No memory for the words.
-pub fn own_part(alloc: Global, read: &ReadText, place: u32) -> Result<Cause, AllocError> {
-    let Some(Model::Coupled(coupled)) = model_around(&read.file, place) else {
+pub fn own_part(alloc: Global, read: &ReadText, offset: u32) -> Result<Cause, AllocError> {
+    let Some(Model::Coupled(coupled)) = model_around(&read.file, offset) else {
         return Cause::of(alloc, "", "");
     };
-    let Some(part) = coupled.parts.iter().find(|part| part.model.place == place) else {
+    let Some(part) = coupled
+        .parts
+        .iter()
+        .find(|part| part.model.offset == offset)
+    else {
         return Cause::of(alloc, "", "");
     };
     let own = read.name(coupled.name.number);
@@ -112,16 +116,16 @@ pub fn own_part(alloc: Global, read: &ReadText, place: u32) -> Result<Cause, All
     })
 }
 
-/// The words on a limit on size that is passed at a place: of a capacity, of a list of names, or of the tree of the root.
+/// The words on a limit on size that is passed at an offset: of a capacity, of a list of names, or of the tree of the root.
 ///
 /// # Errors
 ///
 /// No memory for the words.
-pub fn limit_at(alloc: Global, read: &ReadText, place: u32) -> Result<Cause, AllocError> {
-    if read.file.root.place == place {
+pub fn limit_at(alloc: Global, read: &ReadText, offset: u32) -> Result<Cause, AllocError> {
+    if read.file.root.offset == offset {
         return too_large(alloc, read);
     }
-    if let Some(collection) = collection_at(read, place) {
+    if let Some(collection) = collection_at(read, offset) {
         return Ok(Cause {
             summary: format!(in alloc;
                 "the capacity {} is outside of 1..4096",
@@ -165,14 +169,14 @@ fn is_without_parts(read: &ReadText) -> bool {
     }
 }
 
-/// The bag or queue whose capacity is at a place.
-fn collection_at(read: &ReadText, place: u32) -> Option<StateCollection> {
-    let Some(Model::Atomic(atomic)) = model_around(&read.file, place) else {
+/// The bag or queue whose capacity is at an offset.
+fn collection_at(read: &ReadText, offset: u32) -> Option<StateCollection> {
+    let Some(Model::Atomic(atomic)) = model_around(&read.file, offset) else {
         return None;
     };
     for declaration in &atomic.declarations {
         if let Declaration::Held(collection) = declaration
-            && collection.capacity.place == place
+            && collection.capacity.offset == offset
         {
             return Some(*collection);
         }

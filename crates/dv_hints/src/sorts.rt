@@ -7,12 +7,19 @@ use std::fmt;
 /// What a name of an atomic model stands for.
 #[derive(Clone, Copy, Debug, PartialEq, Eq)]
 pub enum NameSort {
+    /// An input port.
     Input,
+    /// An output port.
     Output,
+    /// A variable of the state, which holds a number.
     Variable,
+    /// A flag of the state.
     Flag,
+    /// A bag or a queue of the state.
     Held(Discipline),
+    /// The variable of a loop.
     LoopVariable,
+    /// A phase.
     Phase,
 }
 

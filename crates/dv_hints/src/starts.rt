@@ -6,24 +6,24 @@ use dv_explain::{Cause, explanation_of};
 use dv_syntax::{Atomic, Declaration};
 use std::alloc::{AllocError, Global};
 
-/// The words on a variable, whose name is at a place, that can't have its start value, or on the fault of the hold of the start
+/// The words on a variable, whose name is at an offset, that can't have its start value, or on the fault of the hold of the start
 /// phase, whose name behind `start` is there.
 ///
 /// # Errors
 ///
 /// No memory for the start or the words.
-pub fn start_at(alloc: Global, model: &Atomic, place: u32) -> Result<Cause, AllocError> {
-    match range_at(model, place) {
+pub fn start_at(alloc: Global, model: &Atomic, offset: u32) -> Result<Cause, AllocError> {
+    match range_at(model, offset) {
         Some(range) => out_of_range(alloc, &range),
-        None => start_hold(alloc, model, place),
+        None => start_hold(alloc, model, offset),
     }
 }
 
-/// The range of the variable whose name is at a place.
-fn range_at(model: &Atomic, place: u32) -> Option<VariableRange> {
+/// The range of the variable whose name is at an offset.
+fn range_at(model: &Atomic, offset: u32) -> Option<VariableRange> {
     for declaration in &model.declarations {
         if let Declaration::Var(variable) = declaration
-            && variable.name.place == place
+            && variable.name.offset == offset
         {
             return Some(VariableRange::of(variable));
         }
@@ -44,8 +44,12 @@ fn out_of_range(alloc: Global, range: &VariableRange) -> Result<Cause, AllocErro
     })
 }
 
-fn start_hold(alloc: Global, model: &Atomic, place: u32) -> Result<Cause, AllocError> {
-    match model.starts.iter().find(|start| start.phase.place == place) {
+fn start_hold(alloc: Global, model: &Atomic, offset: u32) -> Result<Cause, AllocError> {
+    match model
+        .starts
+        .iter()
+        .find(|start| start.phase.offset == offset)
+    {
         Some(start) => match start_fault(alloc, model, start.phase.number)? {
             Some(fault) => faulting(alloc, fault),
             None => Cause::of(alloc, "", ""),

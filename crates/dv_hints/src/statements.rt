@@ -57,12 +57,16 @@ fn look_through_statement(known: &Known, around: &Around, statement: &Stmt, sear
         }
         Stmt::Command {
             command,
-            place,
+            offset,
             name,
-        } => look_at_command(known, around, *command, *place, *name, search),
-        Stmt::Send { place, port, value } => {
+        } => look_at_command(known, around, *command, *offset, *name, search),
+        Stmt::Send {
+            offset,
+            port,
+            value,
+        } => {
             if around.rule != Some(RuleSort::Output) {
-                search.note_misplaced(*place, Misplaced::Send(*port), around);
+                search.note_misplaced(*offset, Misplaced::Send(*port), around);
             }
             let sort = known.sort(around, port.number);
             search.note_name(*port, sort, Wanted::Sender, around);
@@ -99,11 +103,11 @@ fn look_through_statement(known: &Known, around: &Around, statement: &Stmt, sear
         }
         Stmt::Change {
             change,
-            place,
+            offset,
             value,
             collection,
         } => {
-            deny_in_output(around, *place, word_of_change(*change), search);
+            deny_in_output(around, *offset, word_of_change(*change), search);
             look_through_taken(known, around, Taker::Change(*change), value, search);
             look_at_changed(known, around, change.discipline(), *collection, search);
         }
@@ -114,11 +118,11 @@ fn look_through_statement(known: &Known, around: &Around, statement: &Stmt, sear
 fn look_at_assigned(known: &Known, around: &Around, variable: Name, search: &mut Search) {
     match known.sort(around, variable.number) {
         Some(NameSort::LoopVariable) => {
-            search.note_misplaced(variable.place, Misplaced::LoopVariable(variable), around);
+            search.note_misplaced(variable.offset, Misplaced::LoopVariable(variable), around);
         }
         sort => {
             search.note_name(variable, sort, Wanted::Assigned, around);
-            deny_in_output(around, variable.place, ":=", search);
+            deny_in_output(around, variable.offset, ":=", search);
         }
     }
 }
@@ -127,17 +131,17 @@ fn look_at_command(
     known: &Known,
     around: &Around,
     command: Command,
-    place: u32,
+    offset: u32,
     name: Name,
     search: &mut Search,
 ) {
     match command {
         Command::Goto => {
-            deny_in_output(around, place, "goto", search);
+            deny_in_output(around, offset, "goto", search);
             look_at_phase(known, around, name, search);
         }
         Command::Pop => {
-            deny_in_output(around, place, "pop", search);
+            deny_in_output(around, offset, "pop", search);
             look_at_changed(known, around, Discipline::Queue, name, search);
         }
     }
@@ -158,21 +162,21 @@ fn look_at_changed(
 /// Looks at the name of a loop's variable: of two equal names the second in the text is refused.
 fn look_at_loop_variable(known: &Known, around: &Around, variable: Name, search: &mut Search) {
     let other = match around.loop_variable(variable.number) {
-        Some(outer) => Some(outer.place),
+        Some(outer) => Some(outer.offset),
         None => known
             .declared(variable.number)
-            .map(|declared| declared.place),
+            .map(|declared| declared.offset),
     };
     if let Some(other) = other {
-        let place = other.max(variable.place);
+        let offset = other.max(variable.offset);
         let reason = Reason::LoopVariable { variable, other };
-        search.note(RefusalNumber::E6, place, reason);
+        search.note(RefusalNumber::E6, offset, reason);
     }
 }
 
-fn deny_in_output(around: &Around, place: u32, word: &'static str, search: &mut Search) {
+fn deny_in_output(around: &Around, offset: u32, word: &'static str, search: &mut Search) {
     if around.rule == Some(RuleSort::Output) {
-        search.note_misplaced(place, Misplaced::Change(word), around);
+        search.note_misplaced(offset, Misplaced::Change(word), around);
     }
 }
 

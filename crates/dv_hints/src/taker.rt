@@ -7,6 +7,7 @@ use std::fmt;
 /// What takes the value of an expression.
 #[derive(Clone, Copy, Debug, PartialEq, Eq)]
 pub enum Taker {
+    /// An operator before its operand
     Prefix(Prefix),
     /// `and` or `or`
     Join,
@@ -14,14 +15,21 @@ pub enum Taker {
     Order,
     /// `=` or `!=`, where the other operand is of this type
     Equality(ValueType),
+    /// `+` and its like
     Arithmetic,
+    /// The condition of an `if`
     Condition,
+    /// The ticks of a hold
     Hold,
+    /// `send`
     Send,
+    /// What changes a collection with a value
     Change(Change),
     /// `times`
     Times,
+    /// An assignment to this variable
     Variable(Name),
+    /// An assignment to this flag
     Flag(Name),
 }
 

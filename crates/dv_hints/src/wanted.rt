@@ -6,9 +6,10 @@ use dv_bag::Discipline;
 use dv_syntax::BagCall;
 use std::fmt;
 
-/// What a name of an atomic model has to stand for at its place.
+/// What a name of an atomic model has to stand for at its offset.
 #[derive(Clone, Copy, Debug, PartialEq, Eq)]
 pub enum Wanted {
+    /// A phase.
     Phase,
     /// A variable or a flag that is read; the variable of a loop is one, too.
     Value,
@@ -53,17 +54,20 @@ impl Wanted {
         }
     }
 
-    /// Whether a name that stands for this may be there where the place is so.
+    /// Whether a name that stands for this may be there where the offset is so.
     pub fn suits_at(self, sort: NameSort, around: &Around) -> bool {
         self.suits(sort) && (sort != NameSort::Input || around.sees_inputs())
     }
 }
 
-/// What is wanted, as words for a place: an input port where one can be read, a queue where the text knows them.
+/// What is wanted, as words for an offset: an input port where one can be read, a queue where the text knows them.
 #[derive(Clone, Copy)]
 pub struct WantedWords {
+    /// What is wanted.
     pub wanted: Wanted,
+    /// Whether an input port can be read there.
     pub sees_inputs: bool,
+    /// Whether the text knows the words of queues.
     pub knows_queues: bool,
 }
 

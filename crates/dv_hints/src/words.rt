@@ -1,4 +1,4 @@
-//! Sentences on what is wrong at a place of an atomic model.
+//! Sentences on what is wrong at an offset of an atomic model.
 
 use crate::around::Around;
 use crate::known::Known;
@@ -192,7 +192,7 @@ fn words_of(read: &ReadText, wanted: Wanted, around: &Around) -> WantedWords {
     }
 }
 
-/// The names that may stand at a place, in the order in which they are declared; the variables of loops come last.
+/// The names that may stand at an offset, in the order in which they are declared; the variables of loops come last.
 fn names_in_reach<'a>(
     alloc: Global,
     read: &'a ReadText,
@@ -288,12 +288,12 @@ fn misplaced(
     };
     Ok(Cause {
         summary,
-        sentences: right_place(alloc, read, what, around)?,
+        sentences: right_offset(alloc, read, what, around)?,
     })
 }
 
 /// A sentence with a line feed on where it may stand.
-fn right_place(
+fn right_offset(
     alloc: Global,
     read: &ReadText,
     what: Misplaced,
@@ -335,10 +335,10 @@ fn loop_variable(
 ) -> Result<Cause, AllocError> {
     let name = Quoted(read.name(variable.number));
     let sort = match known.declared(variable.number) {
-        Some(declared) if declared.place == other => declared.sort,
+        Some(declared) if declared.offset == other => declared.sort,
         _ => NameSort::LoopVariable,
     };
-    let first = other.min(variable.place);
+    let first = other.min(variable.offset);
     let first_sort = if first == other {
         sort
     } else {

@@ -156,10 +156,10 @@ one_field rest some =
     (filter has_bytes (parts_behind (drop (prefix_len is_other rest) rest)))) has
     ∙ ap (λ (more : List (List ℕ)). take (prefix_len is_other rest) rest ∷ more) (other_fields rest)
 
-pub first_field : (line rest : List ℕ) (place n : ℕ) → place ≡ position_or_len is_other line
-    → position_or_len is_other line < length line → rest ≡ drop place line → n ≡ length (take_while is_other rest)
+pub first_field : (line rest : List ℕ) (offset n : ℕ) → offset ≡ position_or_len is_other line
+    → position_or_len is_other line < length line → rest ≡ drop offset line → n ≡ length (take_while is_other rest)
     → fields_of line ≡ take n rest ∷ fields_of (drop n rest)
-first_field line rest place n at within from long =
+first_field line rest offset n at within from long =
     let whole : rest ≡ drop (position_or_len is_other line) line = from ∙ ap (λ (k : ℕ). drop k line) at in
     let some : 0 < prefix_len is_other rest = subst (λ (r : List ℕ). 0 < prefix_len is_other r) (sym whole) (begins_other line within) in
     let m : prefix_len is_other rest ≡ n = sym (long ∙ length-prefix_len is_other rest) in

@@ -14,15 +14,15 @@ module _ (p : List ℕ → Bool) (xs : List (List ℕ)) (y : List ℕ) where
   long : length (xs ++ y ∷ []) ≡ length xs + 1
   long = length-append xs (y ∷ [])
 
-  -- the place among one more
-  place_kept : position_or_len p xs < length xs → position p (xs ++ y ∷ []) ≡ position p xs
-  place_kept lt =
+  -- the offset among one more
+  offset_kept : position_or_len p xs < length xs → position p (xs ++ y ∷ []) ≡ position p xs
+  offset_kept lt =
       let at : position_or_len p (xs ++ y ∷ []) ≡ position_or_len p xs = position_or_len_push p xs y
       ∙ rw (ne_eqb (position_or_len p xs) (length xs) (λ e. absurd (omega arith))) refl in
       rw (at, long, lt-ltb (position_or_len p xs) (length xs + 1) (omega arith), lt-ltb (position_or_len p xs) (length xs) lt) refl
 
-  place_last : length xs ≤ position_or_len p xs → position p (xs ++ y ∷ []) ≡ cond (p y) (Some (length xs)) None
-  place_last ge =
+  offset_last : length xs ≤ position_or_len p xs → position p (xs ++ y ∷ []) ≡ cond (p y) (Some (length xs)) None
+  offset_last ge =
       let most = prefix_len-le-length (λ x. not (p x)) xs in
       let same : position_or_len p xs ≡ length xs = omega arith in
       let at : position_or_len p (xs ++ y ∷ []) ≡ length xs + cond (p y) 0 1 = position_or_len_push p xs y
@@ -35,17 +35,17 @@ module _ (p : List ℕ → Bool) (xs : List (List ℕ)) (y : List ℕ) where
       step false = rw (le-ltb (length xs + 1) (length xs + 1) (omega arith)) refl
 
   -- where the list has it, and where not
-  pub has_place : (t : Bool) → is_some (position p xs) ≡ t
+  pub has_offset : (t : Bool) → is_some (position p xs) ≡ t
       → position p (xs ++ y ∷ []) ≡ cond t (position p xs) (cond (p y) (Some (length xs)) None)
-  has_place t e = elim (cases_lt (position_or_len p xs) (length xs)) [
+  has_offset t e = elim (cases_lt (position_or_len p xs) (length xs)) [
     | inl lt ↦
         let found : position p xs ≡ Some (position_or_len p xs) = rw (lt-ltb (position_or_len p xs) (length xs) lt) refl in
         let yes : true ≡ t = ap is_some (sym found) ∙ e in
-        place_kept lt ∙ ap (λ (b : Bool). cond b (position p xs) (cond (p y) (Some (length xs)) None)) yes
+        offset_kept lt ∙ ap (λ (b : Bool). cond b (position p xs) (cond (p y) (Some (length xs)) None)) yes
     | inr ge ↦
         let missed : position p xs ≡ None = rw (le-ltb (position_or_len p xs) (length xs) ge) refl in
         let nope : false ≡ t = ap is_some (sym missed) ∙ e in
-        place_last ge ∙ ap (λ (b : Bool). cond b (position p xs) (cond (p y) (Some (length xs)) None)) nope
+        offset_last ge ∙ ap (λ (b : Bool). cond b (position p xs) (cond (p y) (Some (length xs)) None)) nope
   ]
 
 none : (o : Option ℕ) → is_some o ≡ false → o ≡ None
@@ -56,7 +56,7 @@ module _ (ports : List (List ℕ)) (name : List ℕ) where
   -- a name that stands before keeps its number
   pub kept : is_some (port_in ports name) ≡ true → (q : List ℕ) → port_in (ports ++ name ∷ []) q ≡ port_in ports q
   kept there q = elim (cases_Bool (is_some (port_in ports q))) [
-    | inl here ↦ has_place (bytes_eq q) ports name true here
+    | inl here ↦ has_offset (bytes_eq q) ports name true here
     | inr missing ↦
         let other : bytes_eq q name ≡ false = elim (cases_Bool (bytes_eq q name)) [
           | inl same ↦
@@ -64,7 +64,7 @@ module _ (ports : List (List ℕ)) (name : List ℕ) where
               absurd (false≢true (sym missing ∙ ap (λ (n : List ℕ). is_some (port_in ports n)) e ∙ there))
           | inr apart ↦ apart
         ] in
-        has_place (bytes_eq q) ports name false missing ∙ rw other (sym (none (port_in ports q) missing))
+        has_offset (bytes_eq q) ports name false missing ∙ rw other (sym (none (port_in ports q) missing))
   ]
 
   -- a new name takes the next
@@ -74,15 +74,15 @@ module _ (ports : List (List ℕ)) (name : List ℕ) where
     | inl same ↦
         let e : name ≡ q = (bytes_eq-Decides name q).0 same in
         let back : bytes_eq q name ≡ true = (bytes_eq-Decides q name).1 (sym e) in
-        has_place (bytes_eq q) ports name false (ap (λ (n : List ℕ). is_some (port_in ports n)) (sym e) ∙ missing) ∙ rw (back, same) refl
+        has_offset (bytes_eq q) ports name false (ap (λ (n : List ℕ). is_some (port_in ports n)) (sym e) ∙ missing) ∙ rw (back, same) refl
     | inr apart ↦
         let back : bytes_eq q name ≡ false = elim (cases_Bool (bytes_eq q name)) [
           | inl same ↦ absurd (false≢true (sym apart ∙ (bytes_eq-Decides name q).1 (sym ((bytes_eq-Decides q name).0 same))))
           | inr other ↦ other
         ] in
         elim (cases_Bool (is_some (port_in ports q))) [
-          | inl here ↦ has_place (bytes_eq q) ports name true here ∙ rw apart refl
-          | inr absent ↦ has_place (bytes_eq q) ports name false absent ∙ rw (back, apart) (sym (none (port_in ports q) absent))
+          | inl here ↦ has_offset (bytes_eq q) ports name true here ∙ rw apart refl
+          | inr absent ↦ has_offset (bytes_eq q) ports name false absent ∙ rw (back, apart) (sym (none (port_in ports q) absent))
         ]
   ]
 

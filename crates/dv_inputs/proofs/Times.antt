@@ -28,25 +28,25 @@ use Rattle.dv_inputs.proofs.Spellings.{above_decimal, micro_printed, tick_printe
 one_more : (n : ℕ) → 1 + n ≡ suc n
 one_more n = omega arith
 
-no_dot_place : (bytes : List ℕ) → All (λ b. b ≢ 46) bytes → position_or_len is_dot bytes ≡ length bytes
-no_dot_place [] h = refl
-no_dot_place (b ∷ bytes) h =
-    let more = no_dot_place bytes (λ k d lt. h (suc k) d (omega arith)) in
+no_dot_offset : (bytes : List ℕ) → All (λ b. b ≢ 46) bytes → position_or_len is_dot bytes ≡ length bytes
+no_dot_offset [] h = refl
+no_dot_offset (b ∷ bytes) h =
+    let more = no_dot_offset bytes (λ k d lt. h (suc k) d (omega arith)) in
     rw (ne_eqb b 46 (h 0 b (omega arith))) (one_more (position_or_len is_dot bytes) ∙ ap (λ (n : ℕ). suc n) more)
 
-dot_place : (front rest : List ℕ) → All (λ b. b ≢ 46) front → position_or_len is_dot (front ++ 46 ∷ rest) ≡ length front
-dot_place [] rest h = refl
-dot_place (b ∷ front) rest h =
-    let more = dot_place front rest (λ k d lt. h (suc k) d (omega arith)) in
+dot_offset : (front rest : List ℕ) → All (λ b. b ≢ 46) front → position_or_len is_dot (front ++ 46 ∷ rest) ≡ length front
+dot_offset [] rest h = refl
+dot_offset (b ∷ front) rest h =
+    let more = dot_offset front rest (λ k d lt. h (suc k) d (omega arith)) in
     rw (ne_eqb b 46 (h 0 b (omega arith))) (one_more (position_or_len is_dot (front ++ 46 ∷ rest)) ∙ ap (λ (n : ℕ). suc n) more)
 
 without_dot : (bytes : List ℕ) → All (λ b. b ≢ 46) bytes → position is_dot bytes ≡ None
-without_dot bytes h = rw (no_dot_place bytes h, le-ltb (length bytes) (length bytes) (omega arith)) refl
+without_dot bytes h = rw (no_dot_offset bytes h, le-ltb (length bytes) (length bytes) (omega arith)) refl
 
 at_dot : (front rest : List ℕ) → All (λ b. b ≢ 46) front → position is_dot (front ++ 46 ∷ rest) ≡ Some (length front)
 at_dot front rest h =
     let lt : length front < length (front ++ 46 ∷ rest) = omega (arith, length-append front (46 ∷ rest)) in
-    rw (dot_place front rest h, lt-ltb (length front) (length (front ++ 46 ∷ rest)) lt) refl
+    rw (dot_offset front rest h, lt-ltb (length front) (length (front ++ 46 ∷ rest)) lt) refl
 
 -- a byte that no number has
 module _ (c : ℕ) (no_digit : IsInRange 48 57 c → ⊥) where

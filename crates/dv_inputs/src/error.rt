@@ -41,7 +41,9 @@ impl fmt::Display for InputRefusalNumber {
 /// A refused text as it is answered: which refusal, and the line, counted from 1.
 #[derive(Clone, Copy, Debug, PartialEq, Eq)]
 pub struct InputRefusal {
+    /// The number of the refusal.
     pub number: InputRefusalNumber,
+    /// The number of the line, counted from 1.
     pub line: u64,
 }
 

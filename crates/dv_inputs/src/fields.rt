@@ -14,8 +14,8 @@ fn field_len(bytes: &[u8]) -> usize
     bytes.iter().take_while(|byte| !is_blank(**byte)).count()
 }
 
-// The place of the first field, if there is one.
-fn field_place(line: &[u8]) -> Option<usize>
+// The offset of the first field, if there is one.
+fn field_offset(line: &[u8]) -> Option<usize>
     ensures { result ≡ position (λ b. not (is_blank b)) line.now }
 {
     line.iter().position(|byte| !is_blank(*byte))
@@ -26,7 +26,7 @@ fn split_field(line: &[u8]) -> Option<(&[u8], &[u8])>
     ensures { MatchOption result (fields_of line.now ≡ [])
         (λ r. fields_of line.now ≡ r.0.now ∷ fields_of r.1.now) }
 {
-    let fields = bytes_from(line, field_place(line)?);
+    let fields = bytes_from(line, field_offset(line)?);
     Some(fields.split_at(field_len(fields)))
 }
 

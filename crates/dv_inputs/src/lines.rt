@@ -11,7 +11,7 @@ pub(crate) fn is_blank(byte: u8) -> bool
     byte == b' ' || byte == b'\t'
 }
 
-// The place of the first line feed, if there is one.
+// The offset of the first line feed, if there is one.
 fn line_feed(text: &[u8]) -> Option<usize>
     ensures { result ≡ position (λ b. b == 10) text.now }
 {
@@ -25,12 +25,12 @@ fn is_blank_line(line: &[u8]) -> bool
     line.iter().all(|byte| is_blank(*byte))
 }
 
-/// The bytes from a place on.
-pub(crate) fn bytes_from(bytes: &[u8], place: usize) -> &[u8]
-    requires { place ≤ length bytes.now }
-    ensures { result.now ≡ drop place bytes.now }
+/// The bytes from an offset on.
+pub(crate) fn bytes_from(bytes: &[u8], offset: usize) -> &[u8]
+    requires { offset ≤ length bytes.now }
+    ensures { result.now ≡ drop offset bytes.now }
 {
-    &bytes[place..]
+    &bytes[offset..]
 }
 
 /// The first line of a text that is not empty, and what follows its line feed.

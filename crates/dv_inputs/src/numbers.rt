@@ -69,8 +69,8 @@ fn micro_in(digits: &[u8]) -> Option<u32>
     Some(micro as u32)
 }
 
-// The place of the first dot, if there is one.
-fn dot_place(field: &[u8]) -> Option<usize>
+// The offset of the first dot, if there is one.
+fn dot_offset(field: &[u8]) -> Option<usize>
     ensures { result ≡ position is_dot field.now }
 {
     field.iter().position(|byte| *byte == b'.')
@@ -80,7 +80,7 @@ fn dot_place(field: &[u8]) -> Option<usize>
 pub(crate) fn time_in(field: &[u8]) -> Option<Time>
     ensures { result ≡ time_in field.now }
 {
-    match dot_place(field) {
+    match dot_offset(field) {
         None => {
             let tick = tick_in(field)?;
             Some(Time { tick, micro: 0 })

@@ -17,12 +17,13 @@ use Rattle.dv_partition.specs.Groups.{Grouping}
 use Rattle.dv_partition.specs.declared.choice.Partition.{Partition}
 use Rattle.dv_plain.specs.Source.{network_of, outside}
 use Rattle.dv_run.specs.Runs.{IsCutShort, IsPrinted, IsRunOf, LedTo, lines_before}
-use Rattle.dv_run.specs.declared.ran.Ran.{Ran}
 use Rattle.dv_core.specs.declared.step.Ended.{Ended}
 use Rattle.dv_core.specs.declared.step.Ended.TheVariants as rounds
-use Rattle.dv_run.specs.declared.ran.RanEnded.{RanEnded}
-use Rattle.dv_run.specs.declared.ran.RanEnded.TheVariants as ran
 use Rattle.dv_run.proofs.Traces.{memory_by_rounds, never_stopped_by_rounds, stalled_by_rounds}
+use Rattle.dv_stream.specs.declared.ran.Ran.{Ran}
+use Rattle.dv_stream.specs.declared.ran.RunEnded.{RunEnded}
+use Rattle.dv_stream.specs.declared.ran.RunEnded.TheVariants as ran
+use Rattle.dv_stream.specs.declared.ran.Why.TheVariants as why
 use Rattle.dv_written.specs.Faults.{has_fault}
 use Rattle.dv_text.specs.declared.writing.Ending.TheVariants as text_end
 use Rattle.dv_text.specs.declared.writing.WriteError.{WriteError}
@@ -42,7 +43,6 @@ use Rattle.dv_job.specs.Written.{IsUnwritten, end_text, ended_at}
 use Rattle.dv_job.specs.declared.options.Options.{Options}
 use Rattle.dv_job.specs.declared.ended.JobEnded.{JobEnded}
 use Rattle.dv_job.specs.declared.ended.JobEnded.TheVariants as ended
-use Rattle.dv_job.specs.declared.ended.Why.TheVariants as why
 use Rattle.dv_job.specs.declared.ended.JobError.{JobError}
 use Rattle.dv_job.specs.declared.ended.JobError.TheVariants as error
 use Rattle.dv_inputs.specs.declared.error.InputRefusal.{InputRefusal}
@@ -129,19 +129,17 @@ module _ (names : List (List ℕ)) (f : FileTree) (played : List Input) (groups 
     lines = lines_before names f played o.limit least
 
     -- with the ending they are a text of the run
-    text_of_it : (at : RanEnded) → r.ended ≡ at
+    text_of_it : (at : RunEnded) → r.ended ≡ at
         → IsTextOf names f played groups.processes o.horizon o.limit (lines ++ end_text at o.horizon r.clocks.items)
     text_of_it ran.Whole at =
         inl (ap (λ (n : ℕ). lines_before names f played o.limit n ++ ending_text (text_end.Whole o.horizon)) (printed.whole at))
-    text_of_it ran.Stalled at = inr (r.clocks.items, printed.count, printed.some, printed.within, refl)
-    text_of_it ran.Memory at = inr (r.clocks.items, printed.count, printed.some, printed.within, refl)
-    text_of_it ran.Stopped at = inr (r.clocks.items, printed.count, printed.some, printed.within, refl)
+    text_of_it (ran.Cut w) at = inr (r.clocks.items, printed.count, printed.some, printed.within, refl)
 
     behind : (text : List ℕ) → Appends mid new text → Appends old new (lines ++ text)
     behind text written = Appends-append old mid new lines text printed.lines written
 
     -- a run to the horizon
-    prints_whole : r.ended ≡ ran.Whole → (e : JobEnded) → e ≡ (if r.faulted then ended.Faulted else ended.Whole)
+    prints_whole : r.ended ≡ ran.Whole → (e : JobEnded) → e ≡ (if r.written.faulted then ended.Faulted else ended.Whole)
         → Appends mid new (ending_text (text_end.Whole o.horizon)) → PrintsWhole model inputs partition o old new e
     prints_whole whole e ending written = record {
       names = names;
@@ -187,11 +185,9 @@ module _ (names : List (List ℕ)) (f : FileTree) (played : List Input) (groups 
     left_unwritten error.Memory text some is (inr short) =
         inr (stops (lines ++ text) is (StopsShort-behind lines text printed.lines short))
 
-    ending_is_some : (at : RanEnded) → 0 < length (end_text at o.horizon r.clocks.items)
+    ending_is_some : (at : RunEnded) → 0 < length (end_text at o.horizon r.clocks.items)
     ending_is_some ran.Whole = ending-some (text_end.Whole o.horizon)
-    ending_is_some ran.Stalled = ending-some (text_end.Partial r.clocks)
-    ending_is_some ran.Memory = ending-some (text_end.Partial r.clocks)
-    ending_is_some ran.Stopped = ending-some (text_end.Partial r.clocks)
+    ending_is_some (ran.Cut w) = ending-some (text_end.Partial r.clocks)
 
     -- whatever became of it
     pub if_it_was_left : (result : Result JobEnded JobError)
@@ -204,9 +200,9 @@ module _ (names : List (List ℕ)) (f : FileTree) (played : List Input) (groups 
     -- a whole run is faulted or not
     ends_whole : (Ends : JobEnded → Type 0) → (PrintsWhole model inputs partition o old new ended.Whole → Ends ended.Whole)
         → (PrintsWhole model inputs partition o old new ended.Faulted → Ends ended.Faulted) → r.ended ≡ ran.Whole
-        → Appends mid new (ending_text (text_end.Whole o.horizon)) → Ends (if r.faulted then ended.Faulted else ended.Whole)
+        → Appends mid new (ending_text (text_end.Whole o.horizon)) → Ends (if r.written.faulted then ended.Faulted else ended.Whole)
     ends_whole Ends well badly whole written =
-        by_fault r.faulted (prints_whole whole (if r.faulted then ended.Faulted else ended.Whole) refl written)
+        by_fault r.written.faulted (prints_whole whole (if r.written.faulted then ended.Faulted else ended.Whole) refl written)
       where
         by_fault : (b : Bool) → PrintsWhole model inputs partition o old new (if b then ended.Faulted else ended.Whole)
             → Ends (if b then ended.Faulted else ended.Whole)
@@ -223,18 +219,18 @@ module _ (names : List (List ℕ)) (f : FileTree) (played : List Input) (groups 
       stalls = few;
     }
 
-    ends_so : (at : RanEnded) → r.ended ≡ at → Appends mid new (end_text at o.horizon r.clocks.items)
-        → EndsBy (ended_at at r.faulted) model inputs partition o old new
+    ends_so : (at : RunEnded) → r.ended ≡ at → Appends mid new (end_text at o.horizon r.clocks.items)
+        → EndsBy (ended_at at r.written.faulted) model inputs partition o old new
     ends_so ran.Whole at written =
         ends_whole r old mid new is.printed (λ (e : JobEnded). EndsBy e model inputs partition o old new) (λ p. p) (λ p. p) at written
-    ends_so ran.Stalled at written =
+    ends_so (ran.Cut why.Rounds) at written =
         ends_at_clocks rounds.Stalled (stalled_by_rounds is.ended (sym is.ended_so ∙ at)) (λ _. is.stalls at o.in_range.some_capacity)
         written
-    ends_so ran.Memory at written =
+    ends_so (ran.Cut why.Memory) at written =
         ends_at_clocks rounds.Memory (memory_by_rounds is.ended (sym is.ended_so ∙ at)) (λ no. absurd (cc)) written
-    ends_so ran.Stopped at written = absurd (never_stopped_by_rounds is.ended (sym is.ended_so ∙ at))
+    ends_so (ran.Cut why.Stopped) at written = absurd (never_stopped_by_rounds is.ended (sym is.ended_so ∙ at))
 
-    pub if_it_ended : (result : Result JobEnded JobError) → IfOk result (λ (e : JobEnded). e ≡ ended_at r.ended r.faulted)
+    pub if_it_ended : (result : Result JobEnded JobError) → IfOk result (λ (e : JobEnded). e ≡ ended_at r.ended r.written.faulted)
         → OnOk result (Appends mid new (end_text r.ended o.horizon r.clocks.items))
         → IfOk result (λ (e : JobEnded). EndsBy e model inputs partition o old new)
     if_it_ended (Ok e) ending written =
@@ -243,19 +239,20 @@ module _ (names : List (List ℕ)) (f : FileTree) (played : List Input) (groups 
 
   -- a run by workers
   module _ (r : Ran) (old mid new : Option (List ℕ)) (is : IsPrinted names f played groups o.horizon o.limit old mid r)
-      (unstalled : r.ended ≡ ran.Stalled → ⊥) (short : (r.ended ≡ ran.Whole → ⊥) → least_rank o.limit r.clocks.items < end_of o.limit o.horizon)
+      (unstalled : r.ended ≡ ran.Cut why.Rounds → ⊥)
+      (short : (r.ended ≡ ran.Whole → ⊥) → least_rank o.limit r.clocks.items < end_of o.limit o.horizon)
     where
-      worked_so : (at : RanEnded) → r.ended ≡ at → Appends mid new (end_text at o.horizon r.clocks.items)
-          → EndsByWorkers (ended_at at r.faulted) model inputs partition o old new
+      worked_so : (at : RunEnded) → r.ended ≡ at → Appends mid new (end_text at o.horizon r.clocks.items)
+          → EndsByWorkers (ended_at at r.written.faulted) model inputs partition o old new
       worked_so ran.Whole at written =
           ends_whole r old mid new is (λ (e : JobEnded). EndsByWorkers e model inputs partition o old new) (λ p. p) (λ p. p) at written
-      worked_so ran.Stalled at written = absurd (unstalled at)
-      worked_so ran.Memory at written =
+      worked_so (ran.Cut why.Rounds) at written = absurd (unstalled at)
+      worked_so (ran.Cut why.Memory) at written =
           record { cut = prints_cut r old mid new is written; short = short (λ whole. absurd (let e = sym at ∙ whole in cc)) }
-      worked_so ran.Stopped at written =
+      worked_so (ran.Cut why.Stopped) at written =
           record { cut = prints_cut r old mid new is written; short = short (λ whole. absurd (let e = sym at ∙ whole in cc)) }
 
-      pub if_workers_ended : (result : Result JobEnded JobError) → IfOk result (λ (e : JobEnded). e ≡ ended_at r.ended r.faulted)
+      pub if_workers_ended : (result : Result JobEnded JobError) → IfOk result (λ (e : JobEnded). e ≡ ended_at r.ended r.written.faulted)
           → OnOk result (Appends mid new (end_text r.ended o.horizon r.clocks.items))
           → IfOk result (λ (e : JobEnded). EndsByWorkers e model inputs partition o old new)
       if_workers_ended (Ok e) ending written =
@@ -263,19 +260,19 @@ module _ (names : List (List ℕ)) (f : FileTree) (played : List Input) (groups 
       if_workers_ended (Err e) ending written = tt
 
 -- a cause is told exactly where the answer is that the run was stopped
-pub told_where_stopped : {C : Type 0} (r : Ran) (cause : Option C) → IsSome cause ↔ (r.ended ≡ ran.Stopped) → (e : JobEnded)
-    → e ≡ ended_at r.ended r.faulted → IsSome cause ↔ (e ≡ ended.Partial why.Stopped)
+pub told_where_stopped : {C : Type 0} (r : Ran) (cause : Option C) → IsSome cause ↔ (r.ended ≡ ran.Cut why.Stopped) → (e : JobEnded)
+    → e ≡ ended_at r.ended r.written.faulted → IsSome cause ↔ (e ≡ ended.Partial why.Stopped)
 told_where_stopped {C} r cause told e is = (
-  λ some. is ∙ ap (λ (at : RanEnded). ended_at at r.faulted) (told.0 some),
-  λ stopped. told.1 (only_there r.ended r.faulted (sym is ∙ stopped)),
+  λ some. is ∙ ap (λ (at : RunEnded). ended_at at r.written.faulted) (told.0 some),
+  λ stopped. told.1 (only_there r.ended r.written.faulted (sym is ∙ stopped)),
 )
   where
-    only_there : (at : RanEnded) (faulted : Bool) → ended_at at faulted ≡ ended.Partial why.Stopped → at ≡ ran.Stopped
+    only_there : (at : RunEnded) (faulted : Bool) → ended_at at faulted ≡ ended.Partial why.Stopped → at ≡ ran.Cut why.Stopped
     only_there ran.Whole true e = absurd (cc)
     only_there ran.Whole false e = absurd (cc)
-    only_there ran.Stalled faulted e = absurd (cc)
-    only_there ran.Memory faulted e = absurd (cc)
-    only_there ran.Stopped faulted e = refl
+    only_there (ran.Cut why.Rounds) faulted e = absurd (cc)
+    only_there (ran.Cut why.Memory) faulted e = absurd (cc)
+    only_there (ran.Cut why.Stopped) faulted e = refl
 
 -- a model, its inputs and its groups, all read
 pub planned_tree : (model inputs : List ℕ) (partition : Partition) (limit : ℕ) (tree : Source) (groups : Grouping) (played : List Input)

@@ -32,7 +32,7 @@ pub record IsModelOf (text : List ℕ) (names : List (List ℕ)) (f : FileTree) 
   pub checked : refusal_of f ≡ None
   pub few : link_refusal f ≡ None
 
--- the tokens of the text are those of no file, which shows at the place of this refusal
+-- the tokens of the text are those of no file, which shows at the offset of this refusal
 pub record HasNoFile (text : List ℕ) (r : Refusal) : Type 0 where
   pub names : List (List ℕ)
   pub tokens : List Token

@@ -1,25 +1,28 @@
 -- The ranges of a run's options.
-use Rattle.std.specs.Prelude.{ℕ, ◌≤◌, Option, IsSome}
-use Rattle.std.specs.Option.{ForSome}
+use Rattle.std.specs.Prelude.{◌≡◌, ℕ, ◌≤◌, Option, None, Some, IsSome}
 use Rattle.dv_time.specs.Limits.{greatest_tick, greatest_limit}
 use Rattle.dv_job.specs.Limits.{most_workers, greatest_capacity}
+use Rattle.dv_job.specs.declared.options.Driver.{Driver}
+use Rattle.dv_job.specs.declared.options.Driver.TheVariants.{Rounds, Workers}
 
--- ---- The threads that are to run processes
+-- ---- What drives a run
 
-abbrev pub AreWorkers : Option ℕ → Type 0
-AreWorkers workers = ForSome workers (λ n. (1 ≤ n) × (n ≤ most_workers))
+-- what is asked for by workers, or else by rounds; nothing by both
+abbrev pub driver_of : (workers rounds : Option ℕ) → Option Driver
+driver_of None rounds = Some (Rounds rounds)
+driver_of (Some count) None = Some (Workers count)
+driver_of (Some count) (Some most) = None
 
--- rounds are for a run without workers
-abbrev pub NotBoth : Option ℕ → Option ℕ → Type 0
-NotBoth workers rounds = IsSome workers → ¬ IsSome rounds
+-- something is asked for, and threads are not too few and not too many
+abbrev pub IsDriver : Option Driver → Type 0
+IsDriver driver = IsSome driver × ((count : ℕ) → driver ≡ Some (Workers count) → (1 ≤ count) × (count ≤ most_workers))
 
 -- ---- The whole
 
-pub record AreInRange (h l : ℕ) (w r : Option ℕ) (c : ℕ) : Type 0 where
+pub record AreInRange (h l : ℕ) (d : Option Driver) (c : ℕ) : Type 0 where
   pub horizon : h ≤ greatest_tick
   pub some_microstep : 1 ≤ l
   pub limit : l ≤ greatest_limit
-  pub workers : AreWorkers w
-  pub one_driver : NotBoth w r
+  pub driver : IsDriver d
   pub some_capacity : 1 ≤ c
   pub capacity : c ≤ greatest_capacity

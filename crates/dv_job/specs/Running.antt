@@ -1,5 +1,5 @@
 -- How a run in processes ends, and what the writer then holds.
-use Rattle.std.specs.Prelude.{◌≡◌, ℕ, ◌+◌, ◌<◌, ◌≤◌, List, length, ◌⊎◌, Option, unwrap_or, Ok, Err}
+use Rattle.std.specs.Prelude.{◌≡◌, ℕ, ◌+◌, ◌<◌, ◌≤◌, List, length, ◌⊎◌, Option, None, unwrap_or, Ok, Err}
 use Rattle.std.specs.Io.KnownBytes.{Appends, Keeps}
 use Rattle.dv_time.specs.Time.{end_of}
 use Rattle.dv_time.specs.declared.time.Time.{Time}
@@ -18,6 +18,7 @@ use Rattle.dv_partition.specs.declared.error.PartitionRefusal.{PartitionRefusal}
 use Rattle.dv_plain.specs.Source.{network_of, outside, trace_of}
 use Rattle.dv_run.specs.Runs.{LedTo}
 use Rattle.dv_stream.specs.Clocks.{AreWithin}
+use Rattle.dv_stream.specs.declared.ran.Why.TheVariants as why
 use Rattle.dv_text.specs.Names.{component_names, root_ports}
 use Rattle.dv_text.specs.Texts.{partial_text}
 use Rattle.dv_text.specs.Writing.{StopsShort}
@@ -25,7 +26,8 @@ use Rattle.dv_job.specs.Ending.{IsJob, ending_of}
 use Rattle.dv_job.specs.Job.{IsAnswer, IsModelOf, input_ports, run_text}
 use Rattle.dv_job.specs.declared.ended.JobEnded.{JobEnded}
 use Rattle.dv_job.specs.declared.ended.JobEnded.TheVariants as ended
-use Rattle.dv_job.specs.declared.ended.Why.TheVariants as why
+use Rattle.dv_job.specs.declared.options.Driver.{Driver}
+use Rattle.dv_job.specs.declared.options.Driver.TheVariants.{Rounds, Workers}
 use Rattle.dv_job.specs.declared.options.Options.{Options}
 use Rattle.dv_job.specs.declared.ended.JobError.{JobError}
 use Rattle.dv_job.specs.declared.ended.JobError.TheVariants as error
@@ -50,9 +52,14 @@ IsTextOf names f inputs processes horizon limit text =
     ⊎ ((clocks : List Time) × (length clocks ≡ processes) × (0 < length clocks) × AreWithin horizon limit clocks
     × (text ≡ cut_text names f inputs limit clocks))
 
--- how many rounds a run has: those of the options, or else one more than there are ranks before the end, which is enough
+-- the rounds that a driver has, if they are bounded; workers have none
+abbrev pub rounds_of : Driver → Option ℕ
+rounds_of (Rounds most) = most
+rounds_of (Workers count) = None
+
+-- how many rounds a run has: those of its driver, or else one more than there are ranks before the end, which is enough
 abbrev pub granted : Options → ℕ
-granted o = unwrap_or o.rounds (end_of o.limit o.horizon + 1)
+granted o = unwrap_or (rounds_of o.driver) (end_of o.limit o.horizon + 1)
 
 -- All is accepted, the writer's bytes grew by the whole text of the trace, and the answer says whether that holds a fault.
 pub record PrintsWhole (model inputs : List ℕ) (partition : Partition) (o : Options) (old new : Option (List ℕ)) (e : JobEnded)

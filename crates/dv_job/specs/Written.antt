@@ -5,11 +5,10 @@ use Rattle.dv_time.specs.declared.time.Time.{Time}
 use Rattle.dv_text.specs.Texts.{ending_text, partial_ending}
 use Rattle.dv_text.specs.Writing.{StopsShort}
 use Rattle.dv_text.specs.declared.writing.Ending.TheVariants as text_end
-use Rattle.dv_run.specs.declared.ran.RanEnded.{RanEnded}
-use Rattle.dv_run.specs.declared.ran.RanEnded.TheVariants as ran
+use Rattle.dv_stream.specs.declared.ran.RunEnded.{RunEnded}
+use Rattle.dv_stream.specs.declared.ran.RunEnded.TheVariants.{Cut, Whole}
 use Rattle.dv_job.specs.declared.ended.JobEnded.{JobEnded}
 use Rattle.dv_job.specs.declared.ended.JobEnded.TheVariants as ended
-use Rattle.dv_job.specs.declared.ended.Why.TheVariants as why
 use Rattle.dv_job.specs.declared.ended.JobError.{JobError}
 use Rattle.dv_job.specs.declared.ended.JobError.TheVariants as error
 
@@ -22,15 +21,11 @@ IsUnwritten error.Write text old new = StopsShort old new text
 IsUnwritten error.Memory text old new = Keeps old new ⊎ StopsShort old new text
 
 -- how the text of a run ends that came to this end, at these clocks
-abbrev pub end_text : RanEnded → (horizon : ℕ) → List Time → List ℕ
-end_text ran.Whole horizon clocks = ending_text (text_end.Whole horizon)
-end_text ran.Stalled horizon clocks = partial_ending clocks
-end_text ran.Memory horizon clocks = partial_ending clocks
-end_text ran.Stopped horizon clocks = partial_ending clocks
+abbrev pub end_text : RunEnded → (horizon : ℕ) → List Time → List ℕ
+end_text Whole horizon clocks = ending_text (text_end.Whole horizon)
+end_text (Cut why) horizon clocks = partial_ending clocks
 
 -- how a run ends, some component of which had a fault or none
-abbrev pub ended_at : RanEnded → Bool → JobEnded
-ended_at ran.Whole faulted = if faulted then ended.Faulted else ended.Whole
-ended_at ran.Stalled faulted = ended.Partial why.Rounds
-ended_at ran.Memory faulted = ended.Partial why.Memory
-ended_at ran.Stopped faulted = ended.Partial why.Stopped
+abbrev pub ended_at : RunEnded → Bool → JobEnded
+ended_at Whole faulted = if faulted then ended.Faulted else ended.Whole
+ended_at (Cut why) faulted = ended.Partial why

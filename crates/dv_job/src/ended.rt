@@ -6,6 +6,7 @@ ghost use Rattle.dv_job.specs.Status.{status_of};
 use dv_inputs::{InputRefusal, InputsError};
 use dv_lex::TextError;
 use dv_partition::{PartitionError, PartitionRefusal};
+use dv_stream::Why;
 use dv_text::WriteError;
 use std::alloc::AllocError;
 use std::fmt;
@@ -22,21 +23,12 @@ pub enum JobEnded {
     Partial(Why),
 }
 
-/// Why a trace is not whole.
-#[derive(Clone, Copy, Debug, PartialEq, Eq)]
-pub enum Why {
-    /// The rounds that were granted are used up.
-    Rounds,
-    /// An allocation was refused while a process took its turn, or a packet was on its way; or no thread could be made for a worker.
-    Memory,
-    /// Whoever watched the turns of workers stopped the run.
-    Stopped,
-}
-
 /// How a run by workers ended, and the cause for which whoever watched their turns stopped it, if that is how it ended.
 #[derive(Drop)]
 pub struct EndedByWorkers<C> {
+    /// How the run ended.
     pub ended: JobEnded,
+    /// The cause of whoever watched, where that stopped the run.
     pub cause: Option<C>,
 }
 

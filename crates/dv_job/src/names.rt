@@ -102,7 +102,7 @@ impl Names for TreeNames<'_> {
     }
 }
 
-// The name of the port at a place.
+// The name of the port at an index.
 fn name_at<'t>(tree: &'t Tree<'_>, ports: &[u32], port: u32) -> &'t str
     ensures { result.now ≡ name_at (texts_of tree.now.names ports.now) port }
 {

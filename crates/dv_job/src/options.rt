@@ -1,7 +1,7 @@
 //! The options of a run.
 
-ghost use Rattle.std.specs.Prelude.{◌≡◌, ◌≤◌, ◌↔◌, IsSome, IfSome, IsTrue};
-ghost use Rattle.dv_job.specs.Ranges.{AreInRange, AreWorkers, NotBoth};
+ghost use Rattle.std.specs.Prelude.{◌≡◌, ◌≤◌, ◌↔◌, IsSome, IfSome, Some};
+ghost use Rattle.dv_job.specs.Ranges.{AreInRange, IsDriver, driver_of};
 
 use dv_time::{GREATEST_LIMIT, GREATEST_TICK};
 
@@ -11,6 +11,15 @@ pub const MOST_WORKERS: u32 = 256;
 /// The most packets that may be on their way on a link between processes.
 pub const GREATEST_CAPACITY: u32 = 1_024;
 
+/// What drives the processes of a run.
+#[derive(Clone, Copy, Debug, PartialEq, Eq)]
+pub enum Driver {
+    /// All of them in rounds on one thread, so many rounds at most; without a number there are enough.
+    Rounds(Option<u64>),
+    /// So many workers on threads of their own, 1 to 256.
+    Workers(u32),
+}
+
 /// How far to run, and how. Its values are within their ranges: its type keeps that.
 #[derive(Clone, Copy, Debug)]
 pub struct Options {
@@ -18,13 +27,11 @@ pub struct Options {
     pub horizon: u64,
     /// The greatest microstep of a tick, 1 to 1,000.
     pub limit: u32,
-    /// The threads that run processes, 1 to 256; without them one driver runs all.
-    pub workers: Option<u32>,
-    /// The greatest number of rounds of the one driver, which is not given beside workers; without it there are enough.
-    pub rounds: Option<u64>,
+    /// What drives the processes.
+    pub driver: Driver,
     /// How many packets may be on their way on a link between processes, 1 to 1,024.
     pub capacity: u32,
-    pub ghost in_range: { AreInRange horizon limit workers rounds capacity },
+    pub ghost in_range: { AreInRange horizon limit (Some driver) capacity },
 }
 
 impl Options {
@@ -37,11 +44,11 @@ impl Options {
         rounds: Option<u64>,
         capacity: u32,
     ) -> Option<Options>
-        ensures accepted { IsSome result ↔ AreInRange horizon limit workers rounds capacity }
+        ensures accepted { IsSome result
+            ↔ AreInRange horizon limit (driver_of workers rounds) capacity }
         ensures horizon { IfSome result (λ o. o.horizon ≡ horizon) }
         ensures limit { IfSome result (λ o. o.limit ≡ limit) }
-        ensures workers { IfSome result (λ o. o.workers ≡ workers) }
-        ensures rounds { IfSome result (λ o. o.rounds ≡ rounds) }
+        ensures driver { IfSome result (λ o. Some o.driver ≡ driver_of workers rounds) }
         ensures capacity { IfSome result (λ o. o.capacity ≡ capacity) }
     {
         if horizon > GREATEST_TICK || limit < 1 || limit > GREATEST_LIMIT {
@@ -50,25 +57,30 @@ impl Options {
         if capacity < 1 || capacity > GREATEST_CAPACITY {
             return None;
         }
-        if !has_one_driver(workers, rounds) {
-            return None;
-        }
+        let driver = driver_in_range(workers, rounds)?;
         Some(Options {
             horizon,
             limit,
-            workers,
-            rounds,
+            driver,
             capacity,
         })
     }
 }
 
-/// Whether the workers are within their range, and are not given beside rounds.
-fn has_one_driver(workers: Option<u32>, rounds: Option<u64>) -> bool
-    ensures { IsTrue result ↔ (AreWorkers workers × NotBoth workers rounds) }
+// What drives a run for which workers or rounds are given: nothing where both are, or where there are too few workers or too many.
+fn driver_in_range(workers: Option<u32>, rounds: Option<u64>) -> Option<Driver>
+    ensures accepted { IsSome result ↔ IsDriver (driver_of workers rounds) }
+    ensures is { IfSome result (λ d. Some d ≡ driver_of workers rounds) }
 {
-    match workers {
-        None => true,
-        Some(n) => n >= 1 && n <= MOST_WORKERS && rounds.is_none(),
+    match (workers, rounds) {
+        (None, rounds) => Some(Driver::Rounds(rounds)),
+        (Some(count), None) => {
+            if count >= 1 && count <= MOST_WORKERS {
+                Some(Driver::Workers(count))
+            } else {
+                None
+            }
+        }
+        (Some(_), Some(_)) => None,
     }
 }

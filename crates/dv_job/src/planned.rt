@@ -11,7 +11,7 @@ use crate::names::TreeNames;
 use dv_flat::flatten;
 use dv_partition::Partition;
 use dv_plan::plan_json;
-use dv_planned::{least_responses, links_of};
+use dv_run::{least_responses, links_of};
 use dv_tree::Tree;
 use std::alloc::Global;
 

@@ -5,15 +5,17 @@ ghost use Rattle.dv_time.specs.Time.{end_of};
 ghost use Rattle.dv_job.specs.Running.{granted};
 ghost use Rattle.dv_time.specs.Limits.{greatest_limit, greatest_tick};
 
-use crate::options::Options;
+use crate::options::{Driver, Options};
 
-/// How many rounds a run has: those of the options, or else enough.
+/// How many rounds a run has: those of its driver, or else enough.
 pub fn granted(options: &Options) -> u64
     ensures { result ≡ granted options.now }
 {
-    match options.rounds {
-        Some(rounds) => rounds,
-        None => times_before_end(options.horizon, options.limit) + 1,
+    match options.driver {
+        Driver::Rounds(Some(most)) => most,
+        Driver::Rounds(None) | Driver::Workers(_) => {
+            times_before_end(options.horizon, options.limit) + 1
+        }
     }
 }
 

@@ -13,8 +13,7 @@ use crate::setup::{Setup, set_up};
 use crate::written::write_end;
 use dv_bag::Bags;
 use dv_partition::Partition;
-use dv_planned::TextJob;
-use dv_run::compiled_run;
+use dv_run::{Bounds, TextJob, compiled_run};
 use dv_text::laws::a_trace_is_its_pieces;
 use dv_tree::Tree;
 use std::alloc::Global;
@@ -77,8 +76,10 @@ fn run_tree<W: Write>(
         horizon: options.horizon,
         limit: options.limit,
     };
-    let capacity = options.capacity as usize;
-    let rounds = granted(options);
-    let ran = compiled_run(alloc, &job, &links, rounds, capacity, writer)?;
+    let bounds = Bounds {
+        rounds: granted(options),
+        capacity: options.capacity as usize,
+    };
+    let ran = compiled_run(alloc, &job, &links, bounds, writer)?;
     write_end(alloc, &ran, options.horizon, writer)
 }

@@ -1,7 +1,7 @@
 //! What a run of an accepted text is set up from.
 
 ghost use Rattle.std.specs.Prelude.{IfOk, IfErr};
-ghost use Rattle.dv_planned.specs.Texts.{AreLinksOf};
+ghost use Rattle.dv_run.specs.Texts.{AreLinksOf};
 ghost use Rattle.dv_sound.specs.Jobs.{AllInputNumbers};
 ghost use Rattle.dv_syntax.specs.Trees.{file_of};
 ghost use Rattle.dv_job.specs.Job.{IsModelOf};

@@ -12,8 +12,7 @@ use crate::setup::{Setup, set_up};
 use dv_core::Step;
 use dv_partition::Partition;
 use dv_plan::Stepped;
-use dv_planned::TextJob;
-use dv_run::compiled_steps;
+use dv_run::{TextJob, compiled_steps};
 use dv_tree::Tree;
 use std::alloc::Global;
 

@@ -5,7 +5,7 @@ ghost use Rattle.dv_syntax.specs.Trees.{file_of};
 ghost use Rattle.dv_job.specs.Job.{IsModelOf};
 ghost use Rattle.dv_job.specs.Running.{EndsByWorkers, LeftByRun};
 ghost use Rattle.dv_job.specs.declared.ended.JobEnded.TheVariants.{Partial};
-ghost use Rattle.dv_job.specs.declared.ended.Why.TheVariants.{Stopped};
+ghost use Rattle.dv_stream.specs.declared.ran.Why.TheVariants.{Stopped};
 
 use crate::ended::{EndedByWorkers, JobEnded, JobError};
 use crate::load::{accept, load};
@@ -14,8 +14,7 @@ use crate::setup::{Setup, set_up};
 use crate::written::write_end;
 use dv_bag::Bags;
 use dv_partition::Partition;
-use dv_planned::TextJob;
-use dv_run::{RanByWorkers, Unwatched, Watch, compiled_workers};
+use dv_run::{RanByWorkers, TextJob, Unwatched, Watch, compiled_workers};
 use dv_text::laws::a_trace_is_its_pieces;
 use dv_tree::Tree;
 use std::alloc::Global;

@@ -7,9 +7,9 @@ ghost use Rattle.dv_text.specs.declared.writing.Ending.TheVariants as text_end;
 ghost use Rattle.dv_job.specs.Written.{IsUnwritten, end_text, ended_at};
 ghost use Rattle.dv_job.specs.declared.ended.JobEnded.TheVariants.{Faulted, Partial, Whole};
 
-use crate::ended::{JobEnded, JobError, Why};
+use crate::ended::{JobEnded, JobError};
 use crate::faults::whole_ending;
-use dv_run::{Ran, RanEnded};
+use dv_stream::{Ran, RunEnded, Why};
 use dv_text::{Ending, write_ending};
 use std::alloc::Global;
 use std::io::Write;
@@ -25,7 +25,7 @@ pub fn write_end<W: Write>(
     horizon: u64,
     writer: &mut W,
 ) -> Result<JobEnded, JobError>
-    ensures ending { IfOk result (λ ended. ended ≡ ended_at ran.now.ended ran.now.faulted) }
+    ensures ending { IfOk result (λ ended. ended ≡ ended_at ran.now.ended ran.now.written.faulted) }
     ensures text { OnOk result (Appends (W.contents writer.old) (W.contents writer.new)
         (end_text ran.now.ended horizon ran.now.clocks.items)) }
     ensures error { IfErr result (λ e. IsUnwritten e
@@ -33,10 +33,8 @@ pub fn write_end<W: Write>(
         (W.contents writer.old) (W.contents writer.new)) }
 {
     match ran.ended {
-        RanEnded::Whole => write_whole(alloc, ran, horizon, writer),
-        RanEnded::Stalled => write_cut(alloc, ran, Why::Rounds, writer),
-        RanEnded::Memory => write_cut(alloc, ran, Why::Memory, writer),
-        RanEnded::Stopped => write_cut(alloc, ran, Why::Stopped, writer),
+        RunEnded::Whole => write_whole(alloc, ran, horizon, writer),
+        RunEnded::Cut(why) => write_cut(alloc, ran, why, writer),
     }
 }
 
@@ -47,14 +45,14 @@ fn write_whole<W: Write>(
     horizon: u64,
     writer: &mut W,
 ) -> Result<JobEnded, JobError>
-    ensures ending { IfOk result (λ ended. ended ≡ (if ran.now.faulted then Faulted else Whole)) }
+    ensures ending { IfOk result (λ ended. ended ≡ (if ran.now.written.faulted then Faulted else Whole)) }
     ensures text { OnOk result (Appends (W.contents writer.old) (W.contents writer.new)
         (ending_text (text_end.Whole horizon))) }
     ensures error { IfErr result (λ e. IsUnwritten e (ending_text (text_end.Whole horizon))
         (W.contents writer.old) (W.contents writer.new)) }
 {
     write_ending(alloc, &Ending::Whole(horizon), writer)?;
-    Ok(whole_ending(ran.faulted))
+    Ok(whole_ending(ran.written.faulted))
 }
 
 // Writes to which clocks the processes came, for this reason.

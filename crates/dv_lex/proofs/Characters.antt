@@ -108,8 +108,8 @@ IsUtf8-behind_digits text run rest u s = IsUtf8-behind_ascii run rest (IsAscii-d
 -- the byte behind a front
 byte_behind : (run : List ℕ) (b : ℕ) (rest : List ℕ) → get_or (run ++ b ∷ rest) (length run) 0 ≡ b
 byte_behind run b rest =
-    let place : length run ≡ length run + 0 = omega arith in
-    ap (λ n. get_or (run ++ b ∷ rest) n 0) place ∙ get_or-append-add run (b ∷ rest) 0 0
+    let offset : length run ≡ length run + 0 = omega arith in
+    ap (λ n. get_or (run ++ b ∷ rest) n 0) offset ∙ get_or-append-add run (b ∷ rest) 0 0
 
 pub line_end_behind : (run rest : List ℕ) → Ends (λ b. not (b == 10)) rest → IsUtf8 (run ++ rest) → IsUtf8 rest
 line_end_behind run [] h u = IsUtf8-nil

@@ -10,7 +10,7 @@ use Rattle.dv_lex.specs.declared.error.Refusal.{Refusal}
 use Rattle.dv_lex.specs.declared.error.RefusalNumber.TheVariants.{E1, E2, E3, E17}
 use Rattle.dv_lex.specs.Lexemes.{Lexeme, Blank, Comment, Identifier, Numeral, Reserved, Sign, Spells, IsWord, is_blank}
 use Rattle.dv_lex.specs.Lexemes.{starts_name, continues_name, symbol_text}
-use Rattle.dv_lex.specs.Reading.{Placed, Reads, IsFirst, IsInRange, NoneBegins, LargeNumberBegins}
+use Rattle.dv_lex.specs.Reading.{Located, Reads, IsFirst, IsInRange, NoneBegins, LargeNumberBegins}
 use Rattle.dv_lex.specs.Numbering.{names_of, tokens_of}
 use Rattle.dv_lex.specs.Versions.{versioned}
 use Rattle.dv_lex.specs.Steps.{BeginsWith, SplitsRun, SplitsCharacters}
@@ -116,20 +116,20 @@ front_by (c ∷ cs) text e u = first_front c text u (encode_utf8_all cs, sym e)
 front_of : (text : List ℕ) → IsUtf8 text → Front text
 front_of text u = front_by u.0 text u.1.1 u
 
--- the bytes, which begin at a place, are read as far as it goes
-record ReadsToStop (place : ℕ) (bytes : List ℕ) : Type 0 where
-  lexemes : List Placed
+-- the bytes, which begin at an offset, are read as far as it goes
+record ReadsToStop (offset : ℕ) (bytes : List ℕ) : Type 0 where
+  lexemes : List Located
   end : ℕ
   rest : List ℕ
-  reads : Reads place bytes lexemes end rest
+  reads : Reads offset bytes lexemes end rest
   stop : Stop rest
 
-ReadsToStop-here : (place : ℕ) (bytes : List ℕ) → Stop bytes → ReadsToStop place bytes
-ReadsToStop-here place bytes stop = record { lexemes = []; end = place; rest = bytes; reads = (refl, refl); stop = stop }
+ReadsToStop-here : (offset : ℕ) (bytes : List ℕ) → Stop bytes → ReadsToStop offset bytes
+ReadsToStop-here offset bytes stop = record { lexemes = []; end = offset; rest = bytes; reads = (refl, refl); stop = stop }
 
-ReadsToStop-more : (place : ℕ) (bytes : List ℕ) (b : Begins bytes) → ReadsToStop (place + length b.front) b.rest → ReadsToStop place bytes
-ReadsToStop-more place bytes b r = record {
-  lexemes = record { lexeme = b.lexeme; place = place } ∷ r.lexemes;
+ReadsToStop-more : (offset : ℕ) (bytes : List ℕ) (b : Begins bytes) → ReadsToStop (offset + length b.front) b.rest → ReadsToStop offset bytes
+ReadsToStop-more offset bytes b r = record {
+  lexemes = record { lexeme = b.lexeme; offset = offset } ∷ r.lexemes;
   end = r.end;
   rest = r.rest;
   reads = (refl, b.range, (b.front, b.rest, b.first, r.reads));
@@ -141,15 +141,15 @@ rest_shorter : (bytes : List ℕ) (b : Begins bytes) → length b.rest < length 
 rest_shorter bytes b = omega (arith, some_byte b.lexeme b.front b.first.spelled, ap length b.first.whole, length-append b.front b.rest)
 
 -- by recursion on a bound of the number of bytes that are left
-read_to_stop : (most place : ℕ) (bytes : List ℕ) → length bytes ≤ most → IsUtf8 bytes → ReadsToStop place bytes
-read_to_stop zero place bytes h u =
-    elim (front_of bytes u) [ inl stop ↦ ReadsToStop-here place bytes stop | inr b ↦ absurd (omega (arith, rest_shorter bytes b)) ]
-read_to_stop (suc most) place bytes h u =
+read_to_stop : (most offset : ℕ) (bytes : List ℕ) → length bytes ≤ most → IsUtf8 bytes → ReadsToStop offset bytes
+read_to_stop zero offset bytes h u =
+    elim (front_of bytes u) [ inl stop ↦ ReadsToStop-here offset bytes stop | inr b ↦ absurd (omega (arith, rest_shorter bytes b)) ]
+read_to_stop (suc most) offset bytes h u =
     elim (front_of bytes u) [
-      | inl stop ↦ ReadsToStop-here place bytes stop
+      | inl stop ↦ ReadsToStop-here offset bytes stop
       | inr b ↦
           let text : IsUtf8 b.rest = IsUtf8-behind_first bytes b.lexeme b.front b.rest u b.first in
-          ReadsToStop-more place bytes b (read_to_stop most (place + length b.front) b.rest (omega (arith, rest_shorter bytes b)) text)
+          ReadsToStop-more offset bytes b (read_to_stop most (offset + length b.front) b.rest (omega (arith, rest_shorter bytes b)) text)
     ]
 
 -- what a text has: tokens, or a refusal
@@ -177,20 +177,20 @@ readable_outcome text readable r =
     let up_to : ReadsUpTo text r.end r.rest = record { readable = readable; lexemes = r.lexemes; reads = r.reads } in
     elim (r.stop) [
       | AtEnd e ↦ read_whole text readable r e
-      | AtNone more none ↦ inr (record { number = E2; place = r.end }, (r.rest, up_to, more, none))
-      | AtLarge large ↦ inr (record { number = E3; place = r.end }, (r.rest, up_to, large))
+      | AtNone more none ↦ inr (record { number = E2; offset = r.end }, (r.rest, up_to, more, none))
+      | AtLarge large ↦ inr (record { number = E3; offset = r.end }, (r.rest, up_to, large))
     ]
 
 short_outcome : (text : List ℕ) → length text ≤ greatest_length → Outcome text
 short_outcome text short =
     elim (utf8_or_not text) [
       | inl utf8 ↦ readable_outcome text (record { short = short; utf8 = utf8 }) (read_to_stop (length text) 0 text (omega arith) utf8)
-      | inr valid ↦ inr (record { number = E1; place = valid.0 }, (short, valid.1))
+      | inr valid ↦ inr (record { number = E1; offset = valid.0 }, (short, valid.1))
     ]
 
 pub tokens_or_refusal : (text : List ℕ) → Outcome text
 tokens_or_refusal text =
     elim (cases_lt greatest_length (length text)) [
-      | inl long ↦ inr (record { number = E17; place = 0 }, (long, refl))
+      | inl long ↦ inr (record { number = E17; offset = 0 }, (long, refl))
       | inr short ↦ short_outcome text short
     ]

@@ -1,4 +1,4 @@
--- What the header of a text changes: kinds of tokens, and neither their number nor their places.
+-- What the header of a text changes: kinds of tokens, and neither their number nor their offsets.
 use Rattle.std.proofs.Common.{◌≡◌, ◌≢◌, ℕ, zero, suc, ◌+◌, ◌<◌, ◌≤◌, Bool, true, false, cond, List, [], ◌∷◌, ◌++◌}
 use Rattle.std.proofs.Common.{length, map, take, drop, get_or, set, Option, Some, None, refl, sym, ap, ◌∙◌, subst, arith, inl, inr}
 use Rattle.std.proofs.Common.{bytes_eq}
@@ -40,16 +40,16 @@ mapped_all {X = X} f (x ∷ xs) (suc k) h = ap (λ (ys : List X). x ∷ ys) (map
 
 -- ---- What stays
 
--- what holds of the places of tokens holds of those of the same with words
+-- what holds of the offsets of tokens holds of those of the same with words
 all_with : (P : ℕ → Type 0) (names : List (List ℕ)) (words : List Keyword) (ts : List Token)
-    → AllByRecursion (λ (t : Token). P t.place) ts → AllByRecursion (λ (t : Token). P t.place) (map (with_words names words) ts)
+    → AllByRecursion (λ (t : Token). P t.offset) ts → AllByRecursion (λ (t : Token). P t.offset) (map (with_words names words) ts)
 all_with P names words [] h = h
 all_with P names words (t ∷ ts) h = (h.0, all_with P names words ts h.1)
 
 rising_with : (names : List (List ℕ)) (words : List Keyword) (ts : List Token) → IsAscending ts
     → IsAscending (map (with_words names words) ts)
 rising_with names words [] h = h
-rising_with names words (t ∷ ts) h = (all_with (λ n. t.place < n) names words ts h.0, rising_with names words ts h.1)
+rising_with names words (t ∷ ts) h = (all_with (λ n. t.offset < n) names words ts h.0, rising_with names words ts h.1)
 
 numbered_or : (names : List (List ℕ)) (k : TokenKind) (word : Option Keyword) → IsNumbered names k → IsNumbered names (kind_or_word k word)
 numbered_or names k None h = h
@@ -83,14 +83,14 @@ module _ (P : List Token → Type 0) (names : List (List ℕ)) where
   behind t (v ∷ ts) rest h = by_second (is_second_version v.kind) t v ts rest h
 
   by_first : (word : Option Keyword) (t : Token) (ts : List Token)
-      → ((word : Keyword) (t : Token) (ts : List Token) → P (t ∷ ts) → P (record { kind = kind.Keyword word; place = t.place } ∷ ts))
+      → ((word : Keyword) (t : Token) (ts : List Token) → P (t ∷ ts) → P (record { kind = kind.Keyword word; offset = t.offset } ∷ ts))
       → ((t v : Token) (ts : List Token) → P (t ∷ v ∷ ts) → P (t ∷ v ∷ map (with_words names later_words) ts))
       → P (t ∷ ts) → P (headed names word t ts)
   by_first None t ts first rest h = h
-  by_first (Some word) t ts first rest h = behind (record { kind = kind.Keyword word; place = t.place }) ts rest (first word t ts h)
+  by_first (Some word) t ts first rest h = behind (record { kind = kind.Keyword word; offset = t.offset }) ts rest (first word t ts h)
 
   pub by_header : (ts : List Token) → P ts
-      → ((word : Keyword) (t : Token) (ts : List Token) → P (t ∷ ts) → P (record { kind = kind.Keyword word; place = t.place } ∷ ts))
+      → ((word : Keyword) (t : Token) (ts : List Token) → P (t ∷ ts) → P (record { kind = kind.Keyword word; offset = t.offset } ∷ ts))
       → ((t v : Token) (ts : List Token) → P (t ∷ v ∷ ts) → P (t ∷ v ∷ map (with_words names later_words) ts)) → P (versioned names ts)
   by_header [] h first rest = h
   by_header (t ∷ ts) h first rest = by_first (word_written header_words (text_in names t.kind)) t ts first rest h
@@ -98,12 +98,12 @@ module _ (P : List Token → Type 0) (names : List (List ℕ)) where
 pub rising_versioned : (names : List (List ℕ)) (ts : List Token) → IsAscending ts → IsAscending (versioned names ts)
 rising_versioned names ts h =
     by_header IsAscending names ts h (λ word t ts h. h)
-    (λ t v ts h. ((h.0.0, all_with (λ n. t.place < n) names later_words ts h.0.1), rising_with names later_words (v ∷ ts) h.1))
+    (λ t v ts h. ((h.0.0, all_with (λ n. t.offset < n) names later_words ts h.0.1), rising_with names later_words (v ∷ ts) h.1))
 
-pub places_versioned : (P : ℕ → Type 0) (names : List (List ℕ)) (ts : List Token) → AllByRecursion (λ (t : Token). P t.place) ts
-    → AllByRecursion (λ (t : Token). P t.place) (versioned names ts)
-places_versioned P names ts h =
-    by_header (AllByRecursion (λ (t : Token). P t.place)) names ts h (λ word t ts h. h)
+pub offsets_versioned : (P : ℕ → Type 0) (names : List (List ℕ)) (ts : List Token) → AllByRecursion (λ (t : Token). P t.offset) ts
+    → AllByRecursion (λ (t : Token). P t.offset) (versioned names ts)
+offsets_versioned P names ts h =
+    by_header (AllByRecursion (λ (t : Token). P t.offset)) names ts h (λ word t ts h. h)
     (λ t v ts h. (h.0, (h.1.0, all_with P names later_words ts h.1.1)))
 
 pub length_versioned : (names : List (List ℕ)) (ts : List Token) → length (versioned names ts) ≡ length ts
@@ -125,7 +125,7 @@ numbered_versioned names ts h =
 
 -- the word of a header in the place of a name, and what follows it
 abbrev begun : Token → List Token → List Token
-begun t ts = record { kind = kind.Keyword keyword.Version; place = t.place } ∷ ts
+begun t ts = record { kind = kind.Keyword keyword.Version; offset = t.offset } ∷ ts
 
 word_in : (names : List (List ℕ)) (t : Token) (ts : List Token) (word : Option Keyword)
     → word_written header_words (text_in names t.kind) ≡ word → versioned names (t ∷ ts) ≡ headed names word t ts
@@ -148,7 +148,7 @@ behind_kept names (t ∷ ts) h =
     ap (λ (b : Bool). t ∷ cond b (map (with_words names later_words) ts) ts) (false_from_ne_true (is_second_version t.kind) h)
 
 pub headed_first : (names : List (List ℕ)) (t : Token) (ts : List Token) → IsHeaded names (t ∷ ts) → ¬ IsOfSecondVersion ts
-    → versioned names (t ∷ ts) ≡ record { kind = kind.Keyword keyword.Version; place = t.place } ∷ ts
+    → versioned names (t ∷ ts) ≡ record { kind = kind.Keyword keyword.Version; offset = t.offset } ∷ ts
 headed_first names t ts h other =
     let found : versioned names (t ∷ ts) ≡ begun t (behind_header names ts) =
     word_in names t ts (Some keyword.Version) (ap (word_written header_words) h) in

@@ -14,7 +14,7 @@ use Rattle.dv_lex.specs.declared.token.TokenKind.{TokenKind}
 use Rattle.dv_lex.specs.declared.token.TokenKind.TheVariants as kind
 use Rattle.dv_lex.specs.Table.{first_appearances, has_name, with_name, number_of}
 use Rattle.dv_lex.specs.Lexemes.{Lexeme, Blank, Identifier, Numeral, Reserved, Sign}
-use Rattle.dv_lex.specs.Reading.{Placed}
+use Rattle.dv_lex.specs.Reading.{Located}
 use Rattle.dv_lex.specs.Numbering.{name_in, names_of, kind_of, token_of, tokens_of}
 use Rattle.dv_lex.specs.Steps.{with_lexeme}
 use Rattle.dv_lex.specs.Texts.{IsNumbered, IsAscending}
@@ -68,10 +68,10 @@ name_more ts (Identifier text) = first_appearances-push ts text
 name_more ts Blank = ap first_appearances (append-nil ts)
 name_more ts _ = ap first_appearances (append-nil ts)
 
-pub names_of-push : (xs : List Placed) (x : Placed) → names_of (xs ++ x ∷ []) ≡ with_lexeme (names_of xs) x.lexeme
+pub names_of-push : (xs : List Located) (x : Located) → names_of (xs ++ x ∷ []) ≡ with_lexeme (names_of xs) x.lexeme
 names_of-push xs x =
-    ap first_appearances (filter_map-append (λ (p : Placed). name_in p.lexeme) xs (x ∷ [])) ∙ name_more
-    (filter_map (λ (p : Placed). name_in p.lexeme) xs) x.lexeme
+    ap first_appearances (filter_map-append (λ (p : Located). name_in p.lexeme) xs (x ∷ [])) ∙ name_more
+    (filter_map (λ (p : Located). name_in p.lexeme) xs) x.lexeme
 
 -- a name that is there keeps its number as the table grows
 number_of-grown : (names more : List (List ℕ)) (t : List ℕ) → has_name names t ≡ true → number_of (names ++ more) t ≡ number_of names t
@@ -111,10 +111,10 @@ IsNamed-new : (names : List (List ℕ)) (x : Lexeme) → IsNamed (with_lexeme na
 IsNamed-new names (Identifier text) = has_name-new names text
 IsNamed-new names _ = tt
 
-abbrev pub AreNamed : List (List ℕ) → List Placed → Type 0
-AreNamed names xs = AllByRecursion (λ (x : Placed). IsNamed names x.lexeme) xs
+abbrev pub AreNamed : List (List ℕ) → List Located → Type 0
+AreNamed names xs = AllByRecursion (λ (x : Located). IsNamed names x.lexeme) xs
 
-pub AreNamed-push : (names : List (List ℕ)) (xs : List Placed) (x : Placed) → AreNamed names xs →
+pub AreNamed-push : (names : List (List ℕ)) (xs : List Located) (x : Located) → AreNamed names xs →
     AreNamed (with_lexeme names x.lexeme) (xs ++ x ∷ [])
 AreNamed-push names [] x h = (IsNamed-new names x.lexeme, tt)
 AreNamed-push names (y ∷ ys) x h = (IsNamed-with names x.lexeme y.lexeme h.0, AreNamed-push names ys x h.1)
@@ -125,15 +125,15 @@ kind_of-with names (Identifier text) (Identifier other) h = ap (λ n. Some (kind
 kind_of-with names _ (Identifier other) h = refl
 kind_of-with names _ _ h = refl
 
-tokens_of-with : (names : List (List ℕ)) (y : Lexeme) (xs : List Placed) → AreNamed names xs →
+tokens_of-with : (names : List (List ℕ)) (y : Lexeme) (xs : List Located) → AreNamed names xs →
     tokens_of (with_lexeme names y) xs ≡ tokens_of names xs
 tokens_of-with names y [] h = refl
 tokens_of-with names y (x ∷ xs) h =
-    ap (λ (k : Option TokenKind). cons_option (option_map (λ e. record { kind = e; place = x.place }) k)
+    ap (λ (k : Option TokenKind). cons_option (option_map (λ e. record { kind = e; offset = x.offset }) k)
     (tokens_of (with_lexeme names y) xs)) (kind_of-with names y x.lexeme h.0) ∙ ap (cons_option (token_of names x))
     (tokens_of-with names y xs h.1)
 
-pub tokens_of-push : (names : List (List ℕ)) (xs : List Placed) (x : Placed) → AreNamed names xs →
+pub tokens_of-push : (names : List (List ℕ)) (xs : List Located) (x : Located) → AreNamed names xs →
     tokens_of (with_lexeme names x.lexeme) (xs ++ x ∷ []) ≡ tokens_of names xs ++ cons_option (token_of (with_lexeme names x.lexeme) x) []
 tokens_of-push names xs x h =
     filter_map-append (token_of (with_lexeme names x.lexeme)) xs (x ∷ []) ∙ ap
@@ -149,14 +149,14 @@ first_appearances-has (u ∷ ts) t h =
           (elim (or_cases (bytes_eq t u) (list_any (bytes_eq t) ts) h) [ inl w ↦ absurd (both_ways (bytes_eq t u) e w) | inr w ↦ w ])
     ]
 
-AreNamed-all : (names : List (List ℕ)) (xs : List Placed) →
-    ((t : List ℕ) → list_any (bytes_eq t) (filter_map (λ (x : Placed). name_in x.lexeme) xs) ≡ true → has_name names t ≡ true) →
+AreNamed-all : (names : List (List ℕ)) (xs : List Located) →
+    ((t : List ℕ) → list_any (bytes_eq t) (filter_map (λ (x : Located). name_in x.lexeme) xs) ≡ true → has_name names t ≡ true) →
     AreNamed names xs
 AreNamed-all names [] h = tt
 AreNamed-all names (x ∷ xs) h = (
-  head_named x.lexeme (filter_map (λ (y : Placed). name_in y.lexeme) xs) h,
+  head_named x.lexeme (filter_map (λ (y : Located). name_in y.lexeme) xs) h,
   AreNamed-all names xs
-      (λ t e. h t (tail_named x.lexeme (filter_map (λ (y : Placed). name_in y.lexeme) xs) t e)),
+      (λ t e. h t (tail_named x.lexeme (filter_map (λ (y : Located). name_in y.lexeme) xs) t e)),
 )
   where
     head_named : (x : Lexeme) (ts : List (List ℕ)) →
@@ -169,8 +169,8 @@ AreNamed-all names (x ∷ xs) h = (
     tail_named (Identifier text) ts t e = or_right (bytes_eq t text) _ e
     tail_named _ ts t e = e
 
-pub AreNamed-names_of : (xs : List Placed) → AreNamed (names_of xs) xs
-AreNamed-names_of xs = AreNamed-all (names_of xs) xs (first_appearances-has (filter_map (λ (x : Placed). name_in x.lexeme) xs))
+pub AreNamed-names_of : (xs : List Located) → AreNamed (names_of xs) xs
+AreNamed-names_of xs = AreNamed-all (names_of xs) xs (first_appearances-has (filter_map (λ (x : Located). name_in x.lexeme) xs))
 
 -- once each
 without_all : (u : List ℕ) (xs : List (List ℕ)) → AllByRecursion (λ y. bytes_eq u y ≡ false) (filter (λ other. not (bytes_eq u other)) xs)
@@ -201,18 +201,18 @@ IsDistinct-first_appearances (u ∷ ts) =
     (without_all u (first_appearances ts), IsDistinct-without u (first_appearances ts) (IsDistinct-first_appearances ts))
 
 -- what holds of the lexemes holds of the tokens
-one_token : (Q : Token → Type 0) (place : ℕ) (k : Option TokenKind) (ts : List Token) →
-    ((kind : TokenKind) → k ≡ Some kind → Q (record { kind = kind; place = place })) → AllByRecursion Q ts →
-    AllByRecursion Q (cons_option (option_map (λ e. record { kind = e; place = place }) k) ts)
-one_token Q place None ts step h = h
-one_token Q place (Some kind) ts step h = (step kind refl, h)
+one_token : (Q : Token → Type 0) (offset : ℕ) (k : Option TokenKind) (ts : List Token) →
+    ((kind : TokenKind) → k ≡ Some kind → Q (record { kind = kind; offset = offset })) → AllByRecursion Q ts →
+    AllByRecursion Q (cons_option (option_map (λ e. record { kind = e; offset = offset }) k) ts)
+one_token Q offset None ts step h = h
+one_token Q offset (Some kind) ts step h = (step kind refl, h)
 
-tokens_of-each : (P : Placed → Type 0) (Q : Token → Type 0) (names : List (List ℕ)) →
-    ((x : Placed) (kind : TokenKind) → P x → kind_of names x.lexeme ≡ Some kind → Q (record { kind = kind; place = x.place })) →
-    (xs : List Placed) → AllByRecursion P xs → AllByRecursion Q (tokens_of names xs)
+tokens_of-each : (P : Located → Type 0) (Q : Token → Type 0) (names : List (List ℕ)) →
+    ((x : Located) (kind : TokenKind) → P x → kind_of names x.lexeme ≡ Some kind → Q (record { kind = kind; offset = x.offset })) →
+    (xs : List Located) → AllByRecursion P xs → AllByRecursion Q (tokens_of names xs)
 tokens_of-each P Q names step [] h = tt
 tokens_of-each P Q names step (x ∷ xs) h =
-    one_token Q x.place (kind_of names x.lexeme) (tokens_of names xs) (λ kind e. step x kind h.0 e) (tokens_of-each P Q names step xs h.1)
+    one_token Q x.offset (kind_of names x.lexeme) (tokens_of names xs) (λ kind e. step x kind h.0 e) (tokens_of-each P Q names step xs h.1)
 
 numbered_kind : (names : List (List ℕ)) (x : Lexeme) (kind : TokenKind) → IsNamed names x → kind_of names x ≡ Some kind →
     IsNumbered names kind
@@ -223,29 +223,29 @@ numbered_kind names (Reserved word) kind h e = subst (IsNumbered names) (same_So
 numbered_kind names (Sign sign) kind h e = subst (IsNumbered names) (same_Some _ _ e) tt
 numbered_kind names _ kind h e = cc
 
-pub each_numbered : (xs : List Placed)
+pub each_numbered : (xs : List Located)
     → AllByRecursion (λ (token : Token). IsNumbered (names_of xs) token.kind) (tokens_of (names_of xs) xs)
 each_numbered xs =
-    tokens_of-each (λ (x : Placed). IsNamed (names_of xs) x.lexeme) (λ (token : Token). IsNumbered (names_of xs) token.kind) (names_of xs)
+    tokens_of-each (λ (x : Located). IsNamed (names_of xs) x.lexeme) (λ (token : Token). IsNumbered (names_of xs) token.kind) (names_of xs)
     (λ x kind h e. numbered_kind (names_of xs) x.lexeme kind h e) xs (AreNamed-names_of xs)
 
-pub all_tokens_of : (P : ℕ → Type 0) (names : List (List ℕ)) (xs : List Placed) → AllByRecursion (λ (x : Placed). P x.place) xs →
-    AllByRecursion (λ (token : Token). P token.place) (tokens_of names xs)
+pub all_tokens_of : (P : ℕ → Type 0) (names : List (List ℕ)) (xs : List Located) → AllByRecursion (λ (x : Located). P x.offset) xs →
+    AllByRecursion (λ (token : Token). P token.offset) (tokens_of names xs)
 all_tokens_of P names xs h =
-    tokens_of-each (λ (x : Placed). P x.place) (λ (token : Token). P token.place) names (λ x kind p e. p) xs h
+    tokens_of-each (λ (x : Located). P x.offset) (λ (token : Token). P token.offset) names (λ x kind p e. p) xs h
 
--- the places of lexemes rise
-abbrev pub AreAscending : List Placed → Type 0
+-- the offsets of lexemes rise
+abbrev pub AreAscending : List Located → Type 0
 AreAscending [] = Unit {0}
-AreAscending (x ∷ xs) = AllByRecursion (λ (other : Placed). x.place < other.place) xs × AreAscending xs
+AreAscending (x ∷ xs) = AllByRecursion (λ (other : Located). x.offset < other.offset) xs × AreAscending xs
 
-one_ascending : (names : List (List ℕ)) (x : Placed) (k : Option TokenKind) (xs : List Placed) →
-    AllByRecursion (λ (other : Placed). x.place < other.place) xs → IsAscending (tokens_of names xs) →
-    IsAscending (cons_option (option_map (λ e. record { kind = e; place = x.place }) k) (tokens_of names xs))
+one_ascending : (names : List (List ℕ)) (x : Located) (k : Option TokenKind) (xs : List Located) →
+    AllByRecursion (λ (other : Located). x.offset < other.offset) xs → IsAscending (tokens_of names xs) →
+    IsAscending (cons_option (option_map (λ e. record { kind = e; offset = x.offset }) k) (tokens_of names xs))
 one_ascending names x None xs h rest = rest
-one_ascending names x (Some kind) xs h rest = (all_tokens_of (λ n. x.place < n) names xs h, rest)
+one_ascending names x (Some kind) xs h rest = (all_tokens_of (λ n. x.offset < n) names xs h, rest)
 
-pub IsAscending-tokens_of : (names : List (List ℕ)) (xs : List Placed) → AreAscending xs → IsAscending (tokens_of names xs)
+pub IsAscending-tokens_of : (names : List (List ℕ)) (xs : List Located) → AreAscending xs → IsAscending (tokens_of names xs)
 IsAscending-tokens_of names [] h = tt
 IsAscending-tokens_of names (x ∷ xs) h =
     one_ascending names x (kind_of names x.lexeme) xs h.0 (IsAscending-tokens_of names xs h.1)
@@ -255,6 +255,6 @@ few_more : (o : Option Token) (tokens : List Token) → length (cons_option o to
 few_more None tokens = omega arith
 few_more (Some token) tokens = omega arith
 
-pub tokens_of-few : (names : List (List ℕ)) (xs : List Placed) → length (tokens_of names xs) ≤ length xs
+pub tokens_of-few : (names : List (List ℕ)) (xs : List Located) → length (tokens_of names xs) ≤ length xs
 tokens_of-few names [] = omega arith
 tokens_of-few names (x ∷ xs) = omega (arith, few_more (token_of names x) (tokens_of names xs), tokens_of-few names xs)

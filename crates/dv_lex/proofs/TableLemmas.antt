@@ -18,14 +18,14 @@ pub list_any-map : {X Y : Type 0} (p : Y → Bool) (f : X → Y) (xs : List X) �
 list_any-map p f [] = refl
 list_any-map p f (x ∷ xs) = ap (λ b. p (f x) || b) (list_any-map p f xs)
 
--- what `position` finds is the place
+-- what `position` finds is the offset
 pub position_or_len-position : {X : Type 0} (p : X → Bool) (xs : List X) (i : ℕ) → Some i ≡ position p xs → i ≡ position_or_len p xs
 position_or_len-position p xs i e = sym ((cond_some (ltb (position_or_len p xs) (length xs)) _ _ (sym e)).1)
 
 pub bytes_eq-same : (t : List ℕ) → bytes_eq t t ≡ true
 bytes_eq-same t = (bytes_eq-Decides t t).1 refl
 
--- a name that is added last has the place that a search through the names before ends at
+-- a name that is added last has the offset that a search through the names before ends at
 pub number_of-push : (names : List (List ℕ)) (t : List ℕ) → number_of (names ++ t ∷ []) t ≡ number_of names t
 number_of-push names t =
     position_or_len_push (bytes_eq t) names t ∙ rw bytes_eq-same
@@ -62,7 +62,7 @@ with_name-added keys s t e =
     (map string_bytes keys ++ string_bytes s ∷ [])) (λ h. sym (cond-true _ _ _ h))
     (λ h. map-append string_bytes keys (s ∷ []) ∙ sym (cond-false _ _ _ h)))
 
--- the number of a name that is there is a place in the table
+-- the number of a name that is there is an index in the table
 pub number_of-lt : (names : List (List ℕ)) (t : List ℕ) → has_name names t ≡ true → number_of names t < length names
 number_of-lt [] t h = cc
 number_of-lt (n ∷ names) t h =

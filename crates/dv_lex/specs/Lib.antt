@@ -1,4 +1,4 @@
--- What a reader believes: the tokens of a text, or its refusal with its place and its line.
+-- What a reader believes: the tokens of a text, or its refusal with its offset and its line.
 pub mod Lexemes
 pub mod Reading
 pub mod Table

@@ -1,4 +1,4 @@
--- Which of several refusals of a text is its answer: the one at the least place, and at one place the one of the least number.
+-- Which of several refusals of a text is its answer: the one at the least offset, and at one offset the one of the least number.
 use Rattle.std.specs.Prelude.{ℕ, Bool, ◌&&◌, ◌||◌, nat_eq, nat_lt, if◌then◌else◌, List, [], ◌∷◌, Option, Some, None}
 use Rattle.dv_lex.specs.declared.error.RefusalNumber.{RefusalNumber}
 use Rattle.dv_lex.specs.declared.error.RefusalNumber.TheVariants.{E1, E2, E3, E4, E5, E6, E7, E8, E9, E10, E11, E12, E13, E14}
@@ -27,7 +27,7 @@ ordinal E17 = 17
 
 -- whether the first refusal comes before the second
 abbrev pub precedes : Refusal → Refusal → Bool
-precedes a b = nat_lt a.place b.place || (nat_eq a.place b.place && nat_lt (ordinal a.number) (ordinal b.number))
+precedes a b = nat_lt a.offset b.offset || (nat_eq a.offset b.offset && nat_lt (ordinal a.number) (ordinal b.number))
 
 -- the earlier of a refusal, if there is one, and another
 abbrev pub earlier : Option Refusal → Refusal → Refusal

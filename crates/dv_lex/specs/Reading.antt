@@ -1,11 +1,11 @@
--- How a model text is cut into lexemes: each is the longest at its place.
+-- How a model text is cut into lexemes: each is the longest at its offset.
 use Rattle.std.specs.Prelude.{◌≡◌, ℕ, ◌+◌, ◌^◌, ◌<◌, ◌≤◌, List, [], ◌∷◌, ◌++◌, length}
 use Rattle.dv_lex.specs.Lexemes.{Lexeme, Numeral, Spells}
 
 -- a lexeme, and how many bytes of the text stand before it
-pub record Placed : Type 0 where
+pub record Located : Type 0 where
   pub lexeme : Lexeme
-  pub place : ℕ
+  pub offset : ℕ
 
 -- the bytes begin with the lexeme, which `front` spells, and then come those of `rest`; no longer front spells a lexeme
 pub record IsFirst (bytes : List ℕ) (lexeme : Lexeme) (front rest : List ℕ) : Type 0 where
@@ -26,9 +26,9 @@ IsInRange _ = Unit {0}
 abbrev pub LargeNumberBegins : List ℕ → Type 0
 LargeNumberBegins bytes = (value : ℕ) × (front : List ℕ) × (rest : List ℕ) × IsFirst bytes (Numeral value) front rest × (2 ^ 63 ≤ value)
 
--- the bytes, which begin at a place, are these lexemes and then `rest`, which begins at the place `end`
-abbrev pub Reads : ℕ → List ℕ → List Placed → ℕ → List ℕ → Type 0
-Reads place bytes [] end rest = (end ≡ place) × (rest ≡ bytes)
-Reads place bytes (x ∷ xs) end rest =
-    (x.place ≡ place) × IsInRange x.lexeme
-    × ((front : List ℕ) × (after : List ℕ) × IsFirst bytes x.lexeme front after × Reads (place + length front) after xs end rest)
+-- the bytes, which begin at an offset, are these lexemes and then `rest`, which begins at the offset `end`
+abbrev pub Reads : ℕ → List ℕ → List Located → ℕ → List ℕ → Type 0
+Reads offset bytes [] end rest = (end ≡ offset) × (rest ≡ bytes)
+Reads offset bytes (x ∷ xs) end rest =
+    (x.offset ≡ offset) × IsInRange x.lexeme
+    × ((front : List ℕ) × (after : List ℕ) × IsFirst bytes x.lexeme front after × Reads (offset + length front) after xs end rest)

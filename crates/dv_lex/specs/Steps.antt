@@ -44,15 +44,15 @@ abbrev pub with_lexeme : List (List ℕ) → Lexeme → List (List ℕ)
 with_lexeme names (Identifier text) = with_name names text
 with_lexeme names _ = names
 
--- the bytes begin with a lexeme within the range of numbers, which is this token at its place; the table grows from old to new by it
-pub record ReadsToken (place : ℕ) (bytes : List ℕ) (old new : List (List ℕ)) (token : Token) (rest : List ℕ) : Type 0 where
+-- the bytes begin with a lexeme within the range of numbers, which is this token at its offset; the table grows from old to new by it
+pub record ReadsToken (offset : ℕ) (bytes : List ℕ) (old new : List (List ℕ)) (token : Token) (rest : List ℕ) : Type 0 where
   pub lexeme : Lexeme
   pub front : List ℕ
   pub first : IsFirst bytes lexeme front rest
   pub range : IsInRange lexeme
   pub table : new ≡ with_lexeme old lexeme
   pub kind : kind_of new lexeme ≡ Some token.kind
-  pub at_place : token.place ≡ place
+  pub at_offset : token.offset ≡ offset
 
 -- the bytes begin with no lexeme, or with a number that is out of range
 abbrev pub IsNoToken : List ℕ → RefusalNumber → Type 0

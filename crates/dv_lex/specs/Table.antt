@@ -15,6 +15,6 @@ has_name names text = list_any (bytes_eq text) names
 abbrev pub with_name : List (List ℕ) → List ℕ → List (List ℕ)
 with_name names text = if has_name names text then names else names ++ text ∷ []
 
--- the number of a name is its place in the table
+-- the number of a name is its offset in the table
 abbrev pub number_of : List (List ℕ) → List ℕ → ℕ
 number_of names text = position_or_len (bytes_eq text) names

@@ -10,7 +10,7 @@ use Rattle.dv_lex.specs.declared.error.Refusal.{Refusal}
 use Rattle.dv_lex.specs.declared.error.RefusalNumber.{RefusalNumber}
 use Rattle.dv_lex.specs.declared.error.RefusalNumber.TheVariants.{E1, E2, E3, E17}
 use Rattle.dv_lex.specs.Lexemes.{line_feeds}
-use Rattle.dv_lex.specs.Reading.{Placed, Reads, NoneBegins, LargeNumberBegins}
+use Rattle.dv_lex.specs.Reading.{Located, Reads, NoneBegins, LargeNumberBegins}
 use Rattle.dv_lex.specs.Numbering.{names_of, tokens_of}
 use Rattle.dv_lex.specs.Versions.{versioned}
 
@@ -18,9 +18,9 @@ use Rattle.dv_lex.specs.Versions.{versioned}
 abbrev pub greatest_length : ℕ
 greatest_length = 16777216
 
--- the line of a place of a text, counted from 1: the line feeds before it
+-- the line of an offset of a text, counted from 1: the line feeds before it
 abbrev pub line_of : List ℕ → ℕ → ℕ
-line_of text place = 1 + line_feeds (take place text)
+line_of text offset = 1 + line_feeds (take offset text)
 
 -- the text is not too long, and is UTF-8
 pub record IsReadable (text : List ℕ) : Type 0 where
@@ -30,47 +30,47 @@ pub record IsReadable (text : List ℕ) : Type 0 where
 -- the text has these tokens, and their names are numbered by this table
 pub record IsTokensOf (text : List ℕ) (names : List (List ℕ)) (tokens : List Token) : Type 0 where
   pub readable : IsReadable text
-  pub lexemes : List Placed
+  pub lexemes : List Located
   pub reads : Reads 0 text lexemes (length text) []
   pub table : names ≡ names_of lexemes
   pub numbered : tokens ≡ versioned names (tokens_of names lexemes)
 
--- the text reads as lexemes up to a rest that begins at this place
-pub record ReadsUpTo (text : List ℕ) (place : ℕ) (rest : List ℕ) : Type 0 where
+-- the text reads as lexemes up to a rest that begins at this offset
+pub record ReadsUpTo (text : List ℕ) (offset : ℕ) (rest : List ℕ) : Type 0 where
   pub readable : IsReadable text
-  pub lexemes : List Placed
-  pub reads : Reads 0 text lexemes place rest
+  pub lexemes : List Located
+  pub reads : Reads 0 text lexemes offset rest
 
--- what each refusal of a text says of it, and at which place
+-- what each refusal of a text says of it, and at which offset
 abbrev pub IsRefusedAs : List ℕ → RefusalNumber → ℕ → Type 0
 -- the text is too long
-IsRefusedAs text E17 place = (greatest_length < length text) × (place ≡ 0)
+IsRefusedAs text E17 offset = (greatest_length < length text) × (offset ≡ 0)
 -- the text is not UTF-8, from its byte n on
-IsRefusedAs text E1 place = (length text ≤ greatest_length) × IsValidUpTo text place
+IsRefusedAs text E1 offset = (length text ≤ greatest_length) × IsValidUpTo text offset
 -- a character with which no token, blank or comment begins
-IsRefusedAs text E2 place = (rest : List ℕ) × ReadsUpTo text place rest × (0 < length rest) × NoneBegins rest
+IsRefusedAs text E2 offset = (rest : List ℕ) × ReadsUpTo text offset rest × (0 < length rest) × NoneBegins rest
 -- a number above 2^63 - 1
-IsRefusedAs text E3 place = (rest : List ℕ) × ReadsUpTo text place rest × LargeNumberBegins rest
-IsRefusedAs text _ place = ⊥
+IsRefusedAs text E3 offset = (rest : List ℕ) × ReadsUpTo text offset rest × LargeNumberBegins rest
+IsRefusedAs text _ offset = ⊥
 
 -- the text is refused so
 abbrev pub IsRefused : List ℕ → Refusal → Type 0
-IsRefused text r = IsRefusedAs text r.number r.place
+IsRefused text r = IsRefusedAs text r.number r.offset
 
 -- a name's number is that of a text in the table
 abbrev pub IsNumbered : List (List ℕ) → TokenKind → Type 0
 IsNumbered names (Name number) = number < length names
 IsNumbered names _ = Unit {0}
 
--- a place that a text can have, its end among them
-abbrev pub IsPlace : ℕ → Type 0
-IsPlace place = place ≤ greatest_length
+-- an offset that a text can have, its end among them
+abbrev pub IsOffset : ℕ → Type 0
+IsOffset offset = offset ≤ greatest_length
 
--- the places of the tokens rise
+-- the offsets of the tokens rise
 abbrev pub IsAscending : List Token → Type 0
 IsAscending [] = Unit {0}
-IsAscending (t ∷ ts) = AllByRecursion (λ other. t.place < other.place) ts × IsAscending ts
+IsAscending (t ∷ ts) = AllByRecursion (λ other. t.offset < other.offset) ts × IsAscending ts
 
--- the answer to a refusal of a text: its number, its place, and the line of that
+-- the answer to a refusal of a text: its number, its offset, and the line of that
 abbrev pub answer_to : List ℕ → Refusal → TextError
-answer_to text r = record { number = r.number; line = line_of text r.place; place = r.place }
+answer_to text r = record { number = r.number; line = line_of text r.offset; offset = r.offset }

@@ -33,9 +33,9 @@ text_in names other = []
 abbrev pub kind_among : List (List ℕ) → List Keyword → TokenKind → TokenKind
 kind_among names words k = kind_or_word k (word_written words (text_in names k))
 
--- the same of a token, which keeps its place
+-- the same of a token, which keeps its offset
 abbrev pub with_words : List (List ℕ) → List Keyword → Token → Token
-with_words names words t = record { kind = kind_among names words t.kind; place = t.place }
+with_words names words t = record { kind = kind_among names words t.kind; offset = t.offset }
 
 -- does the number of version 2 stand here
 abbrev pub is_second_version : TokenKind → Bool
@@ -49,7 +49,7 @@ behind_header names (t ∷ ts) = t ∷ (if is_second_version t.kind then map (wi
 
 abbrev pub headed : List (List ℕ) → Option Keyword → Token → List Token → List Token
 headed names None t ts = t ∷ ts
-headed names (Some word) t ts = record { kind = kind.Keyword word; place = t.place } ∷ behind_header names ts
+headed names (Some word) t ts = record { kind = kind.Keyword word; offset = t.offset } ∷ behind_header names ts
 
 -- The tokens of a text: where the first is the name `version` it is the word of a header. Everywhere else `version` is a name.
 -- Where the number 2 follows that word, the names behind it that are written as words of version 2 are these.

@@ -24,9 +24,9 @@ pub enum RefusalNumber {
     E6,
     /// An unknown model, part, port, variable, flag, bag or phase.
     E7,
-    /// A wrong type, or a name of another sort than its place wants.
+    /// A wrong type, or a name of another sort than its offset wants.
     E8,
-    /// Something that is not allowed in this place.
+    /// Something that is not allowed in this offset.
     E9,
     /// `phases`, `start` or a phase's `hold` is missing or stands twice.
     E10,
@@ -75,22 +75,27 @@ impl fmt::Display for RefusalNumber {
     }
 }
 
-/// What is wrong with a text, and where: the place is that of the token which the refusal names, as the number of
-/// the bytes of the text before it. Of two refusals the one at the lesser place comes first, and at one place the one
+/// What is wrong with a text, and where: the offset is that of the token which the refusal names, as the number of
+/// the bytes of the text before it. Of two refusals the one at the lesser offset comes first, and at one offset the one
 /// with the lesser number.
 #[derive(Clone, Copy, Debug, PartialEq, Eq)]
 pub struct Refusal {
+    /// The number of the refusal.
     pub number: RefusalNumber,
-    pub place: u32,
+    /// The offset of the token that is named, in bytes of the text.
+    pub offset: u32,
 }
 
-/// A refused text as it is answered: which refusal, the line, counted from 1, and the place of the token that is named,
+/// A refused text as it is answered: which refusal, the line, counted from 1, and the offset of the token that is named,
 /// as the number of the bytes of the text before it.
 #[derive(Clone, Copy, Debug, PartialEq, Eq)]
 pub struct TextError {
+    /// The number of the refusal.
     pub number: RefusalNumber,
+    /// The number of the line, counted from 1.
     pub line: u64,
-    pub place: u32,
+    /// The offset of the token that is named, in bytes of the text.
+    pub offset: u32,
 }
 
 impl fmt::Display for TextError {
@@ -104,24 +109,24 @@ impl fmt::Display for TextError {
     }
 }
 
-/// The answer to a refusal of the text: its number, its place, and the line of that. A place past the text's end lies
+/// The answer to a refusal of the text: its number, its offset, and the line of that. An offset past the text's end lies
 /// on the last line.
 pub fn answer(text: &[u8], refusal: Refusal) -> TextError
     ensures { result ≡ answer_to text.now refusal }
 {
     TextError {
         number: refusal.number,
-        line: 1 + line_feeds(front(text, refusal.place as usize)),
-        place: refusal.place,
+        line: 1 + line_feeds(front(text, refusal.offset as usize)),
+        offset: refusal.offset,
     }
 }
 
-// The bytes before a place.
-fn front(text: &[u8], place: usize) -> &[u8]
-    ensures { result.now ≡ take place text.now }
+// The bytes before an offset.
+fn front(text: &[u8], offset: usize) -> &[u8]
+    ensures { result.now ≡ take offset text.now }
 {
-    if place < text.len() {
-        &text[..place]
+    if offset < text.len() {
+        &text[..offset]
     } else {
         text
     }

@@ -3,8 +3,8 @@
 ghost use Rattle.std.specs.Prelude.{◌≡◌, ◌≤◌, ◌<◌, ◌⊎◌, ℕ, List, ◌∷◌, ◌++◌, All, bytes_eq, length};
 ghost use Rattle.std.specs.List.{IsDistinct};
 ghost use Rattle.dv_lex.specs.Numbering.{tokens_of};
-ghost use Rattle.dv_lex.specs.Reading.{Placed, Reads};
-ghost use Rattle.dv_lex.specs.Texts.{IsTokensOf, IsRefused, IsNumbered, IsPlace, IsAscending};
+ghost use Rattle.dv_lex.specs.Reading.{Located, Reads};
+ghost use Rattle.dv_lex.specs.Texts.{IsTokensOf, IsRefused, IsNumbered, IsOffset, IsAscending};
 ghost use Rattle.dv_lex.specs.Versions.{IsHeaded, IsOfSecondVersion};
 
 use crate::error::Refusal;
@@ -30,7 +30,7 @@ pub fn a_text_has_tokens_or_a_refusal()
         ⊎ ((r : Refusal) × IsRefused text r) }
 {}
 
-/// A text is refused in at most one way, and at one place.
+/// A text is refused in at most one way, and at one offset.
 pub fn refusals_are_unique()
     ensures { (text : List ℕ) (r other : Refusal) → IsRefused text r → IsRefused text other
         → r ≡ other }
@@ -48,17 +48,17 @@ pub fn names_are_in_the_table()
         IsTokensOf text names tokens → All (λ token. IsNumbered names token.kind) tokens }
 {}
 
-/// A place counts the bytes before it.
-pub fn places_count_bytes()
-    ensures { (text : List ℕ) (xs : List Placed) (place : ℕ) (rest : List ℕ) →
-        Reads 0 text xs place rest → (before : List ℕ) × (text ≡ before ++ rest)
-        × (place ≡ length before) }
+/// An offset counts the bytes before it.
+pub fn offsets_count_bytes()
+    ensures { (text : List ℕ) (xs : List Located) (offset : ℕ) (rest : List ℕ) →
+        Reads 0 text xs offset rest → (before : List ℕ) × (text ≡ before ++ rest)
+        × (offset ≡ length before) }
 {}
 
-/// Each token has a byte of the text at its place, and each but the first has a greater place than the one before.
-pub fn tokens_have_places()
+/// Each token has a byte of the text at its offset, and each but the first has a greater offset than the one before.
+pub fn tokens_have_offsets()
     ensures in_text { (text : List ℕ) (names : List (List ℕ)) (tokens : List Token) →
-        IsTokensOf text names tokens → All (λ token. token.place < length text) tokens }
+        IsTokensOf text names tokens → All (λ token. token.offset < length text) tokens }
     ensures ascending { (text : List ℕ) (names : List (List ℕ)) (tokens : List Token) →
         IsTokensOf text names tokens → IsAscending tokens }
 {}
@@ -76,18 +76,18 @@ pub fn other_texts_keep_their_tokens()
         → tokens ≡ tokens_of names t.lexemes }
 {}
 
-/// Where a text begins with the name `version` and is not of version 2, that name is a keyword, at its place; the other tokens
+/// Where a text begins with the name `version` and is not of version 2, that name is a keyword, at its offset; the other tokens
 /// are those of its lexemes.
 pub fn version_two_alone_changes_what_follows_a_header()
     ensures { (text : List ℕ) (names : List (List ℕ)) (tokens : List Token)
         (t : IsTokensOf text names tokens) (first : Token) (others : List Token) →
         tokens_of names t.lexemes ≡ first ∷ others → IsHeaded names (first ∷ others) →
         ¬ IsOfSecondVersion others → tokens
-        ≡ record { kind = TokenKind.Keyword Keyword.Version; place = first.place } ∷ others }
+        ≡ record { kind = TokenKind.Keyword Keyword.Version; offset = first.offset } ∷ others }
 {}
 
-/// A text is refused at one of its places, or at its end.
-pub fn refusals_have_places()
-    ensures in_text { (text : List ℕ) (r : Refusal) → IsRefused text r → r.place ≤ length text }
-    ensures small { (text : List ℕ) (r : Refusal) → IsRefused text r → IsPlace r.place }
+/// A text is refused at one of its offsets, or at its end.
+pub fn refusals_have_offsets()
+    ensures in_text { (text : List ℕ) (r : Refusal) → IsRefused text r → r.offset ≤ length text }
+    ensures small { (text : List ℕ) (r : Refusal) → IsRefused text r → IsOffset r.offset }
 {}

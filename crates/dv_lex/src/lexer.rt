@@ -137,77 +137,77 @@ fn symbol(text: &str) -> Option<(Symbol, &str)>
 }
 
 /// The refusal of a text.
-fn refused(number: RefusalNumber, place: u32) -> LoadError
-    ensures { result ≡ LoadError.Refused (record { number = number; place = place }) }
+fn refused(number: RefusalNumber, offset: u32) -> LoadError
+    ensures { result ≡ LoadError.Refused (record { number = number; offset = offset }) }
 {
-    LoadError::Refused(Refusal { number, place })
+    LoadError::Refused(Refusal { number, offset })
 }
 
-/// The number or the symbol at the front of the text, which begins with this character and at this place, and what
+/// The number or the symbol at the front of the text, which begins with this character and at this offset, and what
 /// follows it. It takes no memory.
 ///
 /// # Errors
 ///
-/// E3 of a number above 2^63 - 1, E2 where no symbol begins, at this place.
-fn number_or_symbol(first: char, text: &str, place: u32) -> Result<(Token, &str), Refusal>
+/// E3 of a number above 2^63 - 1, E2 where no symbol begins, at this offset.
+fn number_or_symbol(first: char, text: &str, offset: u32) -> Result<(Token, &str), Refusal>
     requires first { BeginsWith first text.now }
     requires no_blank { is_blank first ≡ false }
     requires no_comment { first ≢ 35 }
     requires no_word { starts_name first ≡ false }
     ensures token { (names : List (List ℕ)) → IfOk result (λ r.
-        ReadsToken place text.now names names r.0 r.1.now) }
-    ensures refused { IfErr result (λ r. (r.place ≡ place) × IsNoToken text.now r.number) }
+        ReadsToken offset text.now names names r.0 r.1.now) }
+    ensures refused { IfErr result (λ r. (r.offset ≡ offset) × IsNoToken text.now r.number) }
 {
     if first.is_ascii_digit() {
         let (digits, rest) = split_digits(text);
         let Some(value) = number(digits) else {
             return Err(Refusal {
                 number: RefusalNumber::E3,
-                place,
+                offset,
             });
         };
         let kind = TokenKind::Number(value);
-        return Ok((Token { kind, place }, rest));
+        return Ok((Token { kind, offset }, rest));
     }
     let Some((symbol, rest)) = symbol(text) else {
         return Err(Refusal {
             number: RefusalNumber::E2,
-            place,
+            offset,
         });
     };
     let kind = TokenKind::Symbol(symbol);
-    Ok((Token { kind, place }, rest))
+    Ok((Token { kind, offset }, rest))
 }
 
-/// The token at the front of the text, which begins with this character and at this place, and what follows it.
+/// The token at the front of the text, which begins with this character and at this offset, and what follows it.
 fn token<'a>(
     alloc: Global,
     names: &mut Names,
     first: char,
     text: &'a str,
-    place: u32,
+    offset: u32,
 ) -> Result<(Token, &'a str), LoadError>
     requires room { length names.old < 2 ^ 32 }
     requires first { BeginsWith first text.now }
     requires no_blank { is_blank first ≡ false }
     requires no_comment { first ≢ 35 }
-    ensures token { IfOk result (λ r. ReadsToken place text.now names.old names.new r.0 r.1.now) }
+    ensures token { IfOk result (λ r. ReadsToken offset text.now names.old names.new r.0 r.1.now) }
     ensures refused { (r : Refusal) → result ≡ Err (LoadError.Refused r)
-        → (r.place ≡ place) × IsNoToken text.now r.number }
+        → (r.offset ≡ offset) × IsNoToken text.now r.number }
 {
     if starts_name(first) {
         let (word, rest) = split_word(text);
         let kind = word_kind(alloc, names, word)?;
-        return Ok((Token { kind, place }, rest));
+        return Ok((Token { kind, offset }, rest));
     }
-    match number_or_symbol(first, text, place) {
+    match number_or_symbol(first, text, offset) {
         Ok(read) => Ok(read),
         Err(refusal) => Err(LoadError::Refused(refusal)),
     }
 }
 
 /// How many bytes of the text stand before a rest of it.
-fn place_of(text: &str, rest: &str) -> u32
+fn offset_of(text: &str, rest: &str) -> u32
     requires short { length text.now ≤ greatest_length }
     requires part { length rest.now ≤ length text.now }
     ensures { result ≡ length text.now - length rest.now }
@@ -231,8 +231,8 @@ fn read(alloc: Global, text: &str) -> Result<Tokens, LoadError>
             let (_, after) = split_line(after);
             rest = after;
         } else {
-            let place = place_of(text, rest);
-            let (token, after) = match token(alloc, &mut names, first, rest, place) {
+            let offset = offset_of(text, rest);
+            let (token, after) = match token(alloc, &mut names, first, rest, offset) {
                 Ok(read) => read,
                 Err(e) => return Err(e),
             };
@@ -255,9 +255,9 @@ pub fn tokens(alloc: Global, text: &[u8]) -> Result<Tokens, LoadError>
     ensures tokens { IfOk result (λ r. IsTokensOf text.now r.names r.tokens.items) }
     ensures refused { (r : Refusal) → result ≡ Err (LoadError.Refused r) → IsRefused text.now r }
     ensures too_long { greatest_length < length text.now
-        → result ≡ Err (LoadError.Refused (record { number = RefusalNumber.E17; place = 0 })) }
-    ensures not_text { (place : ℕ) → IsRefusedAs text.now RefusalNumber.E1 place
-        → result ≡ Err (LoadError.Refused (record { number = RefusalNumber.E1; place = place })) }
+        → result ≡ Err (LoadError.Refused (record { number = RefusalNumber.E17; offset = 0 })) }
+    ensures not_text { (offset : ℕ) → IsRefusedAs text.now RefusalNumber.E1 offset
+        → result ≡ Err (LoadError.Refused (record { number = RefusalNumber.E1; offset = offset })) }
 {
     if text.len() > GREATEST_LENGTH {
         return Err(refused(RefusalNumber::E17, 0));

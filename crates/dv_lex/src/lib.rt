@@ -1,7 +1,13 @@
-//! The tokens of a model text.
+//! The tokens of a model text, and the refusals of texts.
 //!
-//! A text is read from its bytes in one pass. Names are numbered in the order in which they first appear, so
-//! that everything above compares names by their numbers; the table of names keeps the texts.
+//! `tokens` reads a text from its bytes in one pass, by the longest match. Names are numbered in the order in which
+//! they first appear, so that everything above compares names by their numbers; the table `Names` keeps the texts. It
+//! is a law that every text has tokens or one refusal, and not both. A `Refusal` is a number (E1 to E17) and how many
+//! bytes come before the token that it names, and of several the one that comes first in order is answered;
+//! `TextError` has its line too.
+//!
+//! The parser reads these tokens; `dv_check` and `dv_flat` refuse with these numbers, and `dv_explain` and `dv_hints`
+//! look at tokens to say what is wrong. What sequences of tokens are a file is not known here: that is `dv_syntax`.
 #![tactic(auto)]
 
 /// Refusals, and the answer to a text.

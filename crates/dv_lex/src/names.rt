@@ -7,7 +7,7 @@ use indexmap::IndexSet;
 use std::alloc::{AllocError, Global};
 use std::marker::Model;
 
-/// The names of a model text, each once, in the order of first appearance. A name's number is its place here.
+/// The names of a model text, each once, in the order of first appearance. A name's number is its offset here.
 #[derive(Drop)]
 pub struct Names {
     texts: IndexSet<String>,

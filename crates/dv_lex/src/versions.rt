@@ -49,7 +49,7 @@ fn with_later_word(names: &Names, token: Token) -> Token
     match later_word(text_of(names, token.kind)) {
         Some(word) => Token {
             kind: TokenKind::Keyword(word),
-            place: token.place,
+            offset: token.offset,
         },
         None => token,
     }
@@ -71,8 +71,8 @@ fn make_later_words(names: &Names, tokens: &mut Vec<Token>)
     ensures { tokens.new.items ≡ take 2 tokens.old.items
         ++ map (with_words names.now later_words) (drop 2 tokens.old.items) }
 {
-    for place in 2..tokens.len() {
-        tokens[place] = with_later_word(names, tokens[place]);
+    for offset in 2..tokens.len() {
+        tokens[offset] = with_later_word(names, tokens[offset]);
     }
 }
 
@@ -90,7 +90,7 @@ pub fn make_words(names: &Names, tokens: &mut Vec<Token>)
     };
     tokens[0] = Token {
         kind: TokenKind::Keyword(word),
-        place: first.place,
+        offset: first.offset,
     };
     if tokens.len() >= 2 && is_second_version(tokens[1].kind) {
         make_later_words(names, tokens);

@@ -1,5 +1,12 @@
-//! The lines of a trace, written straight into bytes: each as it stands in the text of the trace, with the words of its
-//! component looked up once for all lines.
+//! The lines of a trace, written straight into bytes.
+//!
+//! `TreeWords` has the paths, ports and variables of a tree as bytes, looked up once for all lines. `TextRecord` is
+//! the record of a process that is alone: it is told what happens and keeps the text alone. `WrittenRecord`, one for
+//! each of several processes, keeps each entry as its line, for a merge. `TraceWriter` writes merged parts to a
+//! writer. Each line is the one that `dv_text` defines, and what is not settled can be taken back.
+//!
+//! `dv_stream` gives these records to its processes and writes by them; `dv_job` writes the trace of a plain run.
+//! When a line may be written is not decided here, nor is anything sorted.
 #![tactic(auto)]
 
 /// Bytes, words and numbers, put into a room.

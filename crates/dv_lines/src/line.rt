@@ -1,4 +1,4 @@
-//! A line, put into a room of bytes from a place on.
+//! A line, put into a room of bytes from an index on.
 
 ghost use Rattle.std.specs.Prelude.{◌≡◌, ◌≤◌, ◌++◌, ◌∷◌, [], codes, length, map, IfSome};
 ghost use Rattle.dv_time.specs.Time.{time_text};
@@ -16,10 +16,15 @@ use dv_bag::{Bag, Fault, Kind, Sent, State};
 /// The words of a component, and the bytes in which they lie.
 #[derive(Clone, Copy, Debug)]
 pub struct ComponentWords<'w> {
+    /// The bytes in which all of these words lie.
     pub bytes: &'w [u8],
+    /// The path of the component.
     pub path: Word,
+    /// The names of its phases, in the order of their declaration.
     pub phases: &'w [Word],
+    /// The names of its variables, flags, bags and queues, in the order of their declaration.
     pub variables: &'w [Word],
+    /// The names of its output ports, in the order of their declaration.
     pub outputs: &'w [Word],
 }
 

@@ -324,7 +324,7 @@ impl Room {
     }
 }
 
-// The line of a transition behind what stands before a place, which stays.
+// The line of a transition behind what stands before an index, which stays.
 #[inline(always)]
 fn put_behind(
     room: &mut [u8],

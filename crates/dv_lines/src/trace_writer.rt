@@ -166,8 +166,8 @@ fn write_merged<N: OfJob, W: Write>(
 {
     lines.clear();
     let mut outer = part.outer();
-    for place in 0..part.entry_count() {
-        let entry = part.entry(place);
+    for index in 0..part.entry_count() {
+        let entry = part.entry(index);
         outer = write_before(lines, writer, words, entry.time(), outer)?;
         lines.put(entry.line())?;
         hand_over_if_long(lines, writer)?;

@@ -1,4 +1,4 @@
-//! Values, what a state holds, and what was sent, put into a room of bytes from a place on.
+//! Values, what a state holds, and what was sent, put into a room of bytes from an index on.
 
 ghost use Rattle.std.specs.Prelude.{◌≡◌, ◌≤◌, ◌<◌, ◌++◌, ◌∷◌, [], if◌then◌else◌, true, length, map, replicate, IfSome};
 ghost use Rattle.std.specs.Fmt.{signed_decimal};
@@ -136,8 +136,8 @@ pub fn put_variables(
         (variables_words (map (word_text bytes.now) words.now) variables.now)) }
 {
     let mut at = at;
-    for (place, word) in words.iter().enumerate() {
-        let Some(datum) = variables.get(place) else {
+    for (index, word) in words.iter().enumerate() {
+        let Some(datum) = variables.get(index) else {
             return Some(at);
         };
         at = put_word(to, at, bytes, *word)?;
@@ -195,7 +195,7 @@ pub fn put_sent(
     let mut is_first = true;
     let mut next = 0;
     let sendings = sent.as_slice();
-    for (place, sending) in sendings.iter().enumerate() {
+    for (index, sending) in sendings.iter().enumerate() {
         // A port is written with the first value that went there.
         if sending.port >= next {
             let Some(word) = words.get(sending.port) else {
@@ -207,7 +207,7 @@ pub fn put_sent(
                 is_first,
                 bytes,
                 *word,
-                &sendings[place..],
+                &sendings[index..],
                 sending.port,
                 sent.len(),
             )?;

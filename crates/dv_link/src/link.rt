@@ -39,6 +39,7 @@ pub struct TakePass {
 /// The packet that a full link did not take.
 #[derive(Drop)]
 pub struct Full<T> {
+    /// The packet.
     pub value: T,
 }
 

@@ -13,10 +13,15 @@ use std::marker::{Brand, PhantomData};
 /// What an end of a link knows: the link's number, whether it puts and takes, and what it has put and taken. No value of it is
 /// made.
 pub struct EndView {
+    /// The number of the link.
     pub link: u32,
+    /// Whether the end puts packets.
     pub puts: bool,
+    /// Whether the end takes packets.
     pub takes: bool,
+    /// The packets that it has put, in their order.
     pub put: LinkedList<Packet>,
+    /// The packets that it has taken, in their order.
     pub taken: LinkedList<Packet>,
 }
 

@@ -23,7 +23,7 @@ all_left (x ∷ y ∷ xs) = ap (λ t. x ++ (10 ∷ t)) (all_left (y ∷ xs))
 
 -- what is left from a model on
 abbrev pub left_from : List (List ℕ) → List Model → Bool → ℕ → List ℕ
-left_from names models is_first place = texts_from is_first (filter_map (text_of_model names) (drop place (map model_of models)))
+left_from names models is_first index = texts_from is_first (filter_map (text_of_model names) (drop index (map model_of models)))
 
 model_next : (names : List (List ℕ)) (models : List Model) (is_first : Bool) (i : ℕ) (m : Model) → i < length models
     → m ≡ get_or models i m

@@ -1,3 +1,3 @@
 pub mod Left
 pub mod Models
-pub mod Placed
+pub mod Indexed

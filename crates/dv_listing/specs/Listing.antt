@@ -1,4 +1,4 @@
--- The bytes of a listing: for each atomic model of a file, in the order of the text, its names by their places, and the
+-- The bytes of a listing: for each atomic model of a file, in the order of the text, its names by their indices, and the
 -- programs of its phases.
 use Rattle.std.specs.Prelude.{ℕ, ◌+◌, List, [], ◌∷◌, ◌++◌, Option, Some, None, codes}
 use Rattle.std.specs.Fmt.{decimal}
@@ -15,10 +15,10 @@ use Rattle.dv_gen.specs.ModelCode.{phase_codes}
 use Rattle.dv_gen.specs.declared.model_code.PhaseCode.{PhaseCode}
 use Rattle.dv_tree.specs.Paths.{name_at}
 
--- the texts of the elements of a list, each with its place, from a place on
-abbrev pub placed_from : {A : Type 0} → (ℕ → A → List ℕ) → ℕ → List A → List ℕ
-placed_from text k [] = []
-placed_from text k (x ∷ xs) = text k x ++ placed_from text (k + 1) xs
+-- the texts of the elements of a list, each with its index, from an index on
+abbrev pub indexed_from : {A : Type 0} → (ℕ → A → List ℕ) → ℕ → List A → List ℕ
+indexed_from text k [] = []
+indexed_from text k (x ∷ xs) = text k x ++ indexed_from text (k + 1) xs
 
 -- `WORD K NAME`
 abbrev pub name_line : List ℕ → ℕ → List ℕ → List ℕ
@@ -29,7 +29,7 @@ abbrev pub line_of_name : List (List ℕ) → List ℕ → ℕ → ℕ → List 
 line_of_name names word k n = name_line word k (name_at names n)
 
 abbrev pub names_text : List (List ℕ) → List ℕ → List ℕ → List ℕ
-names_text names word numbers = placed_from (line_of_name names word) 0 numbers
+names_text names word numbers = indexed_from (line_of_name names word) 0 numbers
 
 abbrev pub domain_word : Domain → List ℕ
 domain_word (domain.Number range) = codes "variable"
@@ -42,7 +42,7 @@ abbrev pub line_of_slot : List (List ℕ) → ℕ → ℕ × Domain → List ℕ
 line_of_slot names k slot = name_line (domain_word slot.1) k (name_at names slot.0)
 
 abbrev pub slots_text : List (List ℕ) → List (ℕ × Domain) → List ℕ
-slots_text names slots = placed_from (line_of_slot names) 0 slots
+slots_text names slots = indexed_from (line_of_slot names) 0 slots
 
 -- `    K INSTRUCTION`
 abbrev pub instruction_line : ℕ → Instruction → List ℕ
@@ -50,7 +50,7 @@ instruction_line k i = codes "    " ++ (decimal k ++ ((32 ∷ instruction_words 
 
 -- `PHASE WORD`, and a line for each instruction
 abbrev pub program_text : List ℕ → List ℕ → List Instruction → List ℕ
-program_text phase word code = phase ++ ((32 ∷ word) ++ (10 ∷ placed_from instruction_line 0 code))
+program_text phase word code = phase ++ ((32 ∷ word) ++ (10 ∷ indexed_from instruction_line 0 code))
 
 abbrev pub confluent_text : List ℕ → Option Program → List ℕ
 confluent_text phase None = []
@@ -74,7 +74,7 @@ phases_text names [] codes = []
 phases_text names (p ∷ phases) [] = []
 phases_text names (p ∷ phases) (c ∷ codes) = phase_text (name_at names p) c ++ phases_text names phases codes
 
--- the names that a model declares, by their places: input ports, output ports, state variables and phases
+-- the names that a model declares, by their indices: input ports, output ports, state variables and phases
 abbrev pub scope_text : List (List ℕ) → Scope → List ℕ
 scope_text names scope =
     names_text names (codes "input") scope.inputs

@@ -63,7 +63,7 @@ fn push_gap(text: &mut String, is_first: bool) -> Result<(), AllocError>
     text.push('\n')
 }
 
-// A line for each name that a model declares, with its place.
+// A line for each name that a model declares, with its index.
 fn push_scope(text: &mut String, tree: &Tree, scope: &Scope) -> Result<(), AllocError>
     ensures { OnOk result (string_bytes text.new
         ≡ string_bytes text.old ++ scope_text tree.now.names scope.now) }
@@ -74,29 +74,29 @@ fn push_scope(text: &mut String, tree: &Tree, scope: &Scope) -> Result<(), Alloc
     push_names(text, tree, "phase", scope.phases())
 }
 
-// A line for each of some names, with its place.
+// A line for each of some names, with its index.
 fn push_names(text: &mut String, tree: &Tree, word: &str, names: &[u32]) -> Result<(), AllocError>
     ensures { OnOk result (string_bytes text.new
         ≡ string_bytes text.old ++ names_text tree.now.names word.now names.now) }
 {
-    for (place, name) in names.iter().enumerate() {
-        writeln!(text, "{word} {place} {}", tree.name(*name))?;
+    for (index, name) in names.iter().enumerate() {
+        writeln!(text, "{word} {index} {}", tree.name(*name))?;
     }
     Ok(())
 }
 
-// A line for each variable, flag, bag and queue, with its place.
+// A line for each variable, flag, bag and queue, with its index.
 fn push_slots(text: &mut String, tree: &Tree, scope: &Scope) -> Result<(), AllocError>
     ensures { OnOk result (string_bytes text.new
         ≡ string_bytes text.old ++ slots_text tree.now.names scope.now.variables) }
 {
     let names = scope.variables();
-    for (place, domain) in scope.domains().iter().enumerate() {
+    for (index, domain) in scope.domains().iter().enumerate() {
         writeln!(
             text,
-            "{} {place} {}",
+            "{} {index} {}",
             word_of(*domain),
-            tree.name(names[place])
+            tree.name(names[index])
         )?;
     }
     Ok(())
@@ -130,8 +130,8 @@ fn push_phases(
     ensures { OnOk result (string_bytes text.new
         ≡ string_bytes text.old ++ phases_text tree.now.names phases.now codes.now) }
 {
-    for (place, phase) in phases.iter().enumerate() {
-        push_phase(text, tree.name(*phase), &codes[place])?;
+    for (index, phase) in phases.iter().enumerate() {
+        push_phase(text, tree.name(*phase), &codes[index])?;
     }
     Ok(())
 }
@@ -177,8 +177,8 @@ fn push_program(
         ≡ string_bytes text.old ++ program_text phase.now word.now program.now.code) }
 {
     writeln!(text, "{phase} {word}")?;
-    for (place, instruction) in program.code().iter().enumerate() {
-        writeln!(text, "    {place} {instruction}")?;
+    for (index, instruction) in program.code().iter().enumerate() {
+        writeln!(text, "    {index} {instruction}")?;
     }
     Ok(())
 }

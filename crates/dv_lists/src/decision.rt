@@ -1,5 +1,5 @@
-//! A slow decision whether instructions are a program, written from the definition: a mark for each place, by all ways
-//! from the first one, and an instruction at each place that agrees with the marks where it leads.
+//! A slow decision whether instructions are a program, written from the definition: a mark for each address, by all ways
+//! from the first one, and an instruction at each address that agrees with the marks where it leads.
 
 use dv_bag::{Change, Discipline, ValueType};
 use dv_code::{Action, Binary, Deed, Instruction, Leaf, ProgramSort, Shape, Slot, Source, Unary};
@@ -21,14 +21,14 @@ const NUMBERS: Types = &[ValueType::Number, ValueType::Number];
 
 const TRUTHS: Types = &[ValueType::Truth, ValueType::Truth];
 
-/// A loop's body: its first place, and the place past its end.
+/// A loop's body: its first address, and the address past its end.
 #[derive(Clone, Copy, PartialEq, Eq)]
 struct Body {
     first: usize,
     past: usize,
 }
 
-/// What stands at a place: the types on the stack, the top last, and the bodies around, the innermost last.
+/// What stands at an address: the types on the stack, the top last, and the bodies around, the innermost last.
 #[derive(Drop)]
 struct Mark {
     types: Vec<ValueType>,
@@ -63,20 +63,20 @@ impl Mark {
     }
 }
 
-/// A place to which an instruction leads, and the mark with which it leads there.
+/// An address to which an instruction leads, and the mark with which it leads there.
 #[derive(Drop)]
 struct Way {
     to: usize,
     mark: Mark,
 }
 
-/// A place of a program of so many instructions.
+/// An address of a program of so many instructions.
 #[derive(Clone, Copy)]
 struct Case<'a> {
     alloc: Global,
     shape: &'a Shape,
     end: usize,
-    place: usize,
+    address: usize,
     next: usize,
 }
 
@@ -92,16 +92,16 @@ pub fn is_valid(alloc: Global, shape: &Shape, code: &[Instruction]) -> Result<bo
     all_agree(alloc, shape, code, &marks)
 }
 
-/// Marks the places to which ways lead from the first one. Jumps lead forward.
+/// Marks the addresses to which ways lead from the first one. Jumps lead forward.
 fn walk_on(
     alloc: Global,
     shape: &Shape,
     code: &[Instruction],
     marks: &mut Vec<Option<Mark>>,
 ) -> Result<(), AllocError> {
-    for (place, instruction) in code.iter().enumerate() {
-        let case = Case::new(alloc, shape, code.len(), place);
-        if let Some(ways) = case.ways_from(mark_at(marks, place), *instruction)? {
+    for (address, instruction) in code.iter().enumerate() {
+        let case = Case::new(alloc, shape, code.len(), address);
+        if let Some(ways) = case.ways_from(mark_at(marks, address), *instruction)? {
             for way in ways {
                 settle(marks, way.to, way.mark);
             }
@@ -110,32 +110,32 @@ fn walk_on(
     Ok(())
 }
 
-/// Marks the places to which no way leads, by the places behind them.
+/// Marks the addresses to which no way leads, by the addresses behind them.
 fn walk_back(
     alloc: Global,
     shape: &Shape,
     code: &[Instruction],
     marks: &mut Vec<Option<Mark>>,
 ) -> Result<(), AllocError> {
-    for (place, instruction) in code.iter().enumerate().rev() {
-        let case = Case::new(alloc, shape, code.len(), place);
+    for (address, instruction) in code.iter().enumerate().rev() {
+        let case = Case::new(alloc, shape, code.len(), address);
         if let Some(mark) = case.mark_before(marks, *instruction)? {
-            settle(marks, place, mark);
+            settle(marks, address, mark);
         }
     }
     Ok(())
 }
 
-/// Whether each place has a mark, and its instruction agrees with the marks where it leads.
+/// Whether each address has a mark, and its instruction agrees with the marks where it leads.
 fn all_agree(
     alloc: Global,
     shape: &Shape,
     code: &[Instruction],
     marks: &[Option<Mark>],
 ) -> Result<bool, AllocError> {
-    for (place, instruction) in code.iter().enumerate() {
-        let case = Case::new(alloc, shape, code.len(), place);
-        let Some(ways) = case.ways_from(mark_at(marks, place), *instruction)? else {
+    for (address, instruction) in code.iter().enumerate() {
+        let case = Case::new(alloc, shape, code.len(), address);
+        let Some(ways) = case.ways_from(mark_at(marks, address), *instruction)? else {
             return Ok(false);
         };
         if !arrive(marks, &ways) || !is_beside(marks, case, *instruction) {
@@ -145,13 +145,13 @@ fn all_agree(
     Ok(!code.is_empty())
 }
 
-fn mark_at(marks: &[Option<Mark>], place: usize) -> Option<&Mark> {
-    marks.get(place)?.as_ref()
+fn mark_at(marks: &[Option<Mark>], address: usize) -> Option<&Mark> {
+    marks.get(address)?.as_ref()
 }
 
-/// Marks a place of the program, unless it has a mark.
-fn settle(marks: &mut [Option<Mark>], place: usize, mark: Mark) {
-    if let Some(found) = marks.get_mut(place) {
+/// Marks an address of the program, unless it has a mark.
+fn settle(marks: &mut [Option<Mark>], address: usize, mark: Mark) {
+    if let Some(found) = marks.get_mut(address) {
         if found.is_none() {
             *found = Some(mark);
         }
@@ -176,20 +176,20 @@ fn is_beside(marks: &[Option<Mark>], case: Case, instruction: Instruction) -> bo
     if !matches!(instruction, Instruction::Jump(_)) {
         return true;
     }
-    match (mark_at(marks, case.place), mark_at(marks, case.next)) {
+    match (mark_at(marks, case.address), mark_at(marks, case.next)) {
         (Some(jump), Some(behind)) => jump.nest.as_slice() == behind.nest.as_slice(),
         _ => false,
     }
 }
 
 impl<'a> Case<'a> {
-    fn new(alloc: Global, shape: &'a Shape, end: usize, place: usize) -> Self {
+    fn new(alloc: Global, shape: &'a Shape, end: usize, address: usize) -> Self {
         Case {
             alloc,
             shape,
             end,
-            place,
-            next: place.saturating_add(1),
+            address,
+            next: address.saturating_add(1),
         }
     }
 
@@ -222,10 +222,10 @@ impl<'a> Case<'a> {
         }
     }
 
-    /// Whether the place lies in the innermost body, each body in the next one, and the last in the program; they are
+    /// Whether the address lies in the innermost body, each body in the next one, and the last in the program; they are
     /// not too many.
     fn lies_in(self, nest: &[Body]) -> bool {
-        let mut inner = self.place;
+        let mut inner = self.address;
         for body in nest.iter().rev() {
             if inner < body.first || body.past <= inner {
                 return false;
@@ -255,7 +255,7 @@ impl<'a> Case<'a> {
     }
 
     fn jump(self, mark: &Mark, to: u32) -> Result<Option<Vec<Way>>, AllocError> {
-        if to as usize <= self.place {
+        if to as usize <= self.address {
             return Ok(None);
         }
         let mark = Mark::of(self.alloc, &mark.types, &mark.nest)?;
@@ -264,7 +264,7 @@ impl<'a> Case<'a> {
 
     /// The truth value on top goes, or is another one where it jumps.
     fn decide(self, mark: &Mark, to: u32, keeps: Types) -> Result<Option<Vec<Way>>, AllocError> {
-        if to as usize <= self.place {
+        if to as usize <= self.address {
             return Ok(None);
         }
         match (
@@ -333,7 +333,7 @@ impl<'a> Case<'a> {
         }
     }
 
-    /// The only mark with which an instruction can lead to the next place.
+    /// The only mark with which an instruction can lead to the next address.
     fn mark_above(
         self,
         behind: &Mark,
@@ -371,7 +371,7 @@ fn left_by(sort: ProgramSort) -> Types {
     }
 }
 
-/// What an instruction takes from the stack that leads to the next place alone, and what it leaves in its place.
+/// What an instruction takes from the stack that leads to the next address alone, and what it leaves in its place.
 fn taken_and_given(instruction: Instruction) -> (Types, Types) {
     match instruction {
         Instruction::Push(Leaf::Truth(_) | Leaf::Flag(_)) => (NOTHING, TRUTH),
@@ -404,13 +404,13 @@ fn knows(shape: &Shape, inside: usize, instruction: Instruction) -> bool {
 fn knows_leaf(shape: &Shape, inside: usize, leaf: Leaf) -> bool {
     match leaf {
         Leaf::Number(_) | Leaf::Truth(_) => true,
-        Leaf::Variable(place) => matches!(slot(shape, place), Some(Slot::Ranged { .. })),
-        Leaf::Flag(place) => matches!(slot(shape, place), Some(Slot::Flagged)),
+        Leaf::Variable(address) => matches!(slot(shape, address), Some(Slot::Ranged { .. })),
+        Leaf::Flag(address) => matches!(slot(shape, address), Some(Slot::Flagged)),
         Leaf::Item(number) => usize::from(number) < inside,
         Leaf::Elapsed => shape.sort() == ProgramSort::External,
         Leaf::Size(source) => knows_source(shape, source),
         Leaf::Sum(source) | Leaf::Least(source) | Leaf::Most(source) => knows_bag(shape, source),
-        Leaf::Front(place) => holds(shape, place, Discipline::Queue),
+        Leaf::Front(address) => holds(shape, address, Discipline::Queue),
     }
 }
 
@@ -423,7 +423,7 @@ fn knows_bag(shape: &Shape, source: Source) -> bool {
 /// Whether a bag or a queue may be read there.
 fn knows_source(shape: &Shape, source: Source) -> bool {
     match source {
-        Source::Own(discipline, place) => holds(shape, place, discipline),
+        Source::Own(discipline, address) => holds(shape, address, discipline),
         Source::Port(port) => {
             u32::from(port) < shape.tables().inputs()
                 && matches!(shape.sort(), ProgramSort::External | ProgramSort::Confluent)
@@ -433,17 +433,17 @@ fn knows_source(shape: &Shape, source: Source) -> bool {
 
 fn knows_action(shape: &Shape, action: Action) -> bool {
     match action {
-        Action::SetVariable(place) => {
-            matches!(slot(shape, place), Some(Slot::Ranged { .. })) && changes(shape.sort())
+        Action::SetVariable(address) => {
+            matches!(slot(shape, address), Some(Slot::Ranged { .. })) && changes(shape.sort())
         }
-        Action::SetFlag(place) => {
-            matches!(slot(shape, place), Some(Slot::Flagged)) && changes(shape.sort())
+        Action::SetFlag(address) => {
+            matches!(slot(shape, address), Some(Slot::Flagged)) && changes(shape.sort())
         }
-        Action::Change(Change::Add | Change::Drop, place) => {
-            holds(shape, place, Discipline::Bag) && changes(shape.sort())
+        Action::Change(Change::Add | Change::Drop, address) => {
+            holds(shape, address, Discipline::Bag) && changes(shape.sort())
         }
-        Action::Change(Change::Push, place) => {
-            holds(shape, place, Discipline::Queue) && changes(shape.sort())
+        Action::Change(Change::Push, address) => {
+            holds(shape, address, Discipline::Queue) && changes(shape.sort())
         }
         Action::Send(port) => {
             u32::from(port) < shape.tables().outputs() && shape.sort() == ProgramSort::Output
@@ -454,14 +454,14 @@ fn knows_action(shape: &Shape, action: Action) -> bool {
 fn knows_deed(shape: &Shape, deed: Deed) -> bool {
     let is_known = match deed {
         Deed::Go(phase) => phase < shape.tables().phases(),
-        Deed::Pop(place) => holds(shape, place, Discipline::Queue),
+        Deed::Pop(address) => holds(shape, address, Discipline::Queue),
     };
     is_known && changes(shape.sort())
 }
 
-/// Whether the slot of a place holds a collection of this discipline.
-fn holds(shape: &Shape, place: u16, wanted: Discipline) -> bool {
-    match slot(shape, place) {
+/// Whether the slot of an address holds a collection of this discipline.
+fn holds(shape: &Shape, address: u16, wanted: Discipline) -> bool {
+    match slot(shape, address) {
         Some(Slot::Holding { discipline, .. }) => discipline == wanted,
         _ => false,
     }
@@ -471,6 +471,6 @@ fn changes(sort: ProgramSort) -> bool {
     !matches!(sort, ProgramSort::Output | ProgramSort::Hold)
 }
 
-fn slot(shape: &Shape, place: u16) -> Option<Slot> {
-    shape.tables().slots().get(usize::from(place)).copied()
+fn slot(shape: &Shape, address: u16) -> Option<Slot> {
+    shape.tables().slots().get(usize::from(address)).copied()
 }

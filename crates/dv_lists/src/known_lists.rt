@@ -180,7 +180,7 @@ const NO_PROGRAMS: &[(&str, &[Instruction])] = &[
     ),
     ("no instruction", &[]),
     (
-        "a place behind the end",
+        "an address behind the end",
         &[Instruction::End, Instruction::End],
     ),
 ];

@@ -1,4 +1,4 @@
-//! The programs of the texts, and such with another instruction at a place, before the validator.
+//! The programs of the texts, and such with another instruction at an address, before the validator.
 
 ghost use Rattle.dv_syntax.specs.Trees.{atomic_of};
 ghost use Rattle.dv_gen.specs.ModelCode.{IsCompilable};
@@ -17,8 +17,8 @@ fn shape_like(program: &Valid, tables: &Arc<Tables>) -> Result<Shape, AllocError
     Ok(Shape::new(Arc::try_clone(tables)?, program.shape().sort()))
 }
 
-/// Other instructions for a place: most are those of no program there.
-fn others(place: u32, instruction: Instruction) -> [Instruction; 14] {
+/// Other instructions for an address: most are those of no program there.
+fn others(address: u32, instruction: Instruction) -> [Instruction; 14] {
     [
         turned(instruction),
         Instruction::Push(Leaf::Number(1)),
@@ -31,8 +31,8 @@ fn others(place: u32, instruction: Instruction) -> [Instruction; 14] {
         Instruction::Perform(Action::SetVariable(0)),
         Instruction::Do(Deed::Go(0)),
         Instruction::Do(Deed::Pop(0)),
-        Instruction::Jump(place.saturating_add(2)),
-        Instruction::Next(place.saturating_sub(2)),
+        Instruction::Jump(address.saturating_add(2)),
+        Instruction::Next(address.saturating_sub(2)),
         Instruction::End,
     ]
 }
@@ -51,17 +51,17 @@ fn turned(instruction: Instruction) -> Instruction {
     }
 }
 
-/// Asks the validator about a program with each other instruction at each place.
+/// Asks the validator about a program with each other instruction at each address.
 fn change_each<R: Abort + AllocGlobal>(
     rt: &R,
     program: &Valid,
     tables: &Arc<Tables>,
     answers: &mut Answers,
 ) -> Result<(), AllocError> {
-    for (place, instruction) in program.code().iter().enumerate() {
+    for (address, instruction) in program.code().iter().enumerate() {
         let mut list = program.code().to_vec(rt.alloc())?;
-        for other in others(place as u32, *instruction) {
-            if let Some(changed) = list.get_mut(place) {
+        for other in others(address as u32, *instruction) {
+            if let Some(changed) = list.get_mut(address) {
                 *changed = other;
             }
             let found = taken(rt, shape_like(program, tables)?, &list)?;
@@ -112,8 +112,8 @@ fn change_text<R: Abort + AllocGlobal>(
     answers: &mut Answers,
 ) -> Result<(), AllocError> {
     let checked = checked(rt.alloc(), text).expect(rt, text);
-    for place in 0..checked.file.models.len() {
-        if let Some(model) = atomic_at(&checked, place) {
+    for index in 0..checked.file.models.len() {
+        if let Some(model) = atomic_at(&checked, index) {
             change_model(rt, model, answers)?;
         }
     }

@@ -56,13 +56,13 @@ fn random_leaf(random: &mut Random) -> Leaf {
         5 => Leaf::Size(random_source(random)),
         6 => Leaf::Most(random_source(random)),
         7 => Leaf::Truth(false),
-        8 => Leaf::Front(random_place(random)),
+        8 => Leaf::Front(random_index(random)),
         _ => Leaf::Number(3),
     }
 }
 
-/// The place of the queue, or now and then that of the bag.
-fn random_place(random: &mut Random) -> u16 {
+/// The address of the queue, or now and then that of the bag.
+fn random_index(random: &mut Random) -> u16 {
     match random.below(4) {
         0 => 2,
         _ => 3,
@@ -84,7 +84,7 @@ fn random_action(random: &mut Random) -> Action {
         1 => Action::SetFlag(1),
         2 => Action::Change(Change::Add, 2),
         3 => Action::Change(Change::Drop, 2),
-        4 => Action::Change(Change::Push, random_place(random)),
+        4 => Action::Change(Change::Push, random_index(random)),
         _ => Action::Send(0),
     }
 }
@@ -92,14 +92,14 @@ fn random_action(random: &mut Random) -> Action {
 fn random_deed(random: &mut Random) -> Deed {
     match random.below(2) {
         0 => Deed::Go(random.below(3)),
-        _ => Deed::Pop(random_place(random)),
+        _ => Deed::Pop(random_index(random)),
     }
 }
 
-/// An instruction for a place.
-fn random_instruction(random: &mut Random, place: u32) -> Instruction {
-    let ahead = place.saturating_add(random.below(5));
-    let back = place.saturating_sub(random.below(4));
+/// An instruction for an address.
+fn random_instruction(random: &mut Random, address: u32) -> Instruction {
+    let ahead = address.saturating_add(random.below(5));
+    let back = address.saturating_sub(random.below(4));
     match random.below(16) {
         0 => Instruction::Apply(Unary::Not),
         1 => Instruction::Apply(Unary::Times(random_source(random))),
@@ -119,8 +119,8 @@ fn random_instruction(random: &mut Random, place: u32) -> Instruction {
 /// Some instructions, of which the last is mostly the end.
 fn random_list(alloc: Global, random: &mut Random) -> Result<Vec<Instruction>, AllocError> {
     let mut code = Vec::new(alloc);
-    for place in 0..random.below(LONGEST) {
-        code.push(random_instruction(random, place))?;
+    for address in 0..random.below(LONGEST) {
+        code.push(random_instruction(random, address))?;
     }
     if random.below(20) > 0 {
         code.push(Instruction::End)?;

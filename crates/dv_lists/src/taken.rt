@@ -9,7 +9,9 @@ use std::process::Abort;
 /// How many lists of instructions were taken, and how many were refused.
 #[derive(Clone, Copy, Debug, PartialEq, Eq)]
 pub struct Answers {
+    /// How many lists were taken.
     pub taken: u64,
+    /// How many lists were refused.
     pub refused: u64,
 }
 

@@ -25,10 +25,10 @@ use Rattle.dv_proc.specs.Accesses.{CountsInstant, IsAfterEmission, IsCounted, en
 use Rattle.dv_proc.specs.Local.{View}
 use Rattle.dv_proc.proofs.Accesses.{same_but_visits}
 use Rattle.dv_share.specs.Commits.{entries_of}
-use Rattle.dv_share.specs.Places.{places_of}
+use Rattle.dv_share.specs.Indices.{indices_of}
 use Rattle.dv_share.specs.Rows.{number_of}
 use Rattle.dv_share.specs.Share.{given_at}
-use Rattle.dv_share.specs.declared.place.Placed.{Placed}
+use Rattle.dv_share.specs.declared.index.Indexed.{Indexed}
 use Rattle.dv_share.specs.declared.tables.Tables.{Tables}
 use Rattle.dv_local.specs.Commits.{HaveReacted}
 use Rattle.dv_local.specs.Undoing.{time_of_wait, waits_of}
@@ -77,12 +77,12 @@ at_most_one limit now k (Some e) = omega arith
 
 -- an instant has no more entries than components that reacted
 pub reacted_few : {S : Type 0} (behaviour : S → Behaviour) (fits : S → State → Type 0) (t : Tables S) (now : ℕ) (rs : List Running)
-    (es : List (Placed (Result (List Counts) Fault))) (xs : List (Placed (List Counts))) (ss : List Running) (old new : List Entry)
-    → HaveReacted behaviour fits t now rs es xs (places_of xs) ss old new → length new ≤ length old + length xs
+    (es : List (Indexed (Result (List Counts) Fault))) (xs : List (Indexed (List Counts))) (ss : List Running) (old new : List Entry)
+    → HaveReacted behaviour fits t now rs es xs (indices_of xs) ss old new → length new ≤ length old + length xs
 reacted_few behaviour fits t now rs es xs ss old new h =
     let os = h.outcomes in
     let many : length os ≡ length xs =
-    sym (length-map os (λ (o : Placed Outcome). o.place)) ∙ ap length h.places ∙ length-map xs (λ (x : Placed (List Counts)). x.place) in
+    sym (length-map os (λ (o : Indexed Outcome). o.index)) ∙ ap length h.indices ∙ length-map xs (λ (x : Indexed (List Counts)). x.index) in
     omega (
       arith,
       ap length h.entries,
@@ -91,11 +91,11 @@ reacted_few behaviour fits t now rs es xs ss old new h =
       many,
     )
   where
-    few : (os : List (Placed Outcome)) → length (entries_of t.limit now t.members.items es os) ≤ length os
+    few : (os : List (Indexed Outcome)) → length (entries_of t.limit now t.members.items es os) ≤ length os
     few [] = omega arith
     few (o ∷ os) =
-        let k = number_of (slice_get t.members.items o.place) in
-        let e = event_of (happened_in o.what) (sent_of (given_at o.place es)) in
+        let k = number_of (slice_get t.members.items o.index) in
+        let e = event_of (happened_in o.what) (sent_of (given_at o.index es)) in
         omega (
           arith,
           length-append (entry_of t.limit now k e) (entries_of t.limit now t.members.items es os),

@@ -22,22 +22,22 @@ use Rattle.dv_record.specs.Told.{IsOpenAt, with_entry}
 use Rattle.dv_record.proofs.Open.{still_open}
 use Rattle.dv_share.specs.Commits.{entries_of}
 use Rattle.dv_share.specs.Outcomes.{IsOutcome}
-use Rattle.dv_share.specs.Places.{is_in, places_of}
+use Rattle.dv_share.specs.Indices.{is_in, indices_of}
 use Rattle.dv_share.specs.Rows.{number_of}
-use Rattle.dv_share.specs.Share.{AreComponents, AreEmitted, FitsAt, StandByPlace, given_at}
-use Rattle.dv_share.specs.declared.place.Placed.{Placed}
+use Rattle.dv_share.specs.Share.{AreComponents, AreEmitted, FitsAt, StandByIndex, given_at}
+use Rattle.dv_share.specs.declared.index.Indexed.{Indexed}
 use Rattle.dv_share.specs.declared.tables.Member.{Member}
 use Rattle.dv_share.specs.declared.tables.Tables.{Tables}
 use Rattle.dv_share.proofs.Commits.{entries_last, left_last, left_none, left_untouched, not_before}
 use Rattle.dv_share.proofs.Instants.{outcome_one}
-use Rattle.dv_share.proofs.Places.{found_here, there}
+use Rattle.dv_share.proofs.Indices.{found_here, there}
 use Rattle.dv_local.specs.Commits.{HasReacted, HaveReacted, IsGivenAt}
 
 -- what stands where a visit went stood there before
 pub seen : (rs ss : List Running) (p q : ℕ) (r : Running) → ss ≡ rs → q ≡ p → slice_get ss q ≡ Some r → slice_get rs p ≡ Some r
 seen rs ss p q r same at here = ap₂ (λ (us : List Running) (k : ℕ). slice_get us k) (sym same) (sym at) ∙ here
 
--- with another component at a place they are still components, if it waits and fits there
+-- with another component at an index they are still components, if it waits and fits there
 pub put_stays : {S : Type 0} (fits : S → State → Type 0) (t : Tables S) (rs : List Running) (p : ℕ) (s : Running)
     → AreComponents fits t rs → p < length rs
     → IsWaitOfRun t.limit s.wait → ((m : Member) → slice_get t.members.items p ≡ Some m → FitsAt fits t.models.items m.model s.state)
@@ -66,67 +66,67 @@ put_stays fits t rs p s are lt wait fit = record {
 }
 
 module _ {S : Type 0} (behaviour : S → Behaviour) (fits : S → State → Type 0) (t : Tables S) (now : ℕ) (rs : List Running)
-    (es : List (Placed (Result (List Counts) Fault))) (xs : List (Placed (List Counts))) where
+    (es : List (Indexed (Result (List Counts) Fault))) (xs : List (Indexed (List Counts))) where
   -- nobody has reacted yet
   pub none_reacted : (old : List Entry) → HaveReacted behaviour fits t now rs es xs [] rs old old
   none_reacted old = record {
     outcomes = [];
-    places = refl;
+    indices = refl;
     right = λ k d lt. absurd (omega (arith, lt));
     components = sym (left_none 0 rs);
     entries = sym (append-nil old);
   }
 
-  module _ (i : ℕ) (d : Placed (List Counts)) (ss : List Running) (old mid : List Entry) (places : StandByPlace (length t.members.items) xs)
+  module _ (i : ℕ) (d : Indexed (List Counts)) (ss : List Running) (old mid : List Entry) (indices : StandByIndex (length t.members.items) xs)
       (count : length rs ≡ length t.members.items) (early : i < length xs)
-      (h : HaveReacted behaviour fits t now rs es xs (places_of (take i xs)) ss old mid) where
+      (h : HaveReacted behaviour fits t now rs es xs (indices_of (take i xs)) ss old mid) where
     -- the next arrival
-    abbrev x : Placed (List Counts)
+    abbrev x : Indexed (List Counts)
     x = get_or xs i d
 
     -- its component, which has not reacted yet
-    within : x.place < length rs
-    within = let lt = places.within i d early in omega (arith, lt, count)
+    within : x.index < length rs
+    within = let lt = indices.within i d early in omega (arith, lt, count)
 
-    out : is_in x.place (places_of h.outcomes) ≡ false
-    out = ap (λ (ps : List ℕ). is_in x.place ps) h.places ∙ not_before 0 i xs d places.rise early
+    out : is_in x.index (indices_of h.outcomes) ≡ false
+    out = ap (λ (ps : List ℕ). is_in x.index ps) h.indices ∙ not_before 0 i xs d indices.rise early
 
-    stays : (r : Running) → slice_get rs x.place ≡ Some r → slice_get ss x.place ≡ Some r
+    stays : (r : Running) → slice_get rs x.index ≡ Some r → slice_get ss x.index ≡ Some r
     stays r at =
-        let start : x.place ≡ 0 + x.place = omega arith in
-        ap (λ (us : List Running). slice_get us x.place) h.components
-        ∙ left_untouched 0 x.place rs h.outcomes r at (subst (λ (p : ℕ). is_in p (places_of h.outcomes) ≡ false) start out)
+        let start : x.index ≡ 0 + x.index = omega arith in
+        ap (λ (us : List Running). slice_get us x.index) h.components
+        ∙ left_untouched 0 x.index rs h.outcomes r at (subst (λ (p : ℕ). is_in p (indices_of h.outcomes) ≡ false) start out)
 
-    pub given_now : AreEmitted behaviour t now rs es → IsGivenAt behaviour t now es ss x.place
+    pub given_now : AreEmitted behaviour t now rs es → IsGivenAt behaviour t now es ss x.index
     given_now emitted m s at-m at-s =
-        let r = there rs x.place within in
+        let r = there rs x.index within in
         let same : r.0 ≡ s = same_Some r.0 s (sym (stays r.0 r.1) ∙ at-s) in
-        emitted.given x.place m s at-m (subst (λ (u : Running). slice_get rs x.place ≡ Some u) same r.1)
+        emitted.given x.index m s at-m (subst (λ (u : Running). slice_get rs x.index ≡ Some u) same r.1)
 
     -- with its component all of the first arrivals have reacted, and the next one
     pub one_more : (us : List Running) (new : List Entry) → HasReacted behaviour fits t now es x ss us mid new
-        → HaveReacted behaviour fits t now rs es xs (places_of (take (i + 1) xs)) us old new
+        → HaveReacted behaviour fits t now rs es xs (indices_of (take (i + 1) xs)) us old new
     one_more us new one =
-        let start : x.place ≡ 0 + x.place = omega arith in
-        let r = there rs x.place within in
-        let o : Placed _ = record { place = x.place; what = one.outcome } in
-        let right : IsOutcome behaviour fits t now rs es xs x.place one.outcome =
-        outcome_one behaviour fits t now rs es xs x r.0 one.outcome r.1 (found_here x.place i d xs places.rise early refl)
+        let start : x.index ≡ 0 + x.index = omega arith in
+        let r = there rs x.index within in
+        let o : Indexed _ = record { index = x.index; what = one.outcome } in
+        let right : IsOutcome behaviour fits t now rs es xs x.index one.outcome =
+        outcome_one behaviour fits t now rs es xs x r.0 one.outcome r.1 (found_here x.index i d xs indices.rise early refl)
         (one.is r.0 (stays r.0 r.1)) in
-        let entry = entry_of t.limit now (number_of (slice_get t.members.items x.place))
-        (event_of (happened_in one.outcome) (sent_of (given_at x.place es))) in
+        let entry = entry_of t.limit now (number_of (slice_get t.members.items x.index))
+        (event_of (happened_in one.outcome) (sent_of (given_at x.index es))) in
         record {
           outcomes = h.outcomes ++ o ∷ [];
-          places =
-              map-append (λ (p : Placed _). p.place) h.outcomes (o ∷ [])
-              ∙ ap (λ (ps : List ℕ). ps ++ x.place ∷ []) h.places
-              ∙ sym (map-append (λ (p : Placed (List Counts)). p.place) (take i xs) (x ∷ []))
-              ∙ sym (ap places_of (take_more xs i d early));
-          right = All-push (λ (p : Placed _). IsOutcome behaviour fits t now rs es xs p.place p.what) h.outcomes o h.right right;
+          indices =
+              map-append (λ (p : Indexed _). p.index) h.outcomes (o ∷ [])
+              ∙ ap (λ (ps : List ℕ). ps ++ x.index ∷ []) h.indices
+              ∙ sym (map-append (λ (p : Indexed (List Counts)). p.index) (take i xs) (x ∷ []))
+              ∙ sym (ap indices_of (take_more xs i d early));
+          right = All-push (λ (p : Indexed _). IsOutcome behaviour fits t now rs es xs p.index p.what) h.outcomes o h.right right;
           components =
               one.components r.0 (stays r.0 r.1)
-              ∙ ap (λ (vs : List Running). slice_set vs x.place (left_by r.0 one.outcome)) h.components
-              ∙ sym (left_last 0 x.place rs h.outcomes o r.0 start r.1 out);
+              ∙ ap (λ (vs : List Running). slice_set vs x.index (left_by r.0 one.outcome)) h.components
+              ∙ sym (left_last 0 x.index rs h.outcomes o r.0 start r.1 out);
           entries =
               one.entries
               ∙ ap (λ (ys : List Entry). ys ++ entry) h.entries

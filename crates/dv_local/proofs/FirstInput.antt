@@ -5,7 +5,7 @@ use Rattle.std.specs.List.{All, Contains}
 use Rattle.std.specs.Option.{IfSome, MatchOption}
 use Rattle.std.proofs.lemmas.Bool.{le-ltb}
 use Rattle.std.proofs.lemmas.Bool.Decides.{nat_tests}
-use Rattle.dv_time.specs.Time.{IsOfRun, is_before, rank, time_of}
+use Rattle.dv_time.specs.Time.{IsOfRun, earliest, is_before, rank, time_of}
 use Rattle.dv_time.specs.declared.time.Time.{Time}
 use Rattle.dv_time.proofs.Ranks.{is_before-rank, time_of-rank}
 use Rattle.dv_bag.specs.Part.{PartOf}
@@ -19,10 +19,9 @@ use Rattle.dv_devs.proofs.NextTimes.{rank_at_time, time_of_run}
 use Rattle.dv_conservative.specs.Flat.{network, numbers}
 use Rattle.dv_conservative.specs.Links.{Delivery, carried, sent_of}
 use Rattle.dv_conservative.proofs.Bags.{nothing_arrives}
-use Rattle.dv_agenda.specs.Waits.{sooner}
 use Rattle.dv_agenda.specs.declared.arrival.Arrival.{Arrival}
 use Rattle.dv_share.specs.declared.tables.Member.{Member}
-use Rattle.dv_share.proofs.Places.{yes_or_no}
+use Rattle.dv_share.proofs.Indices.{yes_or_no}
 use Rattle.dv_proc.specs.Local.{IsFirstInput, View, brings_at}
 use Rattle.dv_local.specs.Shares.{AreOfRun, IsLed}
 use Rattle.dv_local.specs.States.{AllArrive, IsOfPort, delivery_of, view_by}
@@ -50,7 +49,7 @@ module _ (v : View) (k : ℕ) (one other : ℕ → Type 0) (calm : (n : ℕ) →
   Loud n = brings_at v n ≡ true
 
   pub both_first : (a b : Option Time) → IsFirstRank v.share.limit one Loud k a → IsFirstRank v.share.limit other Loud k b
-      → IsFirstInput v k (sooner a b)
+      → IsFirstInput v k (earliest a b)
   both_first None None h g = λ n le. calm n (h n le) (g n le)
   both_first None (Some u) h g = (g.0, g.1, g.2, λ n le lt. calm n (h n le) (g.3 n le lt))
   both_first (Some t) None h g = (h.0, h.1, h.2, λ n le lt. calm n (h.3 n le lt) (g n le))

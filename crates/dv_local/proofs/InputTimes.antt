@@ -37,7 +37,7 @@ passes limit t i e = grind (arith, nat_tests)
 stays : (limit : ℕ) (t : Time) (i : Input) → IsOfRun limit i.time → is_before i.time t ≡ false → is_passed limit t i ≡ false
 stays limit t i run e = grind (arith, nat_tests)
 
--- the place of a time is that at which those before it end
+-- the index of a time is that at which those before it end
 pub before_are : (limit : ℕ) (t : Time) (p : ℕ) (xs : List Input) (d : Input) → AreOfRun limit xs → p ≤ length xs
     → ((k : ℕ) → k < p → is_before (get_or xs k d).time t ≡ true)
     → (p < length xs → is_before (get_or xs p d).time t ≡ false) → inputs_before limit xs t ≡ p

@@ -22,7 +22,7 @@ use Rattle.dv_proc.specs.Packets.{meant_event, meant_events}
 use Rattle.dv_proc.specs.declared.packet.Event.{Event as EventOfCode}
 use Rattle.dv_share.specs.Share.{member_by}
 use Rattle.dv_share.specs.declared.tables.Member.{Member}
-use Rattle.dv_share.proofs.Places.{yes_or_no}
+use Rattle.dv_share.proofs.Indices.{yes_or_no}
 use Rattle.dv_local.specs.Comings.{brings, coming_of}
 use Rattle.dv_local.specs.Shares.{IsPortOf}
 use Rattle.dv_local.specs.States.{AllArrive, IsOfPort, delivery_of}

@@ -12,7 +12,7 @@ pub mod Outside
 pub mod FirstInput
 pub mod Begun
 pub mod Commits
-pub mod TakesPlace
+pub mod TakesIndex
 pub mod Sending
 pub mod Starts
 pub mod Accesses

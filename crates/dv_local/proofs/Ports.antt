@@ -1,14 +1,14 @@
--- Ports of members, found by place.
+-- Ports of members, found by index.
 use Rattle.std.proofs.Common.{◌≡◌, ◌≢◌, ℕ, zero, suc, ◌<◌, ◌≤◌, Bool, true, false, ◌||◌, nat_eq, nat_lt, List, [], ◌∷◌, map}
 use Rattle.std.proofs.Common.{Some, refl, ap, ◌∙◌, arith}
 use Rattle.std.specs.List.{slice_get}
 use Rattle.std.proofs.lemmas.Bool.{eq-eqb}
 use Rattle.dv_devs.specs.Behaviour.{Behaviour}
 use Rattle.dv_conservative.specs.Process.{is_port_of}
-use Rattle.dv_share.specs.Places.{AreRising, RiseFrom}
+use Rattle.dv_share.specs.Indices.{AreRising, RiseFrom}
 use Rattle.dv_share.specs.Share.{member_by, numbers_of}
 use Rattle.dv_share.specs.declared.tables.Member.{Member}
-use Rattle.dv_share.proofs.Places.{differ}
+use Rattle.dv_share.proofs.Indices.{differ}
 
 module _ {S : Type 0} (behaviour : S → Behaviour) (limit : ℕ) (models : List S) (k port : ℕ) where
   port_here : List Member → Bool

@@ -12,7 +12,7 @@ use Rattle.dv_conservative.specs.Flat.{received}
 use Rattle.dv_conservative.specs.Links.{Delivery, Link, carried, carried_by, delivered, inbox}
 use Rattle.dv_share.specs.Share.{member_by}
 use Rattle.dv_share.specs.declared.tables.Member.{Member}
-use Rattle.dv_share.proofs.Places.{differ}
+use Rattle.dv_share.proofs.Indices.{differ}
 
 -- a delivery with a copy reaches a port
 abbrev pub Reaches : ℕ → ℕ → List Delivery → Type 0

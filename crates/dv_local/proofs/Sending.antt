@@ -27,10 +27,10 @@ pub same_numbers : {S : Type 0} (behaviour : S → Behaviour) (limit : ℕ) (mod
 same_numbers behaviour limit models [] = refl
 same_numbers behaviour limit models (m ∷ ms) = ap (λ (ks : List ℕ). m.number ∷ ks) (same_numbers behaviour limit models ms)
 
--- the way at a place is what the share has there
-pub way_at : (ways : List Way) (place : ℕ) (w : Way) (out : Outgoing) → slice_get ways place ≡ Some w
-    → slice_get (map outgoing_of ways) place ≡ Some out
+-- the way at an index is what the share has there
+pub way_at : (ways : List Way) (index : ℕ) (w : Way) (out : Outgoing) → slice_get ways index ≡ Some w
+    → slice_get (map outgoing_of ways) index ≡ Some out
     → out ≡ outgoing_of w
-way_at [] place w out h g = absurd (cc)
+way_at [] index w out h g = absurd (cc)
 way_at (v ∷ vs) zero w out h g = let same : v ≡ w = cc in let there : outgoing_of v ≡ out = cc in sym there ∙ ap outgoing_of same
-way_at (v ∷ vs) (suc place) w out h g = way_at vs place w out h g
+way_at (v ∷ vs) (suc index) w out h g = way_at vs index w out h g

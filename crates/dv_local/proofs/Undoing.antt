@@ -3,7 +3,7 @@ use Rattle.std.proofs.Common.{◌≡◌, ℕ, zero, suc, List, [], ◌∷◌, �
 use Rattle.std.specs.List.{All}
 use Rattle.std.proofs.lemmas.List.{length-set, map-set, reverse-append, set-get_or}
 use Rattle.dv_react.specs.declared.running.Running.{Running}
-use Rattle.dv_share.specs.declared.place.Placed.{Placed}
+use Rattle.dv_share.specs.declared.index.Indexed.{Indexed}
 use Rattle.dv_local.specs.Undoing.{time_of_wait, undone, waits_of}
 
 pub all_first : {X : Type 0} (P : X → Type 0) (x : X) (xs : List X) → All P (x ∷ xs) → P x
@@ -29,23 +29,23 @@ all_others P (y ∷ ys) x h =
     all_join P y ys (all_first P y (ys ++ x ∷ []) h) (all_others P ys x (all_rest P y (ys ++ x ∷ []) h))
 
 -- the last is put back first
-pub undone-push : (xs : List (Placed Running)) (x : Placed Running) (rs : List Running)
-    → undone (xs ++ x ∷ []) rs ≡ undone xs (slice_set rs x.place x.what)
+pub undone-push : (xs : List (Indexed Running)) (x : Indexed Running) (rs : List Running)
+    → undone (xs ++ x ∷ []) rs ≡ undone xs (slice_set rs x.index x.what)
 undone-push [] x rs = refl
-undone-push (y ∷ ys) x rs = ap (λ (ss : List Running). slice_set ss y.place y.what) (undone-push ys x rs)
+undone-push (y ∷ ys) x rs = ap (λ (ss : List Running). slice_set ss y.index y.what) (undone-push ys x rs)
 
 pub waits-set : (rs : List Running) (p : ℕ) (r : Running) → waits_of (slice_set rs p r) ≡ slice_set (waits_of rs) p (time_of_wait r.wait)
 waits-set rs p r = map-set (λ (s : Running). time_of_wait s.wait) rs p r
 
-pub length-undone : (xs : List (Placed Running)) (rs : List Running) → length (undone xs rs) ≡ length rs
+pub length-undone : (xs : List (Indexed Running)) (rs : List Running) → length (undone xs rs) ≡ length rs
 length-undone [] rs = refl
-length-undone (x ∷ xs) rs = length-set (undone xs rs) x.place x.what ∙ length-undone xs rs
+length-undone (x ∷ xs) rs = length-set (undone xs rs) x.index x.what ∙ length-undone xs rs
 
--- what stood at a place, put back there, undoes what was put in
-pub undone-exchange : (xs : List (Placed Running)) (rs : List Running) (p : ℕ) (r old : Running) → ((d : Running) → old ≡ get_or rs p d)
-    → undone (xs ++ (record { place = p; what = old }) ∷ []) (slice_set rs p r) ≡ undone xs rs
+-- what stood at an index, put back there, undoes what was put in
+pub undone-exchange : (xs : List (Indexed Running)) (rs : List Running) (p : ℕ) (r old : Running) → ((d : Running) → old ≡ get_or rs p d)
+    → undone (xs ++ (record { index = p; what = old }) ∷ []) (slice_set rs p r) ≡ undone xs rs
 undone-exchange xs rs p r old e =
-    undone-push xs (record { place = p; what = old }) (slice_set rs p r)
+    undone-push xs (record { index = p; what = old }) (slice_set rs p r)
     ∙ ap (λ (ss : List Running). undone xs ss) (twice rs p ∙ ap (λ (x : Running). slice_set rs p x) (e old) ∙ set-get_or rs p old)
   where
     twice : (ss : List Running) (i : ℕ) → slice_set (slice_set ss i r) i old ≡ slice_set ss i old

@@ -14,9 +14,9 @@ use Rattle.dv_proc.specs.Accesses.{receiving_at}
 use Rattle.dv_proc.specs.Local.{View, input_at, sent_at}
 use Rattle.dv_react.specs.Components.{components_of}
 use Rattle.dv_react.specs.declared.running.Running.{Running}
-use Rattle.dv_share.specs.Places.{places_of}
+use Rattle.dv_share.specs.Indices.{indices_of}
 use Rattle.dv_share.specs.Share.{AreEmitted, AreReceived, AreTouched, coming, flat_by}
-use Rattle.dv_share.specs.declared.place.Placed.{Placed}
+use Rattle.dv_share.specs.declared.index.Indexed.{Indexed}
 use Rattle.dv_share.proofs.Instants.{received_of}
 use Rattle.dv_share.proofs.Touched.{touched_few}
 use Rattle.dv_local.specs.Components.{ComponentsOf}
@@ -52,11 +52,11 @@ module _ {S R : Type 0} (behaviour : S → Behaviour) (x : LocalState S R) (cs :
 
 -- no more components react than are imminent or receive a value
 pub received_few : {S R : Type 0} (behaviour : S → Behaviour) (fits : S → State → Type 0) (told : R → PartOf) (x : LocalState S R) (n : ℕ)
-    (outside : List Counts) (ds : List Delivery) (xs : List (Placed (List Counts))) (imminent : ℕ)
+    (outside : List Counts) (ds : List Delivery) (xs : List (Indexed (List Counts))) (imminent : ℕ)
     → (outside, ds) ≡ input_at (view_by behaviour told x) n
     → AreEmitted behaviour x.share.tables n x.components.running x.emitted.items
     → AreReceived x.share.tables.members.items (coming x.share.tables x.emitted.items outside ds) xs
-    → AreTouched (places_of x.emitted.items) xs → length x.emitted.items ≤ imminent
+    → AreTouched (indices_of x.emitted.items) xs → length x.emitted.items ≤ imminent
     → length xs ≤ imminent + receiving_at (view_by behaviour told x) n
 received_few behaviour fits told x n outside ds xs imminent input emitted received touched few =
     let t = x.share.tables in
@@ -66,10 +66,10 @@ received_few behaviour fits told x n outside ds xs imminent input emitted receiv
     let same : net.arrives sent (input_at (view_by behaviour told x) n) ≡ all =
     ap (λ (i : List Counts × List Delivery). net.arrives sent i) (sym input)
     ∙ received_of behaviour fits t n x.components.running x.emitted.items xs [] outside ds emitted in
-    let most : length xs ≤ length (places_of x.emitted.items) + count_by (λ (bags : List Counts). not (all_empty bags)) all =
-    touched_few behaviour t.limit t.models.items (coming t x.emitted.items outside ds) t.members.items (places_of x.emitted.items) xs
+    let most : length xs ≤ length (indices_of x.emitted.items) + count_by (λ (bags : List Counts). not (all_empty bags)) all =
+    touched_few behaviour t.limit t.models.items (coming t x.emitted.items outside ds) t.members.items (indices_of x.emitted.items) xs
     received touched in
-    let places : length (places_of x.emitted.items) ≡ length x.emitted.items =
-    length-map x.emitted.items (λ (e : Placed (Result (List Counts) Fault)). e.place) in
+    let indices : length (indices_of x.emitted.items) ≡ length x.emitted.items =
+    length-map x.emitted.items (λ (e : Indexed (Result (List Counts) Fault)). e.index) in
     subst (λ (bags : List (List Counts)). length xs ≤ imminent + count_by (λ (b : List Counts). not (all_empty b)) bags) (sym same)
-    (omega (arith, most, places, few))
+    (omega (arith, most, indices, few))

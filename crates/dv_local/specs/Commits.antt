@@ -17,37 +17,37 @@ use Rattle.dv_react.specs.declared.happened.Happened.TheVariants as happened
 use Rattle.dv_react.specs.declared.running.Running.{Running}
 use Rattle.dv_share.specs.Commits.{entries_of}
 use Rattle.dv_share.specs.Outcomes.{IsOutcome, IsOutcomeOf, behaviour_in}
-use Rattle.dv_share.specs.Places.{places_of}
+use Rattle.dv_share.specs.Indices.{indices_of}
 use Rattle.dv_share.specs.Rows.{number_of}
 use Rattle.dv_share.specs.Share.{given_at, left_from}
-use Rattle.dv_share.specs.declared.place.Placed.{Placed}
+use Rattle.dv_share.specs.declared.index.Indexed.{Indexed}
 use Rattle.dv_share.specs.declared.tables.Member.{Member}
 use Rattle.dv_share.specs.declared.tables.Tables.{Tables}
 
--- what was emitted at a place is what the output function of the component there gives
-abbrev pub IsGivenAt : {S : Type 0} → (S → Behaviour) → Tables S → ℕ → List (Placed (Result (List Counts) Fault)) → List Running → ℕ
+-- what was emitted at an index is what the output function of the component there gives
+abbrev pub IsGivenAt : {S : Type 0} → (S → Behaviour) → Tables S → ℕ → List (Indexed (Result (List Counts) Fault)) → List Running → ℕ
     → Type 0
 IsGivenAt behaviour t now es rs p =
     (m : Member) (r : Running) → slice_get t.members.items p ≡ Some m → slice_get rs p ≡ Some r
     → given_at p es ≡ emission (behaviour_in behaviour t m) now (component_of t.limit r)
 
--- The component at the place of an arrival reacted: it is the one that its outcome leaves, and its entry was committed.
+-- The component at the index of an arrival reacted: it is the one that its outcome leaves, and its entry was committed.
 pub record HasReacted {S : Type 0} (behaviour : S → Behaviour) (fits : S → State → Type 0) (t : Tables S) (now : ℕ)
-    (es : List (Placed (Result (List Counts) Fault))) (x : Placed (List Counts)) (rs ss : List Running) (old new : List Entry) : Type 0
+    (es : List (Indexed (Result (List Counts) Fault))) (x : Indexed (List Counts)) (rs ss : List Running) (old new : List Entry) : Type 0
   where
     pub outcome : Outcome
-    pub is : (r : Running) → slice_get rs x.place ≡ Some r → IsOutcomeOf behaviour fits t now r (given_at x.place es) x outcome
-    pub components : (r : Running) → slice_get rs x.place ≡ Some r → ss ≡ slice_set rs x.place (left_by r outcome)
-    pub entries : new ≡ old ++ entry_of t.limit now (number_of (slice_get t.members.items x.place))
-        (event_of (happened_in outcome) (sent_of (given_at x.place es)))
+    pub is : (r : Running) → slice_get rs x.index ≡ Some r → IsOutcomeOf behaviour fits t now r (given_at x.index es) x outcome
+    pub components : (r : Running) → slice_get rs x.index ≡ Some r → ss ≡ slice_set rs x.index (left_by r outcome)
+    pub entries : new ≡ old ++ entry_of t.limit now (number_of (slice_get t.members.items x.index))
+        (event_of (happened_in outcome) (sent_of (given_at x.index es)))
 
--- The components at some places reacted: they are those that their outcomes leave, and their entries were committed.
+-- The components at some indices reacted: they are those that their outcomes leave, and their entries were committed.
 pub record HaveReacted {S : Type 0} (behaviour : S → Behaviour) (fits : S → State → Type 0) (t : Tables S) (now : ℕ) (rs : List Running)
-    (es : List (Placed (Result (List Counts) Fault))) (xs : List (Placed (List Counts))) (ps : List ℕ) (ss : List Running)
+    (es : List (Indexed (Result (List Counts) Fault))) (xs : List (Indexed (List Counts))) (ps : List ℕ) (ss : List Running)
     (old new : List Entry) : Type 0 where
-  pub outcomes : List (Placed Outcome)
-  pub places : places_of outcomes ≡ ps
-  pub right : All (λ (o : Placed Outcome). IsOutcome behaviour fits t now rs es xs o.place o.what) outcomes
+  pub outcomes : List (Indexed Outcome)
+  pub indices : indices_of outcomes ≡ ps
+  pub right : All (λ (o : Indexed Outcome). IsOutcome behaviour fits t now rs es xs o.index o.what) outcomes
   pub components : ss ≡ left_from 0 rs outcomes
   pub entries : new ≡ old ++ entries_of t.limit now t.members.items es outcomes
 

@@ -9,23 +9,23 @@ use Rattle.dv_react.specs.declared.happened.Happened.{Happened}
 use Rattle.dv_react.specs.declared.running.Running.{Running}
 use Rattle.dv_share.specs.Outcomes.{IsOutcomeOf}
 use Rattle.dv_share.specs.Share.{given_at}
-use Rattle.dv_share.specs.declared.place.Placed.{Placed}
+use Rattle.dv_share.specs.declared.index.Indexed.{Indexed}
 use Rattle.dv_share.specs.declared.tables.Tables.{Tables}
 
--- what a component was, at its place, if something happened to it
-abbrev pub former_of : ℕ → Running → Option Happened → List (Placed Running)
+-- what a component was, at its index, if something happened to it
+abbrev pub former_of : ℕ → Running → Option Happened → List (Indexed Running)
 former_of p r None = []
-former_of p r (Some h) = (record { place = p; what = r }) ∷ []
+former_of p r (Some h) = (record { index = p; what = r }) ∷ []
 
--- The component at the place of an arrival reacted there: the others are as they were, and what it was is kept where something
+-- The component at the index of an arrival reacted there: the others are as they were, and what it was is kept where something
 -- happened to it.
 pub record ReactsAt {S : Type 0} (behaviour : S → Behaviour) (fits : S → State → Type 0) (t : Tables S) (now : ℕ)
-    (es : List (Placed (Result (List Counts) Fault))) (x : Placed (List Counts)) (rs ss : List Running) (old new : List (Placed Running))
+    (es : List (Indexed (Result (List Counts) Fault))) (x : Indexed (List Counts)) (rs ss : List Running) (old new : List (Indexed Running))
     (h : Option Happened) : Type 0 where
   pub before : Running
   pub after : Running
-  pub stood : slice_get rs x.place ≡ Some before
-  pub outcome : IsOutcomeOf behaviour fits t now before (given_at x.place es) x (outcome_of after h)
+  pub stood : slice_get rs x.index ≡ Some before
+  pub outcome : IsOutcomeOf behaviour fits t now before (given_at x.index es) x (outcome_of after h)
   pub left : after ≡ left_by before (outcome_of after h)
-  pub components : ss ≡ slice_set rs x.place after
-  pub former : new ≡ old ++ former_of x.place before h
+  pub components : ss ≡ slice_set rs x.index after
+  pub former : new ≡ old ++ former_of x.index before h

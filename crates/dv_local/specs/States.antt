@@ -12,7 +12,7 @@ use Rattle.dv_react.specs.declared.running.Running.{Running}
 use Rattle.dv_conservative.specs.Links.{Delivery}
 use Rattle.dv_agenda.specs.Comings.{Arrivals, arrivals_at}
 use Rattle.dv_agenda.specs.declared.arrival.Arrival.{Arrival}
-use Rattle.dv_share.specs.Share.{AreComponents, AreEmitted, StandByPlace, sents_by}
+use Rattle.dv_share.specs.Share.{AreComponents, AreEmitted, StandByIndex, sents_by}
 use Rattle.dv_share.specs.declared.tables.Member.{Member}
 use Rattle.dv_proc.specs.Local.{View}
 use Rattle.dv_local.specs.Shares.{IsShare, IsPortOf, share_by}
@@ -82,7 +82,7 @@ pub record IsKept {S R : Type 0} (behaviour : S → Behaviour) (fits : S → Sta
   pub arrive : AllArrive x.share.tables.limit x.share.tables.members.items x.inbox
   pub within : AreWithin (length x.components.running) x.undo.before
   pub before : AreComponents fits x.share.tables (undone x.undo.before x.components.running)
-  pub emitted : StandByPlace (length x.share.tables.members.items) x.emitted.items
+  pub emitted : StandByIndex (length x.share.tables.members.items) x.emitted.items
   pub still : AreEmittedIf behaviour x x.emitted_at
 
 -- nothing was put in since all was settled

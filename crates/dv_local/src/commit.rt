@@ -8,10 +8,10 @@ ghost use Rattle.dv_react.specs.declared.running.Running.{Running as RunningOfCo
 ghost use Rattle.dv_devs.specs.Network.{entry_of};
 ghost use Rattle.dv_record.specs.Told.{IsOpenAt};
 ghost use Rattle.dv_proc.specs.Accesses.{IsCounted};
-ghost use Rattle.dv_share.specs.Places.{AreRising, IsNext, places_of};
+ghost use Rattle.dv_share.specs.Indices.{AreRising, IsNext, indices_of};
 ghost use Rattle.dv_share.specs.Rows.{number_of};
-ghost use Rattle.dv_share.specs.Share.{AreComponents, AreEmitted, AreTables, StandByPlace, given_at};
-ghost use Rattle.dv_share.specs.declared.place.Placed.{Placed as PlacedOfCode};
+ghost use Rattle.dv_share.specs.Share.{AreComponents, AreEmitted, AreTables, StandByIndex, given_at};
+ghost use Rattle.dv_share.specs.declared.index.Indexed.{Indexed as IndexedOfCode};
 ghost use Rattle.dv_local.specs.Commits.{HasReacted, HaveReacted, IsGivenAt, what_by};
 ghost use Rattle.dv_local.specs.Undoing.{AreWithin, undone, waits_of};
 
@@ -23,7 +23,7 @@ use dv_agenda::Agenda;
 use dv_bag::{Bags, State};
 use dv_react::{Atomic, Happened};
 use dv_record::Record;
-use dv_share::{Placed, Received, next_index, sent_at};
+use dv_share::{Indexed, Received, next_cursor, sent_at};
 use std::alloc::AllocError;
 
 /// Lets the components that emitted or receive something react, one after the other. Each is visited once. What happens is
@@ -48,7 +48,7 @@ pub(crate) fn commit<A: Atomic, R: Record>(
     requires comes { (a : A) (bags : List Counts) → A.comes a bags }
     requires emitted { AreEmitted A.behaviour moment.now.tables.now (rank_of moment.now.instant.now)
         components.old.running moment.now.emitted.now }
-    requires received { StandByPlace (length moment.now.tables.now.members.items)
+    requires received { StandByIndex (length moment.now.tables.now.members.items)
         received.now.items }
     requires agenda { agenda.old ≡ waits_of components.old.running }
     requires within { AreWithin (length components.old.running) before.old }
@@ -56,7 +56,7 @@ pub(crate) fn commit<A: Atomic, R: Record>(
     requires is_open { IsOpenAt moment.now.instant.now.time (R.told to.old) }
     ensures reacted { OnOk result (HaveReacted A.behaviour A.fits moment.now.tables.now
         (rank_of moment.now.instant.now) components.old.running moment.now.emitted.now
-        received.now.items (places_of received.now.items) components.new.running
+        received.now.items (indices_of received.now.items) components.new.running
         (R.told to.old).entries (R.told to.new).entries) }
     ensures components { AreComponents A.fits moment.now.tables.now components.new.running }
     ensures agenda { agenda.new ≡ waits_of components.new.running }
@@ -73,21 +73,23 @@ pub(crate) fn commit<A: Atomic, R: Record>(
     ensures settled { R.settled to.new ≡ R.settled to.old }
     ensures handed { R.handed to.new ≡ R.handed to.old }
 {
-    let mut index = 0;
+    let mut cursor = 0;
     for order in 0..received.len() {
         let arrival = received.at(order);
-        index = next_index(moment.emitted, index, arrival.place);
-        commit_one(moment, work, arrival, index, components, agenda, to, before)?;
+        cursor = next_cursor(moment.emitted, cursor, arrival.index);
+        commit_one(
+            moment, work, arrival, cursor, components, agenda, to, before,
+        )?;
     }
     Ok(())
 }
 
-// The component at the place of an arrival is visited and reacts, by the index of the first emission that does not stand before it.
+// The component at the index of an arrival is visited and reacts, by the cursor of the first emission that does not stand before it.
 fn commit_one<A: Atomic, R: Record>(
     moment: &Moment<'_, A>,
     work: &mut A::Work,
-    arrival: &Placed<Bags>,
-    index: usize,
+    arrival: &Indexed<Bags>,
+    cursor: usize,
     components: &mut Components,
     agenda: &mut Agenda,
     to: &mut R,
@@ -97,11 +99,11 @@ fn commit_one<A: Atomic, R: Record>(
     requires limit { moment.now.instant.now.limit ≡ moment.now.tables.now.limit }
     requires components { AreComponents A.fits moment.now.tables.now components.old.running }
     requires comes { (a : A) (bags : List Counts) → A.comes a bags }
-    requires place { arrival.now.place < length moment.now.tables.now.members.items }
-    requires rise { AreRising (places_of moment.now.emitted.now) }
-    requires next { IsNext arrival.now.place moment.now.emitted.now index }
+    requires index { arrival.now.index < length moment.now.tables.now.members.items }
+    requires rise { AreRising (indices_of moment.now.emitted.now) }
+    requires next { IsNext arrival.now.index moment.now.emitted.now cursor }
     requires given { IsGivenAt A.behaviour moment.now.tables.now (rank_of moment.now.instant.now)
-        moment.now.emitted.now components.old.running arrival.now.place }
+        moment.now.emitted.now components.old.running arrival.now.index }
     requires agenda { agenda.old ≡ waits_of components.old.running }
     requires within { AreWithin (length components.old.running) before.old }
     requires nothing { moment.now.nothing.now ≡ [] }
@@ -125,15 +127,22 @@ fn commit_one<A: Atomic, R: Record>(
     ensures settled { R.settled to.new ≡ R.settled to.old }
     ensures handed { R.handed to.new ≡ R.handed to.old }
 {
-    components.visit(arrival.place);
-    let Some(happened) = components.react(moment, work, index, arrival, before)? else {
+    components.visit(arrival.index);
+    let Some(happened) = components.react(moment, work, cursor, arrival, before)? else {
         return Ok(());
     };
     let component = components.visited();
     let time = time_of(component.wait);
-    match tell(moment, arrival.place, index, happened, &component.state, to) {
+    match tell(
+        moment,
+        arrival.index,
+        cursor,
+        happened,
+        &component.state,
+        to,
+    ) {
         Ok(()) => {
-            agenda.set(arrival.place, time);
+            agenda.set(arrival.index, time);
             Ok(())
         }
         Err(error) => {
@@ -146,7 +155,7 @@ fn commit_one<A: Atomic, R: Record>(
 // Puts the component back that was visited and reacted last.
 fn take_back(components: &mut Components, before: &mut Former)
     requires { components.old.visited < length components.old.running }
-    ensures back { (xs : List (PlacedOfCode RunningOfCode)) (x : PlacedOfCode RunningOfCode)
+    ensures back { (xs : List (IndexedOfCode RunningOfCode)) (x : IndexedOfCode RunningOfCode)
         → before.old ≡ xs ++ x ∷ [] → (before.new ≡ xs) × (components.new.running
         ≡ slice_set components.old.running components.old.visited x.what) }
     ensures settled { components.new.settled ≡ components.old.settled }
@@ -156,32 +165,32 @@ fn take_back(components: &mut Components, before: &mut Former)
     }
 }
 
-// Tells what happened to the component at a place, and what it sent.
+// Tells what happened to the component at an index, and what it sent.
 fn tell<A, R: Record>(
     moment: &Moment<'_, A>,
-    place: u32,
-    index: usize,
+    index: u32,
+    cursor: usize,
     happened: Happened,
     state: &State,
     to: &mut R,
 ) -> Result<(), AllocError>
-    requires place { place < length moment.now.tables.now.members.items }
-    requires rise { AreRising (places_of moment.now.emitted.now) }
-    requires next { IsNext place moment.now.emitted.now index }
+    requires index { index < length moment.now.tables.now.members.items }
+    requires rise { AreRising (indices_of moment.now.emitted.now) }
+    requires next { IsNext index moment.now.emitted.now cursor }
     requires nothing { moment.now.nothing.now ≡ [] }
     requires is_open { IsOpenAt moment.now.instant.now.time (R.told to.old) }
     ensures entries { OnOk result ((R.told to.new).entries ≡ (R.told to.old).entries
         ++ entry_of moment.now.instant.now.limit (rank_of moment.now.instant.now)
-        (number_of (slice_get moment.now.tables.now.members.items place))
-        (Some (what_by happened state.now, sent_of (given_at place moment.now.emitted.now)))) }
+        (number_of (slice_get moment.now.tables.now.members.items index))
+        (Some (what_by happened state.now, sent_of (given_at index moment.now.emitted.now)))) }
     ensures outer { (R.told to.new).outer ≡ (R.told to.old).outer }
     ensures err { OnErr result (R.told to.new ≡ R.told to.old) }
     ensures is_open { IsOpenAt moment.now.instant.now.time (R.told to.new) }
     ensures settled { R.settled to.new ≡ R.settled to.old }
     ensures handed { R.handed to.new ≡ R.handed to.old }
 {
-    let component = moment.tables.members[place as usize].number;
-    let sent = sent_at(moment.emitted, index, place, moment.nothing);
+    let component = moment.tables.members[index as usize].number;
+    let sent = sent_at(moment.emitted, cursor, index, moment.nothing);
     let time = moment.instant.time;
     match happened {
         Happened::Transition(kind) => to.moved(time, component, kind, state, sent),

@@ -4,7 +4,7 @@ ghost use Rattle.std.specs.Prelude.{◌≡◌, ◌<◌, ◌≤◌, ◌+◌, ◌-
 ghost use Rattle.dv_bag.specs.Bag.{Counts};
 ghost use Rattle.dv_react.specs.Components.{rank_of};
 ghost use Rattle.dv_react.specs.declared.running.Running.{Running as RunningOfCode};
-ghost use Rattle.dv_share.specs.Places.{AreRising, IsNext, places_of};
+ghost use Rattle.dv_share.specs.Indices.{AreRising, IsNext, indices_of};
 ghost use Rattle.dv_share.specs.Share.{AreComponents, AreTables};
 ghost use Rattle.dv_local.specs.Commits.{IsGivenAt};
 ghost use Rattle.dv_local.specs.Reacting.{ReactsAt};
@@ -13,17 +13,17 @@ use crate::former::Former;
 use crate::moment::Moment;
 use dv_bag::Bags;
 use dv_react::{Atomic, Happened, Running};
-use dv_share::Placed;
+use dv_share::Indexed;
 use std::alloc::AllocError;
 use std::marker::Model;
 use std::mem;
 
-/// The components by place. A visit goes to one of them and adds one to the count. The one that was visited last can be read
+/// The components by index. A visit goes to one of them and adds one to the count. The one that was visited last can be read
 /// and replaced, and no other. So no code reads or changes a component that was not counted for it.
 #[derive(Drop)]
 pub struct Components {
     running: Vec<Running>,
-    // The place that was visited last.
+    // The index that was visited last.
     visited: u32,
     visits: u64,
     // The count when all was settled.
@@ -58,16 +58,16 @@ impl Components {
         }
     }
 
-    /// Goes to the component at a place, which adds one to the count. The count stays at 2^64 - 1 once there.
+    /// Goes to the component at an index, which adds one to the count. The count stays at 2^64 - 1 once there.
     #[inline]
-    pub fn visit(&mut self, place: u32)
+    pub fn visit(&mut self, index: u32)
         ensures components { self.new.running ≡ self.old.running }
-        ensures visited { self.new.visited ≡ place }
+        ensures visited { self.new.visited ≡ index }
         ensures visits { self.new.visits ≡ min (self.old.visits + 1) (2 ^ 64 - 1) }
         ensures never_fall { self.old.visits ≤ self.new.visits }
         ensures settled { self.new.settled ≡ self.old.settled }
     {
-        self.visited = place;
+        self.visited = index;
         self.visits = self.visits.saturating_add(1);
     }
 
@@ -95,7 +95,7 @@ impl Components {
         mem::replace(&mut self.running[self.visited as usize], component)
     }
 
-    /// Lets the component that was visited last react in place, by the index of the first emission that does not stand before it.
+    /// Lets the component that was visited last react in place, by the cursor of the first emission that does not stand before it.
     /// Tells what happened, if anything did: then what it was is the last of the former ones.
     ///
     /// # Errors
@@ -105,20 +105,20 @@ impl Components {
         &mut self,
         moment: &Moment<'_, A>,
         work: &mut A::Work,
-        index: usize,
-        arrival: &Placed<Bags>,
+        cursor: usize,
+        arrival: &Indexed<Bags>,
         former: &mut Former,
     ) -> Result<Option<Happened>, AllocError>
         requires tables { AreTables A.fits moment.now.tables.now }
         requires limit { moment.now.instant.now.limit ≡ moment.now.tables.now.limit }
         requires components { AreComponents A.fits moment.now.tables.now self.old.running }
         requires comes { (a : A) (bags : List Counts) → A.comes a bags }
-        requires visited { self.old.visited ≡ arrival.now.place }
-        requires place { arrival.now.place < length moment.now.tables.now.members.items }
-        requires rise { AreRising (places_of moment.now.emitted.now) }
-        requires next { IsNext arrival.now.place moment.now.emitted.now index }
+        requires visited { self.old.visited ≡ arrival.now.index }
+        requires index { arrival.now.index < length moment.now.tables.now.members.items }
+        requires rise { AreRising (indices_of moment.now.emitted.now) }
+        requires next { IsNext arrival.now.index moment.now.emitted.now cursor }
         requires given { IsGivenAt A.behaviour moment.now.tables.now (rank_of moment.now.instant.now)
-            moment.now.emitted.now self.old.running arrival.now.place }
+            moment.now.emitted.now self.old.running arrival.now.index }
         ensures reacted { IfOk result (ReactsAt A.behaviour A.fits moment.now.tables.now
             (rank_of moment.now.instant.now) moment.now.emitted.now arrival.now
             self.old.running self.new.running former.old former.new) }
@@ -129,7 +129,7 @@ impl Components {
         ensures settled { self.new.settled ≡ self.old.settled }
     {
         let component = &mut self.running[self.visited as usize];
-        former.react(moment, work, component, index, arrival)
+        former.react(moment, work, component, cursor, arrival)
     }
 
     /// How many visits there were.

@@ -3,15 +3,15 @@
 ghost use Rattle.std.specs.Prelude.{◌≡◌, OnOk, length};
 ghost use Rattle.dv_proc.specs.Accesses.{IsCounted};
 ghost use Rattle.dv_react.specs.Components.{rank_of};
-ghost use Rattle.dv_share.specs.Share.{AreComponents, AreDue, AreEmitted, AreTables, StandByPlace};
+ghost use Rattle.dv_share.specs.Share.{AreComponents, AreDue, AreEmitted, AreTables, StandByIndex};
 
 use crate::components::Components;
 use dv_bag::{Fault, Sent};
 use dv_react::{Atomic, Instant};
-use dv_share::{Placed, Tables, emit};
+use dv_share::{Indexed, Tables, emit};
 use std::alloc::{AllocError, Global};
 
-/// Finds what the output functions of the components at the due places give, each of which is visited once. The list is that
+/// Finds what the output functions of the components at the due indices give, each of which is visited once. The list is that
 /// of the instant before, whose memory serves again; no component changes.
 ///
 /// # Errors
@@ -24,7 +24,7 @@ pub(crate) fn emit_all<A: Atomic>(
     instant: &Instant,
     components: &mut Components,
     due: &[u32],
-    emitted: &mut Vec<Placed<Result<Sent, Fault>>>,
+    emitted: &mut Vec<Indexed<Result<Sent, Fault>>>,
 ) -> Result<(), AllocError>
     requires tables { AreTables A.fits tables.now }
     requires limit { instant.now.limit ≡ tables.now.limit }
@@ -32,7 +32,7 @@ pub(crate) fn emit_all<A: Atomic>(
     requires due { AreDue tables.now.limit (rank_of instant.now) components.old.running due.now }
     ensures emitted { OnOk result (AreEmitted A.behaviour tables.now (rank_of instant.now)
         components.old.running emitted.new.items) }
-    ensures places { StandByPlace (length components.old.running) emitted.new.items }
+    ensures indices { StandByIndex (length components.old.running) emitted.new.items }
     ensures count { OnOk result (length emitted.new.items ≡ length due.now) }
     ensures components { components.new.running ≡ components.old.running }
     ensures visits { OnOk result (IsCounted (length due.now) (length due.now)
@@ -41,11 +41,11 @@ pub(crate) fn emit_all<A: Atomic>(
     ensures settled { components.new.settled ≡ components.old.settled }
 {
     emitted.clear();
-    for place in due {
-        components.visit(*place);
-        let what = emit(alloc, tables, work, instant, *place, components.visited())?;
-        emitted.push(Placed {
-            place: *place,
+    for index in due {
+        components.visit(*index);
+        let what = emit(alloc, tables, work, instant, *index, components.visited())?;
+        emitted.push(Indexed {
+            index: *index,
             what,
         })?;
     }

@@ -6,7 +6,7 @@ ghost use Rattle.dv_devs.specs.Behaviour.{emission};
 ghost use Rattle.dv_react.specs.Components.{IsWaitOfRun, component_of, rank_of};
 ghost use Rattle.dv_react.specs.Outcomes.{left_by, outcome_of};
 ghost use Rattle.dv_share.specs.Outcomes.{IsOutcomeOf, behaviour_in};
-ghost use Rattle.dv_share.specs.Places.{AreRising, IsNext, places_of};
+ghost use Rattle.dv_share.specs.Indices.{AreRising, IsNext, indices_of};
 ghost use Rattle.dv_share.specs.Share.{AreTables, FitsAt, given_at};
 ghost use Rattle.dv_share.specs.declared.tables.Member.{Member};
 ghost use Rattle.dv_local.specs.Reacting.{former_of};
@@ -14,16 +14,16 @@ ghost use Rattle.dv_local.specs.Reacting.{former_of};
 use crate::moment::Moment;
 use dv_bag::{Bags, State, Variables};
 use dv_react::{Atomic, Happened, Running, Wait};
-use dv_share::{Placed, react};
+use dv_share::{Indexed, react};
 use std::alloc::{AllocError, Global};
 use std::marker::Model;
 
-/// What components were before they reacted, each with its place, the last one last. The memory of those that are let go serves
+/// What components were before they reacted, each with its index, the last one last. The memory of those that are let go serves
 /// again.
 #[derive(Drop)]
 pub struct Former {
     // Those that stand, and behind them such as were let go.
-    copies: Vec<Placed<Running>>,
+    copies: Vec<Indexed<Running>>,
     count: usize,
     alloc: Global,
 }
@@ -31,9 +31,9 @@ pub struct Former {
 impl Model for Former {
     ghost use Rattle.std.specs.Prelude.{List, ◌≤◌, length, take};
     ghost use Rattle.dv_react.specs.declared.running.Running.{Running};
-    ghost use Rattle.dv_share.specs.declared.place.Placed.{Placed};
+    ghost use Rattle.dv_share.specs.declared.index.Indexed.{Indexed};
 
-    ghost Value = { List (Placed Running) };
+    ghost Value = { List (Indexed Running) };
 
     ghost view = { λ f. take f.count f.copies.items };
 
@@ -60,7 +60,7 @@ impl Former {
     }
 
     /// Moves out the last one.
-    pub fn pop(&mut self) -> Option<Placed<Running>>
+    pub fn pop(&mut self) -> Option<Indexed<Running>>
         ensures items { self.old ≡ self.new ++ option_to_list result }
         ensures some { IsSome result ↔ (0 < length self.old) }
     {
@@ -70,7 +70,7 @@ impl Former {
         last
     }
 
-    /// Lets a component react in place, by the index of the first emission that does not stand before it. Tells what happened, if
+    /// Lets a component react in place, by the cursor of the first emission that does not stand before it. Tells what happened, if
     /// anything did: then what the component was is the last one.
     ///
     /// # Errors
@@ -81,33 +81,33 @@ impl Former {
         moment: &Moment<'_, A>,
         work: &mut A::Work,
         component: &mut Running,
-        index: usize,
-        arrival: &Placed<Bags>,
+        cursor: usize,
+        arrival: &Indexed<Bags>,
     ) -> Result<Option<Happened>, AllocError>
         requires tables { AreTables A.fits moment.now.tables.now }
         requires limit { moment.now.instant.now.limit ≡ moment.now.tables.now.limit }
-        requires place { arrival.now.place < length moment.now.tables.now.members.items }
+        requires index { arrival.now.index < length moment.now.tables.now.members.items }
         requires wait { IsWaitOfRun moment.now.tables.now.limit component.old.wait }
         requires fits { (m : Member)
-            → slice_get moment.now.tables.now.members.items arrival.now.place ≡ Some m
+            → slice_get moment.now.tables.now.members.items arrival.now.index ≡ Some m
             → FitsAt A.fits moment.now.tables.now.models.items m.model component.old.state }
         requires comes { (a : A) (bags : List Counts) → A.comes a bags }
-        requires rise { AreRising (places_of moment.now.emitted.now) }
-        requires next { IsNext arrival.now.place moment.now.emitted.now index }
+        requires rise { AreRising (indices_of moment.now.emitted.now) }
+        requires next { IsNext arrival.now.index moment.now.emitted.now cursor }
         requires given { (m : Member)
-            → slice_get moment.now.tables.now.members.items arrival.now.place ≡ Some m
-            → given_at arrival.now.place moment.now.emitted.now
+            → slice_get moment.now.tables.now.members.items arrival.now.index ≡ Some m
+            → given_at arrival.now.index moment.now.emitted.now
             ≡ emission (behaviour_in A.behaviour moment.now.tables.now m)
             (rank_of moment.now.instant.now)
             (component_of moment.now.tables.now.limit component.old) }
         ensures outcome { IfOk result (λ happened. IsOutcomeOf A.behaviour A.fits
             moment.now.tables.now (rank_of moment.now.instant.now) component.old
-            (given_at arrival.now.place moment.now.emitted.now) arrival.now
+            (given_at arrival.now.index moment.now.emitted.now) arrival.now
             (outcome_of component.new happened)) }
         ensures left { IfOk result (λ happened. component.new
             ≡ left_by component.old (outcome_of component.new happened)) }
         ensures former { IfOk result (λ happened. self.new
-            ≡ self.old ++ former_of arrival.now.place component.old happened) }
+            ≡ self.old ++ former_of arrival.now.index component.old happened) }
         ensures same { OnErr result (component.new ≡ component.old) }
         ensures none { OnErr result (self.new ≡ self.old) }
     {
@@ -120,11 +120,11 @@ impl Former {
             component,
             &mut copy.what,
             moment.emitted,
-            index,
+            cursor,
             arrival,
         )?;
         if happened.is_some() {
-            copy.place = arrival.place;
+            copy.index = arrival.index;
             self.count += 1;
         }
         Ok(happened)
@@ -134,7 +134,7 @@ impl Former {
 // Makes room for one behind so many.
 fn make_room(
     alloc: Global,
-    copies: &mut Vec<Placed<Running>>,
+    copies: &mut Vec<Indexed<Running>>,
     count: usize,
 ) -> Result<(), AllocError>
     requires { count ≤ length copies.old.items }
@@ -154,5 +154,5 @@ fn make_room(
         last: 0,
         wait: Wait::Quiet,
     };
-    Ok(copies.push(Placed { place: 0, what })?)
+    Ok(copies.push(Indexed { index: 0, what })?)
 }

@@ -1,5 +1,13 @@
-//! The components of one process with the links between them: agenda, inbox, inputs from outside, what they committed, and
-//! how a turn that wants memory is taken back.
+//! The components of one process with the links between them, behind the trait `Local` of `dv_proc`.
+//!
+//! A `LocalRun` has the tables and components of a share, its agenda and inbox, the inputs from outside, and the
+//! record that is told what happens. It does what a process asks of its components. A turn that is refused memory is
+//! taken back whole: what components were before they reacted is kept until all is settled. Each access to a
+//! component is a visit, and `Components` gives out no other component than the one visited last, so that the count
+//! of visits bounds what is looked at.
+//!
+//! `dv_plan` begins such runs for the processes of a plan, and `dv_stream` runs them. When a time may be committed is
+//! not decided here: that is `dv_proc`.
 #![tactic(auto)]
 
 /// A process as its run begins.

@@ -91,8 +91,8 @@ impl<A: Atomic + Drop, R: Record> Local for LocalRun<A, R> {
         self.state.emit(work, now)
     }
 
-    fn send(&self, place: usize, now: Time, into: &mut Vec<Event>) -> Result<(), AllocError> {
-        self.state.send(place, now, into)
+    fn send(&self, index: usize, now: Time, into: &mut Vec<Event>) -> Result<(), AllocError> {
+        self.state.send(index, now, into)
     }
 
     fn visits(&self) -> u64 {

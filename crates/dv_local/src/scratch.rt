@@ -6,7 +6,7 @@ use std::alloc::Global;
 /// Lists that an instant fills anew. Their memory serves again at the next one.
 #[derive(Drop)]
 pub struct Scratch {
-    /// The places of the components that are due.
+    /// The indices of the components that are due.
     pub due: Vec<u32>,
     /// What comes to components, and what leaves.
     pub carried: Vec<Delivery>,

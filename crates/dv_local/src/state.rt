@@ -26,15 +26,15 @@ use crate::moment::Moment;
 use crate::scratch::Scratch;
 use crate::share::Share;
 use crate::undo::{Undo, agenda_of, let_go, put_all_back};
-use crate::waiting::{earlier, first_held, first_outside, is_taken, outside_at};
+use crate::waiting::{first_held, first_outside, is_taken, outside_at};
 use dv_agenda::{Agenda, Inbox};
 use dv_bag::{Fault, Response, Sent};
 use dv_proc::{Event, Frame};
 use dv_react::{Atomic, Instant, Running};
 use dv_record::Record;
-use dv_share::tables::place_of;
-use dv_share::{Placed, arrivals, away, outer};
-use dv_time::Time;
+use dv_share::tables::index_of;
+use dv_share::{Indexed, arrivals, away, outer};
+use dv_time::{Time, earliest};
 use dv_written::{HandsOver, OfJob, WrittenPart};
 use std::alloc::{AllocError, Global};
 
@@ -42,15 +42,25 @@ use std::alloc::{AllocError, Global};
 /// to them. What they emitted at a time is kept until they change.
 #[derive(Drop)]
 pub struct LocalState<A, R> {
+    /// The share, which never changes.
     pub share: Share<A>,
+    /// The components as they stand.
     pub components: Components,
+    /// When the hold of each component runs out.
     pub agenda: Agenda,
+    /// What came from other processes and is not committed.
     pub inbox: Inbox,
+    /// What is told of all that happens.
     pub record: R,
+    /// What stood when all was settled.
     pub undo: Undo,
-    pub emitted: Vec<Placed<Result<Sent, Fault>>>,
+    /// What the components emitted, or their faults, in the order of their indices.
+    pub emitted: Vec<Indexed<Result<Sent, Fault>>>,
+    /// The time for which that was computed; none where it does not stand any more.
     pub emitted_at: Option<Time>,
+    /// Lists of an instant, whose memory serves again.
     pub scratch: Scratch,
+    /// Where memory comes from.
     pub alloc: Global,
 }
 
@@ -140,8 +150,8 @@ impl<A: Atomic, R: Record> LocalState<A, R> {
             ≡ is_port_of (view_by A.behaviour R.told self.now).share.flat.members component port }
     {
         let members = self.share.tables.members.as_slice();
-        match place_of(members, component) {
-            Some(place) => port < members[place].inputs,
+        match index_of(members, component) {
+            Some(index) => port < members[index].inputs,
             None => false,
         }
     }
@@ -165,7 +175,7 @@ impl<A: Atomic, R: Record> LocalState<A, R> {
     {
         let held = first_held(&self.inbox, self.undo.taken, from);
         let outside = first_outside(self.share.inputs.as_slice(), from);
-        earlier(held, outside)
+        earliest(held, outside)
     }
 
     /// Keeps events until their time. It is settled at once.
@@ -316,26 +326,26 @@ impl<A: Atomic, R: Record> LocalState<A, R> {
         Ok(())
     }
 
-    /// Adds the events of what they send by the outgoing link at a place, at the time that was last asked about.
+    /// Adds the events of what they send by the outgoing link at an index, at the time that was last asked about.
     ///
     /// # Errors
     ///
     /// No memory; some events may have been added then.
-    pub fn send(&self, place: usize, now: Time, into: &mut Vec<Event>) -> Result<(), AllocError>
+    pub fn send(&self, index: usize, now: Time, into: &mut Vec<Event>) -> Result<(), AllocError>
         requires { IsKept A.behaviour A.fits A.comes self.now }
         ensures { OnOk result ((out : Outgoing)
-            → slice_get (view_by A.behaviour R.told self.now).share.outgoing place ≡ Some out
+            → slice_get (view_by A.behaviour R.told self.now).share.outgoing index ≡ Some out
             → meant_events into.new.items ≡ meant_events into.old.items
             ++ map (event_of now)
             (carried_away (view_by A.behaviour R.told self.now) out.links (sent_of self.now))) }
     {
         let ways = self.share.ways.as_slice();
-        if place >= ways.len() {
+        if index >= ways.len() {
             return Ok(());
         }
         let members = self.share.tables.members.as_slice();
         let emitted = self.emitted.as_slice();
-        let deliveries = away(self.alloc, members, &ways[place].links, emitted)?;
+        let deliveries = away(self.alloc, members, &ways[index].links, emitted)?;
         add_events(into, now, &deliveries)
     }
 

@@ -16,7 +16,9 @@ use std::alloc::{AllocError, Global};
 /// all is settled again. What was told since, the record knows, and what was visited the components.
 #[derive(Drop)]
 pub struct Undo {
+    /// What the components were that changed since.
     pub before: Former,
+    /// The time whose arrivals are let go when all is settled again.
     pub taken: Option<Time>,
 }
 
@@ -52,20 +54,20 @@ pub(crate) fn put_all_back(components: &mut Components, agenda: &mut Agenda, bef
     ensures empty { before.new ≡ [] }
 {
     while let Some(last) = before.pop() {
-        agenda.set(last.place, time_of(last.what.wait));
-        put_back(components, last.place, last.what);
+        agenda.set(last.index, time_of(last.what.wait));
+        put_back(components, last.index, last.what);
     }
     components.take_back();
 }
 
 // Puts a component back where it stood.
-fn put_back(components: &mut Components, place: u32, component: Running)
-    requires { place < length components.old.running }
+fn put_back(components: &mut Components, index: u32, component: Running)
+    requires { index < length components.old.running }
     ensures components { components.new.running
-        ≡ slice_set components.old.running place component }
+        ≡ slice_set components.old.running index component }
     ensures settled { components.new.settled ≡ components.old.settled }
 {
-    components.visit(place);
+    components.visit(index);
     components.replace(component);
 }
 
@@ -79,8 +81,8 @@ pub fn agenda_of(alloc: Global, running: &[Running]) -> Result<Agenda, AllocErro
     ensures { IfOk result (λ agenda. agenda ≡ waits_of running.now) }
 {
     let mut agenda = Agenda::new(alloc, running.len() as u32)?;
-    for (place, component) in running.iter().enumerate() {
-        agenda.set(place as u32, time_of(component.wait));
+    for (index, component) in running.iter().enumerate() {
+        agenda.set(index as u32, time_of(component.wait));
     }
     Ok(agenda)
 }

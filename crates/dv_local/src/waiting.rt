@@ -5,7 +5,6 @@ ghost use Rattle.dv_time.specs.Limits.{greatest_limit};
 ghost use Rattle.dv_time.specs.Time.{IsOfRun, is_before, rank};
 ghost use Rattle.dv_time.specs.declared.time.Time.{Time as TimeOfCode};
 ghost use Rattle.dv_bag.specs.Inputs.{IsByTime, inputs_at, inputs_before, next_from, time_at};
-ghost use Rattle.dv_agenda.specs.Waits.{sooner};
 ghost use Rattle.dv_agenda.specs.Comings.{arrivals_at};
 ghost use Rattle.dv_local.specs.Shares.{AreOfRun};
 ghost use Rattle.dv_local.specs.Undoing.{arrivals_but, is_taken};
@@ -55,15 +54,15 @@ pub(crate) fn first_outside(inputs: &[Input], from: Time) -> Option<Time>
     requires { IsByTime inputs.now }
     ensures { (limit : ℕ) → AreOfRun limit inputs.now → result ≡ next_from limit inputs.now from }
 {
-    let place = inputs_before(inputs, from);
-    time_at(inputs, place)
+    let index = inputs_before(inputs, from);
+    time_at(inputs, index)
 }
 
-// The time of the input at a place, if there is one.
-fn time_at(inputs: &[Input], place: usize) -> Option<Time>
-    ensures { result ≡ time_at inputs.now place }
+// The time of the input at an index, if there is one.
+fn time_at(inputs: &[Input], index: usize) -> Option<Time>
+    ensures { result ≡ time_at inputs.now index }
 {
-    inputs.get(place).map(|input| input.time)
+    inputs.get(index).map(|input| input.time)
 }
 
 /// What comes in from outside at a time of the run, a bag for each of so many ports, of inputs that are all at times of it.
@@ -86,29 +85,18 @@ pub(crate) fn outside_at(
     if inputs.is_empty() {
         return Ok(Bags::empty(alloc, ports as usize));
     }
-    let place = inputs_before(inputs, now);
-    let mut entering = entering_at(alloc, &inputs[place..], now)?;
+    let index = inputs_before(inputs, now);
+    let mut entering = entering_at(alloc, &inputs[index..], now)?;
     entering.sort_unstable();
     bags_of(alloc, 0, ports, &entering)
 }
 
-// The place of the first input at a time or after it, by a binary search.
+// The index of the first input at a time or after it, by a binary search.
 fn inputs_before(inputs: &[Input], time: Time) -> usize
     requires { IsByTime inputs.now }
-    ensures place { (limit : ℕ) → AreOfRun limit inputs.now
+    ensures index { (limit : ℕ) → AreOfRun limit inputs.now
         → result ≡ inputs_before limit inputs.now time }
     ensures within { result ≤ length inputs.now }
 {
     inputs.partition_point(|input| input.time.is_before(time))
-}
-
-/// The time that is first, if either is one.
-pub(crate) fn earlier(one: Option<Time>, other: Option<Time>) -> Option<Time>
-    ensures { result ≡ sooner one other }
-{
-    match (one, other) {
-        (Some(time), Some(rival)) => { if rival.is_before(time) { other } else { one } }
-        (Some(_), None) => one,
-        (None, _) => other,
-    }
 }

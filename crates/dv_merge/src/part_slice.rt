@@ -3,7 +3,7 @@
 ghost use Rattle.std.specs.Prelude.{◌≡◌, ◌<◌, Some, length, map, slice_get};
 ghost use Rattle.dv_bag.specs.Part.{IsByTime, before, since};
 
-use crate::places::{entries_before, lines_before};
+use crate::indices::{entries_before, lines_before};
 use dv_bag::Outer;
 use dv_time::Time;
 use dv_written::{OfJob, WrittenEntry, WrittenPart};
@@ -42,7 +42,7 @@ impl<'p, N: OfJob> PartSlice<'p, N> {
         }
     }
 
-    /// What a part has from one time on and before another, for a part that stands by time. The places are found by bisection.
+    /// What a part has from one time on and before another, for a part that stands by time. The indices are found by bisection.
     pub fn between(part: &'p WrittenPart<N>, from: Time, upto: Time) -> Self
         requires { IsByTime part.now }
         ensures { result ≡ since from (before upto part.now) }
@@ -77,13 +77,13 @@ impl<'p, N: OfJob> PartSlice<'p, N> {
     }
 
     /// One of the entries, which are counted from 0 on.
-    pub fn entry(&self, place: usize) -> &'p WrittenEntry<N>
-        requires { place < length self.now.entries }
-        ensures { slice_get self.now.entries place ≡ Some result.now }
+    pub fn entry(&self, index: usize) -> &'p WrittenEntry<N>
+        requires { index < length self.now.entries }
+        ensures { slice_get self.now.entries index ≡ Some result.now }
     {
-        match self.together.get(place) {
+        match self.together.get(index) {
             Some(entry) => entry,
-            None => self.apart[place - self.together.len()],
+            None => self.apart[index - self.together.len()],
         }
     }
 

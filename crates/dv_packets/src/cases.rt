@@ -14,15 +14,21 @@ const TURNS: usize = 8;
 
 /// A packet, and how it is refused; without a refusal it is taken.
 pub struct Row {
+    /// The number of the link.
     pub link: u32,
+    /// Where the window of the packet begins.
     pub from: Time,
+    /// Where the window of the packet ends.
     pub upto: Time,
+    /// The events of the packet.
     pub events: &'static [Event],
+    /// How it is refused; none where it is taken.
     pub refusal: Option<Refused>,
 }
 
 /// What a process commits.
 pub enum Committed {
+    /// Nothing.
     Nothing,
     /// One fault of a component.
     Fault(Time, u32, Fault),
@@ -32,10 +38,15 @@ pub enum Committed {
 
 /// Packets for a new process, one after the other, what it commits then, up to a clock, and how often it visits components.
 pub struct Case {
+    /// What is printed of the case.
     pub name: &'static str,
+    /// The packets, in their order.
     pub rows: &'static [Row],
+    /// What the process commits then.
     pub committed: Committed,
+    /// The clock to which the process comes.
     pub clock: Time,
+    /// How often the process visits components.
     pub visits: u64,
 }
 

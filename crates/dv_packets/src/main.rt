@@ -1,4 +1,8 @@
-//! Hands packets to a process of a model, and compares what it answers and what it commits with tables.
+//! A test that is a program: it hands packets to a process of a model, true ones and others, and compares what it
+//! answers, what it commits and how often it visits components with tables.
+//!
+//! The expected answers stand in the tables of `table`, beside the packets. What is tested is the process of
+//! `dv_proc` with the components of `dv_local`, as `dv_run` makes it of a text.
 //!
 //! The first word names a file with a model of two components, the second one with a clock and a thousand cells.
 #![tactic(auto)]

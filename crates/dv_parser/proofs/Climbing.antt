@@ -4,7 +4,7 @@ use Rattle.dv_lex.specs.declared.token.Token.{Token}
 use Rattle.dv_syntax.specs.declared.tree.Operator.{Operator}
 use Rattle.dv_syntax.specs.Trees.{Expression, Binary}
 use Rattle.dv_syntax.specs.Grammar.{operator_rank, depth}
-use Rattle.dv_parser.specs.Reading.{Obstacle, TooDeep, read_then, place_at, operator_at, primary_at, turns, expression_at, more_at}
+use Rattle.dv_parser.specs.Reading.{Obstacle, TooDeep, read_then, offset_at, operator_at, primary_at, turns, expression_at, more_at}
 use Rattle.dv_parser.proofs.Tokens.{then_is, then_err}
 use Rattle.dv_parser.proofs.Expressions.{turns_stop, turns_step, turns_deep}
 
@@ -33,7 +33,7 @@ unfolding more_at
 next_stop limit level left ts h = turns_stop (expression_at (limit - 1)) limit limit level left ts h
 
 pub next_deep : (limit level : ℕ) (left : Expression) (o : Operator) (ts behind : List Token)
-    → operator_at level left ts ≡ Some (o, behind) → limit ≤ depth left → more_at limit level left ts ≡ Err (TooDeep (place_at ts))
+    → operator_at level left ts ≡ Some (o, behind) → limit ≤ depth left → more_at limit level left ts ≡ Err (TooDeep (offset_at ts))
 unfolding more_at
 next_deep limit level left o ts behind h deep = turns_deep (expression_at (limit - 1)) limit limit level left ts (o, behind) h deep
 

@@ -22,7 +22,7 @@ use Rattle.dv_syntax.specs.Trees.{Expression, Literal, TruthValue, Named, Parens
 use Rattle.dv_syntax.specs.Grammar.{Spelled, Anywhere, Spells, sign, word_at, name, number, Limits, truth_word, call_word}
 use Rattle.dv_syntax.specs.Grammar.{prefix_rank, operator_kind, operator_rank, left_rank, rank, depth, IsWellFormed}
 use Rattle.dv_syntax.specs.Grammar.{IsExpression, expression_spelling}
-use Rattle.dv_parser.specs.Reading.{Obstacle, TooDeep, Read, read_then, within, place_at, choose, maybe, begins, begins_truth}
+use Rattle.dv_parser.specs.Reading.{Obstacle, TooDeep, Read, read_then, within, offset_at, choose, maybe, begins, begins_truth}
 use Rattle.dv_parser.specs.Reading.{Reader, begins_call, keyword_operator, symbol_operator, operator_of, goes_on, operator_at}
 use Rattle.dv_parser.specs.Reading.{call_at, elapsed_at, leaf_at, parens_at, prefixed_at, times_at, primary_at, turns}
 use Rattle.dv_parser.specs.Reading.{expression_at}
@@ -102,20 +102,20 @@ leaf_read limit level low ts x e =
       ]
     ]
 
-pub within_ok : {A : Type 0} (limit place : ℕ) (read : Read A) (x : A) → within limit place read ≡ Ok x → read ≡ Ok x
+pub within_ok : {A : Type 0} (limit offset : ℕ) (read : Read A) (x : A) → within limit offset read ≡ Ok x → read ≡ Ok x
 unfolding within
-within_ok zero place read x e = absurd (err_ok _ _ e)
-within_ok (suc limit) place read x e = e
+within_ok zero offset read x e = absurd (err_ok _ _ e)
+within_ok (suc limit) offset read x e = e
 
-pub within_room : {A : Type 0} (limit place : ℕ) (read : Read A) (x : A) → within limit place read ≡ Ok x → 0 < limit
+pub within_room : {A : Type 0} (limit offset : ℕ) (read : Read A) (x : A) → within limit offset read ≡ Ok x → 0 < limit
 unfolding within
-within_room zero place read x e = absurd (err_ok _ _ e)
-within_room (suc limit) place read x e = omega arith
+within_room zero offset read x e = absurd (err_ok _ _ e)
+within_room (suc limit) offset read x e = omega arith
 
-pub within_positive : {A : Type 0} (limit place : ℕ) (read : Read A) → 0 < limit → within limit place read ≡ read
+pub within_positive : {A : Type 0} (limit offset : ℕ) (read : Read A) → 0 < limit → within limit offset read ≡ read
 unfolding within
-within_positive zero place read lt = absurd (omega (arith, lt))
-within_positive (suc limit) place read lt = refl
+within_positive zero offset read lt = absurd (omega (arith, lt))
+within_positive (suc limit) offset read lt = refl
 
 parens_read : (operand : Operands) (limit level : ℕ) → IsSound operand limit → level ≤ 7 → (ts : List Token)
     (x : Expression × List Token) → parens_at operand limit ts ≡ Ok x → Reads (suc limit) level ts x
@@ -409,11 +409,11 @@ same_turns operand limit (suc a) (suc b) level left ts ha hb =
     let each : (o : Operator × List Token) →
     (choose (ltb (depth left) limit)
     (read_then (operand (operator_rank o.0 + 1) o.1) (λ right. turns operand limit a level (Binary o.0 left right.0) right.1))
-    (Err (TooDeep (place_at ts))))
+    (Err (TooDeep (offset_at ts))))
     ≡ (choose (ltb (depth left) limit)
     (read_then (operand (operator_rank o.0 + 1) o.1) (λ right. turns operand limit b level (Binary o.0 left right.0) right.1))
-    (Err (TooDeep (place_at ts)))) =
-    λ o. same_choice (operand (operator_rank o.0 + 1) o.1) (ltb (depth left) limit) (TooDeep (place_at ts)) _ _
+    (Err (TooDeep (offset_at ts)))) =
+    λ o. same_choice (operand (operator_rank o.0 + 1) o.1) (ltb (depth left) limit) (TooDeep (offset_at ts)) _ _
     (λ right. same_turns operand limit a b level (Binary o.0 left right.0) right.1 (omega arith) (omega arith)) in
     same_maybe (operator_at level left ts) _ _ _ each
 
@@ -435,7 +435,7 @@ turns_step operand (suc m) level left ts o e lt =
     (λ right _. same_turns operand (suc m) m (suc m) level (Binary o.0 left right.0) right.1 (omega arith) (omega arith)))
 
 pub turns_deep : (operand : Operands) (limit more level : ℕ) (left : Expression) (ts : List Token) (o : Operator × List Token)
-    → operator_at level left ts ≡ Some o → limit ≤ depth left → turns operand limit more level left ts ≡ Err (TooDeep (place_at ts))
+    → operator_at level left ts ≡ Some o → limit ≤ depth left → turns operand limit more level left ts ≡ Err (TooDeep (offset_at ts))
 unfolding maybe choose
 turns_deep operand limit zero level left ts o e le = rw e refl
 turns_deep operand limit (suc more) level left ts o e le =
@@ -485,14 +485,14 @@ operator_at-front level left o ss (t ∷ ts) rest above fits h =
 
 pub positive_depth : (e : Expression) → 0 < depth e
 positive_depth (Literal n) = omega arith
-positive_depth (TruthValue place value) = omega arith
+positive_depth (TruthValue offset value) = omega arith
 positive_depth (Named n) = omega arith
-positive_depth (Parens place e) = omega arith
-positive_depth (Prefixed o place e) = omega arith
+positive_depth (Parens offset e) = omega arith
+positive_depth (Prefixed o offset e) = omega arith
 positive_depth (Binary o a b) = omega arith
-positive_depth (Call c place b) = omega arith
-positive_depth (Elapsed place) = omega arith
-positive_depth (Times place e b) = omega arith
+positive_depth (Call c offset b) = omega arith
+positive_depth (Elapsed offset) = omega arith
+positive_depth (Times offset e b) = omega arith
 
 -- what begins with no sign or word of another operand is a leaf
 primary_leaf : (operand : Operands) (limit level : ℕ) (ts : List Token) {read : Read (Expression × List Token)}
@@ -521,32 +521,32 @@ number_again operand limit level n {ts = ts} h =
     (past _ (first h).begins_name (past _ (no_truth ts (b _) (b _)) (past _ (no_call ts (b _) (b _) (b _) (b _) (b _)) (past _ (b _)
     (rw (g.read, span_end g.spelled) refl)))))
 
-elapsed_again : (operand : Operands) (limit level place : ℕ) {ts rest : List Token} → Spans (word_at keyword.Elapsed place ∷ []) ts rest
-    → primary_at operand limit level ts ≡ Ok (Elapsed place, rest)
+elapsed_again : (operand : Operands) (limit level offset : ℕ) {ts rest : List Token} → Spans (word_at keyword.Elapsed offset ∷ []) ts rest
+    → primary_at operand limit level ts ≡ Ok (Elapsed offset, rest)
 unfolding leaf_at elapsed_at read_then
-elapsed_again operand limit level place {ts = ts} h =
+elapsed_again operand limit level offset {ts = ts} h =
     let f = first h in
     let b = f.begins in
     primary_leaf operand limit level _ (b _) (b _) (b _) (b _)
     (past _ f.begins_name (past _ (no_truth ts (b _) (b _)) (past _ (no_call ts (b _) (b _) (b _) (b _) (b _)) (here _ (b _)
-    (rw (f.after, f.place, span_end f.spelled) refl)))))
+    (rw (f.after, f.offset, span_end f.spelled) refl)))))
 
-truth_again : (operand : Operands) (limit level place : ℕ) (value : Bool) {ts rest : List Token}
-    → Spans (word_at (truth_word value) place ∷ []) ts rest → primary_at operand limit level ts ≡ Ok (TruthValue place value, rest)
+truth_again : (operand : Operands) (limit level offset : ℕ) (value : Bool) {ts rest : List Token}
+    → Spans (word_at (truth_word value) offset ∷ []) ts rest → primary_at operand limit level ts ≡ Ok (TruthValue offset value, rest)
 unfolding leaf_at read_then
-truth_again operand limit level place true h =
+truth_again operand limit level offset true h =
     let f = first h in
     let b = f.begins in
     let g = first_truth true (unplaced h) in
     primary_leaf operand limit level _ (b _) (b _) (b _) (b _)
-    (past _ f.begins_name (here _ (rw (b (kind.Keyword keyword.True)) refl) (rw (g.read, f.place, span_end g.spelled) refl)))
-truth_again operand limit level place false h =
+    (past _ f.begins_name (here _ (rw (b (kind.Keyword keyword.True)) refl) (rw (g.read, f.offset, span_end g.spelled) refl)))
+truth_again operand limit level offset false h =
     let f = first h in
     let b = f.begins in
     let g = first_truth false (unplaced h) in
     primary_leaf operand limit level _ (b _) (b _) (b _) (b _)
     (past _ f.begins_name (here _ (rw (b (kind.Keyword keyword.True), b (kind.Keyword keyword.False)) refl)
-    (rw (g.read, f.place, span_end g.spelled) refl)))
+    (rw (g.read, f.offset, span_end g.spelled) refl)))
 
 name_again : (operand : Operands) (limit level : ℕ) (n : Name) {ts rest : List Token} → Spans (name n ∷ []) ts rest
     → primary_at operand limit level ts ≡ Ok (Named n, rest)
@@ -557,8 +557,8 @@ name_again operand limit level n h =
     primary_leaf operand limit level _ (b _) (b _) (b _) (b _) (here _ (first h).begins_name (rw (g.read, span_end g.spelled) refl))
 
 -- what begins with the word of a call and is read as a call
-call_leaf : (operand : Operands) (limit level : ℕ) (c : BagCall) {place : ℕ} {ss : List Spelled} {ts rest : List Token}
-    → Spans (word_at (call_word c) place ∷ ss) ts rest → primary_at operand limit level ts ≡ call_at ts
+call_leaf : (operand : Operands) (limit level : ℕ) (c : BagCall) {offset : ℕ} {ss : List Spelled} {ts rest : List Token}
+    → Spans (word_at (call_word c) offset ∷ ss) ts rest → primary_at operand limit level ts ≡ call_at ts
 unfolding leaf_at
 call_leaf operand limit level call.Size {ts = ts} h =
     let b = (first h).begins in
@@ -591,22 +591,22 @@ call_leaf operand limit level call.Front {ts = ts} h =
     (past _ (first h).begins_name (past _ (no_truth ts (b _) (b _))
     (here _ (rw (b (kind.Keyword keyword.Size), b (kind.Keyword keyword.Sum), least, most, front) refl) refl)))
 
-call_again : (operand : Operands) (limit level : ℕ) (c : BagCall) (place : ℕ) (b : Name) {ts rest : List Token}
-    → Spans (expression_spelling (Call c place b)) ts rest → primary_at operand limit level ts ≡ Ok (Call c place b, rest)
+call_again : (operand : Operands) (limit level : ℕ) (c : BagCall) (offset : ℕ) (b : Name) {ts rest : List Token}
+    → Spans (expression_spelling (Call c offset b)) ts rest → primary_at operand limit level ts ≡ Ok (Call c offset b, rest)
 unfolding call_at read_then
-call_again operand limit level c place b h =
+call_again operand limit level c offset b h =
     let g = first_call c (unplaced h) in
     let opened = first g.spelled in
     let bag = first_name b opened.spelled in
     let close = first bag.spelled in
-    call_leaf operand limit level c h ∙ rw (g.read, opened.after, bag.read, close.after, (first h).place, span_end close.spelled) refl
+    call_leaf operand limit level c h ∙ rw (g.read, opened.after, bag.read, close.after, (first h).offset, span_end close.spelled) refl
 
-times_again : (operand : Operands) (limit level place : ℕ) (e : Expression) (b : Name) (ts rest : List Token)
-    → Spans (expression_spelling (Times place e b)) ts rest
+times_again : (operand : Operands) (limit level offset : ℕ) (e : Expression) (b : Name) (ts rest : List Token)
+    → Spans (expression_spelling (Times offset e b)) ts rest
     → ((us vs : List Token) → Spans (expression_spelling e) us vs → IsClosed vs → operand 0 us ≡ Ok (e, vs))
-    → primary_at operand (suc limit) level ts ≡ Ok (Times place e b, rest)
+    → primary_at operand (suc limit) level ts ≡ Ok (Times offset e b, rest)
 unfolding primary_at times_at within read_then operator_of
-times_again operand limit level place e b ts rest h inner =
+times_again operand limit level offset e b ts rest h inner =
     let f = first h in
     let opened = first f.spelled in
     let s = split (expression_spelling e) (sign symbol.Comma ∷ name b ∷ sign symbol.CloseParen ∷ []) opened.spelled in
@@ -615,36 +615,36 @@ times_again operand limit level place e b ts rest h inner =
     let bag = first_name b comma.spelled in
     let close = first bag.spelled in
     past _ (f.begins _) (here _ (f.begins _)
-    (rw (f.after, opened.after, i, comma.after, bag.read, close.after, f.place, span_end close.spelled) refl))
+    (rw (f.after, opened.after, i, comma.after, bag.read, close.after, f.offset, span_end close.spelled) refl))
 
-parens_again : (operand : Operands) (limit level place : ℕ) (e : Expression) (ts rest : List Token)
-    → Spans (expression_spelling (Parens place e)) ts rest
+parens_again : (operand : Operands) (limit level offset : ℕ) (e : Expression) (ts rest : List Token)
+    → Spans (expression_spelling (Parens offset e)) ts rest
     → ((us vs : List Token) → Spans (expression_spelling e) us vs → IsClosed vs → operand 0 us ≡ Ok (e, vs))
-    → primary_at operand (suc limit) level ts ≡ Ok (Parens place e, rest)
+    → primary_at operand (suc limit) level ts ≡ Ok (Parens offset e, rest)
 unfolding primary_at parens_at within read_then operator_of
-parens_again operand limit level place e ts rest h inner =
+parens_again operand limit level offset e ts rest h inner =
     let f = first h in
     let s = split (expression_spelling e) (sign symbol.CloseParen ∷ []) f.spelled in
     let i = inner f.behind s.0 s.1 (closed_front refl s.2) in
     let c = first s.2 in
-    here _ (f.begins _) (rw (f.after, i, c.after, f.place, span_end c.spelled) refl)
+    here _ (f.begins _) (rw (f.after, i, c.after, f.offset, span_end c.spelled) refl)
 
-prefixed_again : (o : Prefix) (operand : Operands) (limit level place : ℕ) (e : Expression) (ts rest : List Token) → level ≤ prefix_rank o
-    → Spans (expression_spelling (Prefixed o place e)) ts rest
+prefixed_again : (o : Prefix) (operand : Operands) (limit level offset : ℕ) (e : Expression) (ts rest : List Token) → level ≤ prefix_rank o
+    → Spans (expression_spelling (Prefixed o offset e)) ts rest
     → ((us : List Token) → Spans (expression_spelling e) us rest → operand (prefix_rank o) us ≡ Ok (e, rest))
-    → primary_at operand (suc limit) level ts ≡ Ok (Prefixed o place e, rest)
+    → primary_at operand (suc limit) level ts ≡ Ok (Prefixed o offset e, rest)
 unfolding primary_at prefixed_at within read_then
-prefixed_again prefix.Minus operand limit level place e ts rest low h inner =
+prefixed_again prefix.Minus operand limit level offset e ts rest low h inner =
     let f = first h in
     let i = inner f.behind f.spelled in
     let l : leb level 7 ≡ true = le-leb _ _ low in
-    past _ (f.begins _) (past _ (f.begins _) (here _ (rw (f.begins (kind.Symbol symbol.Minus), l) refl) (rw (f.after, i, f.place) refl)))
-prefixed_again prefix.Not operand limit level place e ts rest low h inner =
+    past _ (f.begins _) (past _ (f.begins _) (here _ (rw (f.begins (kind.Symbol symbol.Minus), l) refl) (rw (f.after, i, f.offset) refl)))
+prefixed_again prefix.Not operand limit level offset e ts rest low h inner =
     let f = first h in
     let i = inner f.behind f.spelled in
     let l : leb level 3 ≡ true = le-leb _ _ low in
     past _ (f.begins _) (past _ (f.begins _) (past _ (rw (f.begins (kind.Symbol symbol.Minus)) refl)
-    (here _ (rw (f.begins (kind.Keyword keyword.Not), l) refl) (rw (f.after, i, f.place) refl))))
+    (here _ (rw (f.begins (kind.Keyword keyword.Not), l) refl) (rw (f.after, i, f.offset) refl))))
 
 -- no operator between two operands binds as tightly as one before its operand
 apart : (p : Prefix) (o : Operator) → operator_rank o ≤ prefix_rank p → operator_rank o < prefix_rank p
@@ -688,20 +688,20 @@ expression_again : (e : Expression) (limit level : ℕ) (ts rest : List Token) �
     → expression_at (suc limit) level ts ≡ turns (expression_at limit) (suc limit) (suc limit) level e rest
 expression_again (Literal n) limit level ts rest formed within ranked low loose h =
     then_turns limit level (Literal n) ts rest (number_again (expression_at limit) limit level n h)
-expression_again (TruthValue place value) limit level ts rest formed within ranked low loose h =
-    then_turns limit level (TruthValue place value) ts rest (truth_again (expression_at limit) limit level place value h)
+expression_again (TruthValue offset value) limit level ts rest formed within ranked low loose h =
+    then_turns limit level (TruthValue offset value) ts rest (truth_again (expression_at limit) limit level offset value h)
 expression_again (Named n) limit level ts rest formed within ranked low loose h =
     then_turns limit level (Named n) ts rest (name_again (expression_at limit) limit level n h)
-expression_again (Parens place e) zero level ts rest formed within ranked low loose h = absurd (omega (arith, within, positive_depth e))
-expression_again (Parens place e) (suc limit) level ts rest formed within ranked low loose h =
-    then_turns (suc limit) level (Parens place e) ts rest
-    (parens_again (expression_at (suc limit)) limit level place e ts rest h (λ us vs k closed.
+expression_again (Parens offset e) zero level ts rest formed within ranked low loose h = absurd (omega (arith, within, positive_depth e))
+expression_again (Parens offset e) (suc limit) level ts rest formed within ranked low loose h =
+    then_turns (suc limit) level (Parens offset e) ts rest
+    (parens_again (expression_at (suc limit)) limit level offset e ts rest h (λ us vs k closed.
     expression_again e limit 0 us vs formed (omega (arith, within)) (omega arith) (omega arith) (IsLoose-closed (rank e) vs closed) k
     ∙ turns_stop (expression_at limit) (suc limit) (suc limit) 0 e vs (operator_at-closed 0 e vs closed)))
-expression_again (Prefixed o place e) zero level ts rest formed within ranked low loose h = absurd (omega (arith, within, positive_depth e))
-expression_again (Prefixed o place e) (suc limit) level ts rest formed within ranked low loose h =
-    then_turns (suc limit) level (Prefixed o place e) ts rest
-    (prefixed_again o (expression_at (suc limit)) limit level place e ts rest ranked h (λ us k.
+expression_again (Prefixed o offset e) zero level ts rest formed within ranked low loose h = absurd (omega (arith, within, positive_depth e))
+expression_again (Prefixed o offset e) (suc limit) level ts rest formed within ranked low loose h =
+    then_turns (suc limit) level (Prefixed o offset e) ts rest
+    (prefixed_again o (expression_at (suc limit)) limit level offset e ts rest ranked h (λ us k.
     expression_again e limit (prefix_rank o) us rest formed.0 (omega (arith, within)) formed.1 (prefix_rank-le o)
     (IsLoose-weaker (prefix_rank o) (rank e) rest formed.1 loose) k
     ∙ turns_stop (expression_at limit) (suc limit) (suc limit) (prefix_rank o) e rest (prefixed_stops o e rest loose)))
@@ -721,14 +721,14 @@ expression_again (Binary o a b) (suc limit) level ts rest formed within ranked l
     (operator_at-none (operator_rank o + 1) b (operator_rank o) rest loose (omega arith)) in
     left ∙ step ∙ then_is (expression_at k (operator_rank o + 1) next.0)
     (λ right. turns (expression_at k) (suc k) (suc k) level (Binary o a right.0) right.1) (b, rest) right
-expression_again (Call c place b) limit level ts rest formed within ranked low loose h =
-    then_turns limit level (Call c place b) ts rest (call_again (expression_at limit) limit level c place b h)
-expression_again (Elapsed place) limit level ts rest formed within ranked low loose h =
-    then_turns limit level (Elapsed place) ts rest (elapsed_again (expression_at limit) limit level place h)
-expression_again (Times place e b) zero level ts rest formed within ranked low loose h = absurd (omega (arith, within, positive_depth e))
-expression_again (Times place e b) (suc limit) level ts rest formed within ranked low loose h =
-    then_turns (suc limit) level (Times place e b) ts rest
-    (times_again (expression_at (suc limit)) limit level place e b ts rest h (λ us vs k closed.
+expression_again (Call c offset b) limit level ts rest formed within ranked low loose h =
+    then_turns limit level (Call c offset b) ts rest (call_again (expression_at limit) limit level c offset b h)
+expression_again (Elapsed offset) limit level ts rest formed within ranked low loose h =
+    then_turns limit level (Elapsed offset) ts rest (elapsed_again (expression_at limit) limit level offset h)
+expression_again (Times offset e b) zero level ts rest formed within ranked low loose h = absurd (omega (arith, within, positive_depth e))
+expression_again (Times offset e b) (suc limit) level ts rest formed within ranked low loose h =
+    then_turns (suc limit) level (Times offset e b) ts rest
+    (times_again (expression_at (suc limit)) limit level offset e b ts rest h (λ us vs k closed.
     expression_again e limit 0 us vs formed (omega (arith, within)) (omega arith) (omega arith) (IsLoose-closed (rank e) vs closed) k
     ∙ turns_stop (expression_at limit) (suc limit) (suc limit) 0 e vs (operator_at-closed 0 e vs closed)))
 

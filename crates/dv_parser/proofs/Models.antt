@@ -55,10 +55,10 @@ bound_complete None n ts rest h =
     let f = first h in
     let m = first_number n h in
     rw (f.begins (kind.Symbol symbol.Minus), m.read, span_end m.spelled) refl
-bound_complete (Some place) n ts rest h =
+bound_complete (Some offset) n ts rest h =
     let f = first h in
     let m = first_number n f.spelled in
-    rw (f.begins (kind.Symbol symbol.Minus), f.after, m.read, f.place, span_end m.spelled) refl
+    rw (f.begins (kind.Symbol symbol.Minus), f.after, m.read, f.offset, span_end m.spelled) refl
 
 bound_sound : (ts : List Token) (x : Bound × List Token) → bound_at ts ≡ Ok x → Spans (bound_spelling x.0) ts x.1
 unfolding bound_at
@@ -330,19 +330,19 @@ rule_complete limits sort p body ts rest is h =
 expression_no_word : (e : Expression) (ts rest : List Token) → Spans (expression_spelling e) ts rest
     → begins (kind.Keyword keyword.Forever) ts ≡ false
 expression_no_word (Literal n) ts rest h = (first h).begins _
-expression_no_word (TruthValue place true) ts rest h = (first h).begins _
-expression_no_word (TruthValue place false) ts rest h = (first h).begins _
+expression_no_word (TruthValue offset true) ts rest h = (first h).begins _
+expression_no_word (TruthValue offset false) ts rest h = (first h).begins _
 expression_no_word (Named n) ts rest h = (first h).begins _
-expression_no_word (Parens place e) ts rest h = (first h).begins _
-expression_no_word (Prefixed prefix.Minus place e) ts rest h = (first h).begins _
-expression_no_word (Prefixed prefix.Not place e) ts rest h = (first h).begins _
-expression_no_word (Call call.Size place b) ts rest h = (first h).begins _
-expression_no_word (Call call.Sum place b) ts rest h = (first h).begins _
-expression_no_word (Call call.Least place b) ts rest h = (first h).begins _
-expression_no_word (Call call.Most place b) ts rest h = (first h).begins _
-expression_no_word (Call call.Front place b) ts rest h = (first h).begins _
-expression_no_word (Elapsed place) ts rest h = (first h).begins _
-expression_no_word (Times place e b) ts rest h = (first h).begins _
+expression_no_word (Parens offset e) ts rest h = (first h).begins _
+expression_no_word (Prefixed prefix.Minus offset e) ts rest h = (first h).begins _
+expression_no_word (Prefixed prefix.Not offset e) ts rest h = (first h).begins _
+expression_no_word (Call call.Size offset b) ts rest h = (first h).begins _
+expression_no_word (Call call.Sum offset b) ts rest h = (first h).begins _
+expression_no_word (Call call.Least offset b) ts rest h = (first h).begins _
+expression_no_word (Call call.Most offset b) ts rest h = (first h).begins _
+expression_no_word (Call call.Front offset b) ts rest h = (first h).begins _
+expression_no_word (Elapsed offset) ts rest h = (first h).begins _
+expression_no_word (Times offset e b) ts rest h = (first h).begins _
 expression_no_word (Binary o a b) ts rest h =
     expression_no_word a ts _ (split (expression_spelling a) (Anywhere (operator_kind o) ∷ expression_spelling b) h).1
 
@@ -391,29 +391,29 @@ rule_item_complete limits sort.Confluent p body ts rest is h =
     item_rule limits ts (b _) (b _) (b _) (b _) (b _) (b _) (b _) (b _) (b _)
     (past _ (b _) (past _ (b _) (past _ (b _) (rule_complete limits sort.Confluent p body ts rest is h))))
 
-phases_complete : (place : ℕ) (names : List Name) (ts rest : List Token) → 0 < length names
-    → Spans (phases_spelling (record { place = place; names = names })) ts rest
-    → phases_at ts ≡ Ok (Lists (record { place = place; names = names }), rest)
+phases_complete : (offset : ℕ) (names : List Name) (ts rest : List Token) → 0 < length names
+    → Spans (phases_spelling (record { offset = offset; names = names })) ts rest
+    → phases_at ts ≡ Ok (Lists (record { offset = offset; names = names }), rest)
 unfolding phases_at read_then
-phases_complete place [] ts rest is h = absurd (omega (arith, is))
-phases_complete place (n ∷ ns) ts rest is h =
+phases_complete offset [] ts rest is h = absurd (omega (arith, is))
+phases_complete offset (n ∷ ns) ts rest is h =
     let r = many_reader further_name_at _ _ _ further_reader (kind.Symbol symbol.Semicolon) further_listed in
     let a = first h in
     let b = first_name n a.spelled in
     let s = split (flat_map (λ n. sign symbol.Comma ∷ name n ∷ []) ns) semicolon b.spelled in
     let c = first s.2 in
     let m = r.complete ns b.behind s.0 (all_any ns) s.1 (c.begins (kind.Symbol symbol.Semicolon)) in
-    rw (a.after, b.read, m, c.after, a.place, span_end c.spelled) refl
+    rw (a.after, b.read, m, c.after, a.offset, span_end c.spelled) refl
 
-start_complete : (place : ℕ) (p : Name) (ts rest : List Token)
-    → Spans (item_spelling (Starts (record { place = place; phase = p }))) ts rest
-    → start_at ts ≡ Ok (Starts (record { place = place; phase = p }), rest)
+start_complete : (offset : ℕ) (p : Name) (ts rest : List Token)
+    → Spans (item_spelling (Starts (record { offset = offset; phase = p }))) ts rest
+    → start_at ts ≡ Ok (Starts (record { offset = offset; phase = p }), rest)
 unfolding start_at read_then
-start_complete place p ts rest h =
+start_complete offset p ts rest h =
     let a = first h in
     let b = first_name p a.spelled in
     let c = first b.spelled in
-    rw (a.after, b.read, c.after, a.place, span_end c.spelled) refl
+    rw (a.after, b.read, c.after, a.offset, span_end c.spelled) refl
 
 hold_complete : (limits : Limits) (d : HoldTree) (ts rest : List Token) → AreTicks limits d.ticks → Spans (item_spelling (Holds d)) ts rest
     → hold_at limits ts ≡ Ok (Holds d, rest)
@@ -424,7 +424,7 @@ hold_complete limits d ts rest is h =
     let c = first b.spelled in
     let t = ticks_complete limits d.ticks c.behind rest is c.spelled in
     let e = first t.2 in
-    rw (a.after, b.read, c.after, t.1, e.after, a.place, span_end e.spelled) refl
+    rw (a.after, b.read, c.after, t.1, e.after, a.offset, span_end e.spelled) refl
 
 collection_item_complete : (limits : Limits) (d : Discipline) (n : Name) (m : Number) (ts rest : List Token)
     → Spans (collection_spelling (record { discipline = d; name = n; capacity = m })) ts rest
@@ -458,11 +458,11 @@ item_complete limits (Declares (declaration.Held c)) ts rest is h =
 item_complete limits (Lists p) ts rest is h =
     let b = (first h).begins in
     past _ (b _) (past _ (b _) (past _ (b _) (past _ (b _) (past _ (b _) (past _ (b _) (here _ (b _)
-    (phases_complete p.place p.names ts rest is h)))))))
+    (phases_complete p.offset p.names ts rest is h)))))))
 item_complete limits (Starts s) ts rest is h =
     let b = (first h).begins in
     past _ (b _) (past _ (b _) (past _ (b _) (past _ (b _) (past _ (b _) (past _ (b _) (past _ (b _) (here _ (b _)
-    (start_complete s.place s.phase ts rest h))))))))
+    (start_complete s.offset s.phase ts rest h))))))))
 item_complete limits (Holds d) ts rest is h =
     let b = (first h).begins in
     past _ (b _) (past _ (b _) (past _ (b _) (past _ (b _) (past _ (b _) (past _ (b _) (past _ (b _) (past _ (b _) (here _ (b _)
@@ -634,7 +634,7 @@ link_complete l ts rest h =
     let t = split (end_spelling l.to) semicolon b.spelled in
     let target = end_complete l.to.part l.to.port b.behind t.0 t.1 in
     let c = first t.2 in
-    rw (a.after, source, b.after, target, c.after, a.place, span_end c.spelled) refl
+    rw (a.after, source, b.after, target, c.after, a.offset, span_end c.spelled) refl
 
 coupled_item_complete : (x : CoupledItem) (ts rest : List Token) → Spans (coupled_item_spelling x) ts rest
     → coupled_item_at ts ≡ Ok (x, rest)

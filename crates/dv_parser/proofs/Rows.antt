@@ -12,12 +12,12 @@ row_items n (more_of-Stmt s rest) = ap (statement_before s) (row_items _ rest)
 -- the statements of a list, as single ones
 one_before : (s : Stmt) (rest : Statements) → single_before (single_of s) rest ≡ statement_before s rest
 one_before (stmt.Assign n e) rest = refl
-one_before (stmt.Command c place n) rest = refl
-one_before (stmt.Send place p e) rest = refl
-one_before (stmt.If' place e shape block) rest = refl
-one_before (stmt.IfElse' place e shape block other_shape other) rest = refl
-one_before (stmt.For' place v b shape block) rest = refl
-one_before (stmt.Change c place e x) rest = refl
+one_before (stmt.Command c offset n) rest = refl
+one_before (stmt.Send offset p e) rest = refl
+one_before (stmt.If' offset e shape block) rest = refl
+one_before (stmt.IfElse' offset e shape block other_shape other) rest = refl
+one_before (stmt.For' offset v b shape block) rest = refl
+one_before (stmt.Change c offset e x) rest = refl
 
 pub joined_items : (items : List Stmt) → joined (map single_of items) ≡ statements_of items
 joined_items [] = refl

@@ -16,7 +16,7 @@ use Rattle.dv_syntax.specs.Trees.{Expression, Statements, Done, Assign, Does, Se
 use Rattle.dv_syntax.specs.Grammar.{Spelled, name, sign, word, word_at, braces, Limits, IsExpression, expression_spelling}
 use Rattle.dv_syntax.specs.Grammar.{command_word, change_word, change_preposition, statements_spelling, block_depth, loop_depth}
 use Rattle.dv_syntax.specs.Grammar.{AreStatements}
-use Rattle.dv_parser.specs.Reading.{read_then, after, name_at, place_at, within, same_kind, begins, Reader, becoming}
+use Rattle.dv_parser.specs.Reading.{read_then, after, name_at, offset_at, within, same_kind, begins, Reader, becoming}
 use Rattle.dv_parser.specs.Reading.{keyword_operator, operator_of, expression_at, braces_at, many_at, Single, SingleAssign}
 use Rattle.dv_parser.specs.Reading.{SingleCommand, SingleSend, SingleIf, SingleIfElse, SingleFor, SingleChange, single_before, joined}
 use Rattle.dv_parser.specs.Reading.{assign_at, command_at, send_at, change_at, else_at, if_at, for_at, statement_at, block_at}
@@ -34,15 +34,15 @@ collection_behind c x = word (change_preposition c) ∷ name x ∷ sign symbol.S
 
 abbrev pub single_spelling : Single → List Spelled
 single_spelling (SingleAssign n e) = name n ∷ sign symbol.Assign ∷ (expression_spelling e ++ sign symbol.Semicolon ∷ [])
-single_spelling (SingleCommand c place n) = word_at (command_word c) place ∷ name n ∷ sign symbol.Semicolon ∷ []
-single_spelling (SingleSend place p e) = word_at keyword.Send place ∷ name p ∷ (expression_spelling e ++ sign symbol.Semicolon ∷ [])
-single_spelling (SingleIf place e block) = word_at keyword.If place ∷ (expression_spelling e ++ braces (statements_spelling block))
-single_spelling (SingleIfElse place e block other) =
-    word_at keyword.If place ∷
+single_spelling (SingleCommand c offset n) = word_at (command_word c) offset ∷ name n ∷ sign symbol.Semicolon ∷ []
+single_spelling (SingleSend offset p e) = word_at keyword.Send offset ∷ name p ∷ (expression_spelling e ++ sign symbol.Semicolon ∷ [])
+single_spelling (SingleIf offset e block) = word_at keyword.If offset ∷ (expression_spelling e ++ braces (statements_spelling block))
+single_spelling (SingleIfElse offset e block other) =
+    word_at keyword.If offset ∷
     (expression_spelling e ++ (braces (statements_spelling block) ++ (word keyword.Else ∷ braces (statements_spelling other))))
-single_spelling (SingleFor place v b block) =
-    word_at keyword.For place ∷ name v ∷ word keyword.In ∷ name b ∷ braces (statements_spelling block)
-single_spelling (SingleChange c place e x) = word_at (change_word c) place ∷ (expression_spelling e ++ collection_behind c x)
+single_spelling (SingleFor offset v b block) =
+    word_at keyword.For offset ∷ name v ∷ word keyword.In ∷ name b ∷ braces (statements_spelling block)
+single_spelling (SingleChange c offset e x) = word_at (change_word c) offset ∷ (expression_spelling e ++ collection_behind c x)
 
 -- a block in which blocks lie in one another no deeper than the limit, and at most so many loops
 abbrev pub IsBlock : Limits → (limit loops : ℕ) → Statements → Type 0
@@ -50,13 +50,13 @@ IsBlock limits limit loops s = AreStatements limits s × (block_depth s ≤ limi
 
 abbrev pub IsSingle : Limits → (limit loops : ℕ) → Single → Type 0
 IsSingle limits limit loops (SingleAssign n e) = IsExpression limits e
-IsSingle limits limit loops (SingleCommand c place n) = Unit {0}
-IsSingle limits limit loops (SingleSend place p e) = IsExpression limits e
-IsSingle limits limit loops (SingleIf place e block) = IsExpression limits e × IsBlock limits limit loops block
-IsSingle limits limit loops (SingleIfElse place e block other) =
+IsSingle limits limit loops (SingleCommand c offset n) = Unit {0}
+IsSingle limits limit loops (SingleSend offset p e) = IsExpression limits e
+IsSingle limits limit loops (SingleIf offset e block) = IsExpression limits e × IsBlock limits limit loops block
+IsSingle limits limit loops (SingleIfElse offset e block other) =
     IsExpression limits e × IsBlock limits limit loops block × IsBlock limits limit loops other
-IsSingle limits limit loops (SingleFor place v b block) = (0 < loops) × IsBlock limits limit (loops - 1) block
-IsSingle limits limit loops (SingleChange c place e x) = IsExpression limits e
+IsSingle limits limit loops (SingleFor offset v b block) = (0 < loops) × IsBlock limits limit (loops - 1) block
+IsSingle limits limit loops (SingleChange c offset e x) = IsExpression limits e
 
 abbrev pub block_spelling : Statements → List Spelled
 block_spelling s = braces (statements_spelling s)
@@ -156,7 +156,7 @@ for_sound limits limit loops blocks r ts x e =
     let f = then_ok _ _ _ d.2 in
     let room = within_ok _ _ _ _ b.1 in
     let s = (r (loops - 1)).sound d.0.1 f.0 f.1 in
-    let y : Single × List Token = (SingleFor (place_at ts) b.0.0 d.0.0 f.0.0, f.0.1) in
+    let y : Single × List Token = (SingleFor (offset_at ts) b.0.0 d.0.0 f.0.0, f.0.1) in
     subst (Reads limits limit loops ts) {x = y} (ok_is y x f.2)
     (after_spans_at a.1 (name_spans (within_ok _ _ _ _ room) (after_spans c.1 (name_spans d.1 s.0))), (within_room _ _ _ _ room, s.1))
 
@@ -197,12 +197,12 @@ semicolon = sign symbol.Semicolon ∷ []
 positive_block : (s : Statements) → 0 < block_depth s
 positive_block Done = omega arith
 positive_block (Assign n e rest) = positive_block rest
-positive_block (Does c place n rest) = positive_block rest
-positive_block (Send place p e rest) = positive_block rest
-positive_block (If place e b rest) = omega arith
-positive_block (IfElse place e b o rest) = omega arith
-positive_block (For place v b block rest) = omega arith
-positive_block (Changes c place e x rest) = positive_block rest
+positive_block (Does c offset n rest) = positive_block rest
+positive_block (Send offset p e rest) = positive_block rest
+positive_block (If offset e b rest) = omega arith
+positive_block (IfElse offset e b o rest) = omega arith
+positive_block (For offset v b block rest) = omega arith
+positive_block (Changes c offset e x rest) = positive_block rest
 
 assign_complete : (limits : Limits) (n : Name) (e : Expression) (ts rest : List Token) → IsExpression limits e
     → Spans (single_spelling (SingleAssign n e)) ts rest → assign_at limits ts ≡ Ok (SingleAssign n e, rest)
@@ -215,45 +215,45 @@ assign_complete limits n e ts rest is h =
     let c = first s.2 in
     rw (v.read, f.after, value, c.after, span_end c.spelled) refl
 
-command_complete : (c : Command) (place : ℕ) (n : Name) (ts rest : List Token) → Spans (single_spelling (SingleCommand c place n)) ts rest
-    → command_at c ts ≡ Ok (SingleCommand c place n, rest)
+command_complete : (c : Command) (offset : ℕ) (n : Name) (ts rest : List Token) → Spans (single_spelling (SingleCommand c offset n)) ts rest
+    → command_at c ts ≡ Ok (SingleCommand c offset n, rest)
 unfolding command_at read_then
-command_complete c place n ts rest h =
+command_complete c offset n ts rest h =
     let f = first h in
     let m = first_name n f.spelled in
     let d = first m.spelled in
-    rw (f.after, m.read, d.after, f.place, span_end d.spelled) refl
+    rw (f.after, m.read, d.after, f.offset, span_end d.spelled) refl
 
-send_complete : (limits : Limits) (place : ℕ) (p : Name) (e : Expression) (ts rest : List Token) → IsExpression limits e
-    → Spans (single_spelling (SingleSend place p e)) ts rest → send_at limits ts ≡ Ok (SingleSend place p e, rest)
+send_complete : (limits : Limits) (offset : ℕ) (p : Name) (e : Expression) (ts rest : List Token) → IsExpression limits e
+    → Spans (single_spelling (SingleSend offset p e)) ts rest → send_at limits ts ≡ Ok (SingleSend offset p e, rest)
 unfolding send_at read_then operator_of
-send_complete limits place p e ts rest is h =
+send_complete limits offset p e ts rest is h =
     let f = first h in
     let n = first_name p f.spelled in
     let s = split (expression_spelling e) semicolon n.spelled in
     let value = (expression_reader limits).complete e n.behind s.0 is s.1 (closed_front refl s.2) in
     let c = first s.2 in
-    rw (f.after, n.read, value, c.after, f.place, span_end c.spelled) refl
+    rw (f.after, n.read, value, c.after, f.offset, span_end c.spelled) refl
 
 if_complete : (limits : Limits) (limit loops : ℕ) (block : Reader Statements)
-    → BlockReader limits limit loops block → (place : ℕ) (e : Expression) (b : Statements) (ts rest : List Token)
-    → IsSingle limits limit loops (SingleIf place e b) → Spans (single_spelling (SingleIf place e b)) ts rest → NoElse rest
-    → if_at limits block limit ts ≡ Ok (SingleIf place e b, rest)
+    → BlockReader limits limit loops block → (offset : ℕ) (e : Expression) (b : Statements) (ts rest : List Token)
+    → IsSingle limits limit loops (SingleIf offset e b) → Spans (single_spelling (SingleIf offset e b)) ts rest → NoElse rest
+    → if_at limits block limit ts ≡ Ok (SingleIf offset e b, rest)
 unfolding if_at read_then operator_of
-if_complete limits limit loops block r place e b ts rest is h ends =
+if_complete limits limit loops block r offset e b ts rest is h ends =
     let f = first h in
     let s = split (expression_spelling e) (block_spelling b) f.spelled in
     let condition = (expression_reader limits).complete e f.behind s.0 is.0 s.1 (closed_front refl s.2) in
     let c = r.complete b s.0 rest is.1 s.2 tt in
-    let room = within_positive limit (place_at ts) (expression_at limits.expression 0 f.behind) (omega (arith, is.1.1, positive_block b)) in
-    rw (f.after, room, condition, c) (past _ ends (rw f.place refl))
+    let room = within_positive limit (offset_at ts) (expression_at limits.expression 0 f.behind) (omega (arith, is.1.1, positive_block b)) in
+    rw (f.after, room, condition, c) (past _ ends (rw f.offset refl))
 
 if_else_complete : (limits : Limits) (limit loops : ℕ) (block : Reader Statements)
-    → BlockReader limits limit loops block → (place : ℕ) (e : Expression) (b o : Statements) (ts rest : List Token)
-    → IsSingle limits limit loops (SingleIfElse place e b o) → Spans (single_spelling (SingleIfElse place e b o)) ts rest
-    → if_at limits block limit ts ≡ Ok (SingleIfElse place e b o, rest)
+    → BlockReader limits limit loops block → (offset : ℕ) (e : Expression) (b o : Statements) (ts rest : List Token)
+    → IsSingle limits limit loops (SingleIfElse offset e b o) → Spans (single_spelling (SingleIfElse offset e b o)) ts rest
+    → if_at limits block limit ts ≡ Ok (SingleIfElse offset e b o, rest)
 unfolding if_at else_at read_then operator_of
-if_else_complete limits limit loops block r place e b o ts rest is h =
+if_else_complete limits limit loops block r offset e b o ts rest is h =
     let f = first h in
     let tail : List Spelled = word keyword.Else ∷ block_spelling o in
     let s = split (expression_spelling e) (block_spelling b ++ tail) f.spelled in
@@ -262,24 +262,24 @@ if_else_complete limits limit loops block r place e b o ts rest is h =
     let c = r.complete b s.0 t.0 is.1 t.1 tt in
     let w = first t.2 in
     let d = r.complete o w.behind rest is.2 w.spelled tt in
-    let room = within_positive limit (place_at ts) (expression_at limits.expression 0 f.behind) (omega (arith, is.1.1, positive_block b)) in
-    rw (f.after, room, condition, c) (here _ (w.begins _) (rw (w.after, d, f.place) refl))
+    let room = within_positive limit (offset_at ts) (expression_at limits.expression 0 f.behind) (omega (arith, is.1.1, positive_block b)) in
+    rw (f.after, room, condition, c) (here _ (w.begins _) (rw (w.after, d, f.offset) refl))
 
 for_complete : (limits : Limits) (limit loops : ℕ) (blocks : Blocks) → BlockReaders limits limit blocks
-    → (place : ℕ) (v b : Name) (block : Statements) (ts rest : List Token)
-    → IsSingle limits limit loops (SingleFor place v b block) → Spans (single_spelling (SingleFor place v b block)) ts rest
-    → for_at blocks limit loops ts ≡ Ok (SingleFor place v b block, rest)
+    → (offset : ℕ) (v b : Name) (block : Statements) (ts rest : List Token)
+    → IsSingle limits limit loops (SingleFor offset v b block) → Spans (single_spelling (SingleFor offset v b block)) ts rest
+    → for_at blocks limit loops ts ≡ Ok (SingleFor offset v b block, rest)
 unfolding for_at read_then
-for_complete limits limit loops blocks r place v b block ts rest is h =
+for_complete limits limit loops blocks r offset v b block ts rest is h =
     let f = first h in
     let n = first_name v f.spelled in
     let w = first n.spelled in
     let m = first_name b w.spelled in
     let c = (r (loops - 1)).complete block m.behind rest is.1 m.spelled tt in
-    let inner = within_positive loops (place_at ts) (name_at f.behind) is.0 in
+    let inner = within_positive loops (offset_at ts) (name_at f.behind) is.0 in
     let some : 0 < limit = omega (arith, is.1.1, positive_block block) in
-    let room = within_positive limit (place_at ts) (within loops (place_at ts) (name_at f.behind)) some in
-    rw (f.after, room, inner, n.read, w.after, m.read, c, f.place) refl
+    let room = within_positive limit (offset_at ts) (within loops (offset_at ts) (name_at f.behind)) some in
+    rw (f.after, room, inner, n.read, w.after, m.read, c, f.offset) refl
 
 -- no operator stands before the collection of a change
 pub no_operator : (c : Change) → keyword_operator (change_preposition c) ≡ None
@@ -287,17 +287,17 @@ no_operator change.Add = refl
 no_operator change.Drop = refl
 no_operator change.Push = refl
 
-change_complete : (limits : Limits) (c : Change) (place : ℕ) (e : Expression) (x : Name) (ts rest : List Token) → IsExpression limits e
-    → Spans (single_spelling (SingleChange c place e x)) ts rest → change_at limits c ts ≡ Ok (SingleChange c place e x, rest)
+change_complete : (limits : Limits) (c : Change) (offset : ℕ) (e : Expression) (x : Name) (ts rest : List Token) → IsExpression limits e
+    → Spans (single_spelling (SingleChange c offset e x)) ts rest → change_at limits c ts ≡ Ok (SingleChange c offset e x, rest)
 unfolding change_at read_then operator_of
-change_complete limits c place e x ts rest is h =
+change_complete limits c offset e x ts rest is h =
     let f = first h in
     let s = split (expression_spelling e) (collection_behind c x) f.spelled in
     let value = (expression_reader limits).complete e f.behind s.0 is s.1 (closed_front (no_operator c) s.2) in
     let w = first s.2 in
     let n = first_name x w.spelled in
     let d = first n.spelled in
-    rw (f.after, value, w.after, n.read, d.after, f.place, span_end d.spelled) refl
+    rw (f.after, value, w.after, n.read, d.after, f.offset, span_end d.spelled) refl
 
 statement_complete : (limits : Limits) (limit loops : ℕ) (blocks : Blocks) → BlockReaders limits limit blocks
     → (x : Single) (ts rest : List Token)
@@ -308,38 +308,38 @@ statement_complete limits limit loops blocks r (SingleAssign n e) ts rest is h e
     let b = (first h).begins in
     past _ (b _) (past _ (b _) (past _ (b _) (past _ (b _) (past _ (b _) (past _ (b _) (past _ (b _) (past _ (b _)
     (assign_complete limits n e ts rest is h))))))))
-statement_complete limits limit loops blocks r (SingleCommand command.Goto place n) ts rest is h ends =
-    here _ ((first h).begins _) (command_complete command.Goto place n ts rest h)
-statement_complete limits limit loops blocks r (SingleCommand command.Pop place n) ts rest is h ends =
+statement_complete limits limit loops blocks r (SingleCommand command.Goto offset n) ts rest is h ends =
+    here _ ((first h).begins _) (command_complete command.Goto offset n ts rest h)
+statement_complete limits limit loops blocks r (SingleCommand command.Pop offset n) ts rest is h ends =
     let b = (first h).begins in
-    past _ (b _) (here _ (b _) (command_complete command.Pop place n ts rest h))
-statement_complete limits limit loops blocks r (SingleSend place p e) ts rest is h ends =
+    past _ (b _) (here _ (b _) (command_complete command.Pop offset n ts rest h))
+statement_complete limits limit loops blocks r (SingleSend offset p e) ts rest is h ends =
     let b = (first h).begins in
-    past _ (b _) (past _ (b _) (here _ (b _) (send_complete limits place p e ts rest is h)))
-statement_complete limits limit loops blocks r (SingleIf place e block) ts rest is h ends =
-    let b = (first h).begins in
-    past _ (b _) (past _ (b _) (past _ (b _) (here _ (b _)
-    (if_complete limits limit loops (blocks loops) (r loops) place e block ts rest is h ends))))
-statement_complete limits limit loops blocks r (SingleIfElse place e block other) ts rest is h ends =
+    past _ (b _) (past _ (b _) (here _ (b _) (send_complete limits offset p e ts rest is h)))
+statement_complete limits limit loops blocks r (SingleIf offset e block) ts rest is h ends =
     let b = (first h).begins in
     past _ (b _) (past _ (b _) (past _ (b _) (here _ (b _)
-    (if_else_complete limits limit loops (blocks loops) (r loops) place e block other ts rest is h))))
-statement_complete limits limit loops blocks r (SingleFor place v bag block) ts rest is h ends =
+    (if_complete limits limit loops (blocks loops) (r loops) offset e block ts rest is h ends))))
+statement_complete limits limit loops blocks r (SingleIfElse offset e block other) ts rest is h ends =
+    let b = (first h).begins in
+    past _ (b _) (past _ (b _) (past _ (b _) (here _ (b _)
+    (if_else_complete limits limit loops (blocks loops) (r loops) offset e block other ts rest is h))))
+statement_complete limits limit loops blocks r (SingleFor offset v bag block) ts rest is h ends =
     let b = (first h).begins in
     past _ (b _) (past _ (b _) (past _ (b _) (past _ (b _) (here _ (b _)
-    (for_complete limits limit loops blocks r place v bag block ts rest is h)))))
-statement_complete limits limit loops blocks r (SingleChange change.Add place e x) ts rest is h ends =
+    (for_complete limits limit loops blocks r offset v bag block ts rest is h)))))
+statement_complete limits limit loops blocks r (SingleChange change.Add offset e x) ts rest is h ends =
     let b = (first h).begins in
     past _ (b _) (past _ (b _) (past _ (b _) (past _ (b _) (past _ (b _) (here _ (b _)
-    (change_complete limits change.Add place e x ts rest is h))))))
-statement_complete limits limit loops blocks r (SingleChange change.Drop place e x) ts rest is h ends =
+    (change_complete limits change.Add offset e x ts rest is h))))))
+statement_complete limits limit loops blocks r (SingleChange change.Drop offset e x) ts rest is h ends =
     let b = (first h).begins in
     past _ (b _) (past _ (b _) (past _ (b _) (past _ (b _) (past _ (b _) (past _ (b _) (here _ (b _)
-    (change_complete limits change.Drop place e x ts rest is h)))))))
-statement_complete limits limit loops blocks r (SingleChange change.Push place e x) ts rest is h ends =
+    (change_complete limits change.Drop offset e x ts rest is h)))))))
+statement_complete limits limit loops blocks r (SingleChange change.Push offset e x) ts rest is h ends =
     let b = (first h).begins in
     past _ (b _) (past _ (b _) (past _ (b _) (past _ (b _) (past _ (b _) (past _ (b _) (past _ (b _) (here _ (b _)
-    (change_complete limits change.Push place e x ts rest is h))))))))
+    (change_complete limits change.Push offset e x ts rest is h))))))))
 
 pub statement_reader : (limits : Limits) (limit loops : ℕ) (blocks : Blocks) → BlockReaders limits limit blocks
     → IsReader (statement_at limits blocks limit loops) single_spelling (IsSingle limits limit loops) NoElse
@@ -351,36 +351,36 @@ statement_reader limits limit loops blocks r = record {
 single_opens : (x : Single) (ts rest : List Token) → Spans (single_spelling x) ts rest
     → (begins (kind.Symbol symbol.CloseBrace) ts ≡ false) × (begins (kind.Keyword keyword.Else) ts ≡ false)
 single_opens (SingleAssign n e) ts rest h = let f = first h in (f.begins _, f.begins _)
-single_opens (SingleCommand command.Goto place n) ts rest h = let f = first h in (f.begins _, f.begins _)
-single_opens (SingleCommand command.Pop place n) ts rest h = let f = first h in (f.begins _, f.begins _)
-single_opens (SingleSend place p e) ts rest h = let f = first h in (f.begins _, f.begins _)
-single_opens (SingleIf place e b) ts rest h = let f = first h in (f.begins _, f.begins _)
-single_opens (SingleIfElse place e b o) ts rest h = let f = first h in (f.begins _, f.begins _)
-single_opens (SingleFor place v b block) ts rest h = let f = first h in (f.begins _, f.begins _)
-single_opens (SingleChange change.Add place e x) ts rest h = let f = first h in (f.begins _, f.begins _)
-single_opens (SingleChange change.Drop place e x) ts rest h = let f = first h in (f.begins _, f.begins _)
-single_opens (SingleChange change.Push place e x) ts rest h = let f = first h in (f.begins _, f.begins _)
+single_opens (SingleCommand command.Goto offset n) ts rest h = let f = first h in (f.begins _, f.begins _)
+single_opens (SingleCommand command.Pop offset n) ts rest h = let f = first h in (f.begins _, f.begins _)
+single_opens (SingleSend offset p e) ts rest h = let f = first h in (f.begins _, f.begins _)
+single_opens (SingleIf offset e b) ts rest h = let f = first h in (f.begins _, f.begins _)
+single_opens (SingleIfElse offset e b o) ts rest h = let f = first h in (f.begins _, f.begins _)
+single_opens (SingleFor offset v b block) ts rest h = let f = first h in (f.begins _, f.begins _)
+single_opens (SingleChange change.Add offset e x) ts rest h = let f = first h in (f.begins _, f.begins _)
+single_opens (SingleChange change.Drop offset e x) ts rest h = let f = first h in (f.begins _, f.begins _)
+single_opens (SingleChange change.Push offset e x) ts rest h = let f = first h in (f.begins _, f.begins _)
 
 single_some : (x : Single) → 0 < length (single_spelling x)
 single_some (SingleAssign n e) = omega arith
-single_some (SingleCommand c place n) = omega arith
-single_some (SingleSend place p e) = omega arith
-single_some (SingleIf place e b) = omega arith
-single_some (SingleIfElse place e b o) = omega arith
-single_some (SingleFor place v b block) = omega arith
-single_some (SingleChange c place e x) = omega arith
+single_some (SingleCommand c offset n) = omega arith
+single_some (SingleSend offset p e) = omega arith
+single_some (SingleIf offset e b) = omega arith
+single_some (SingleIfElse offset e b o) = omega arith
+single_some (SingleFor offset v b block) = omega arith
+single_some (SingleChange c offset e x) = omega arith
 
 -- ---- Statements as a list of single ones
 
 single_before-spelling : (s : Single) (rest : Statements)
     → statements_spelling (single_before s rest) ≡ single_spelling s ++ statements_spelling rest
 single_before-spelling (SingleAssign n e) rest = simp append_assoc
-single_before-spelling (SingleCommand c place n) rest = refl
-single_before-spelling (SingleSend place p e) rest = simp append_assoc
-single_before-spelling (SingleIf place e b) rest = simp append_assoc
-single_before-spelling (SingleIfElse place e b o) rest = simp append_assoc
-single_before-spelling (SingleFor place v b block) rest = simp append_assoc
-single_before-spelling (SingleChange c place e x) rest = simp append_assoc
+single_before-spelling (SingleCommand c offset n) rest = refl
+single_before-spelling (SingleSend offset p e) rest = simp append_assoc
+single_before-spelling (SingleIf offset e b) rest = simp append_assoc
+single_before-spelling (SingleIfElse offset e b o) rest = simp append_assoc
+single_before-spelling (SingleFor offset v b block) rest = simp append_assoc
+single_before-spelling (SingleChange c offset e x) rest = simp append_assoc
 
 joined-spelling : (ss : List Single) → statements_spelling (joined ss) ≡ flat_map single_spelling ss
 joined-spelling [] = refl
@@ -389,60 +389,60 @@ joined-spelling (s ∷ ss) = single_before-spelling s (joined ss) ∙ ap (λ (t 
 abbrev apart : Statements → List Single
 apart Done = []
 apart (Assign n e rest) = SingleAssign n e ∷ apart rest
-apart (Does c place n rest) = SingleCommand c place n ∷ apart rest
-apart (Send place p e rest) = SingleSend place p e ∷ apart rest
-apart (If place e block rest) = SingleIf place e block ∷ apart rest
-apart (IfElse place e block other rest) = SingleIfElse place e block other ∷ apart rest
-apart (For place v b block rest) = SingleFor place v b block ∷ apart rest
-apart (Changes c place e x rest) = SingleChange c place e x ∷ apart rest
+apart (Does c offset n rest) = SingleCommand c offset n ∷ apart rest
+apart (Send offset p e rest) = SingleSend offset p e ∷ apart rest
+apart (If offset e block rest) = SingleIf offset e block ∷ apart rest
+apart (IfElse offset e block other rest) = SingleIfElse offset e block other ∷ apart rest
+apart (For offset v b block rest) = SingleFor offset v b block ∷ apart rest
+apart (Changes c offset e x rest) = SingleChange c offset e x ∷ apart rest
 
 joined-apart : (s : Statements) → joined (apart s) ≡ s
 joined-apart Done = refl
 joined-apart (Assign n e rest) = ap (Assign n e) (joined-apart rest)
-joined-apart (Does c place n rest) = ap (Does c place n) (joined-apart rest)
-joined-apart (Send place p e rest) = ap (Send place p e) (joined-apart rest)
-joined-apart (If place e block rest) = ap (If place e block) (joined-apart rest)
-joined-apart (IfElse place e block other rest) = ap (IfElse place e block other) (joined-apart rest)
-joined-apart (For place v b block rest) = ap (For place v b block) (joined-apart rest)
-joined-apart (Changes c place e x rest) = ap (Changes c place e x) (joined-apart rest)
+joined-apart (Does c offset n rest) = ap (Does c offset n) (joined-apart rest)
+joined-apart (Send offset p e rest) = ap (Send offset p e) (joined-apart rest)
+joined-apart (If offset e block rest) = ap (If offset e block) (joined-apart rest)
+joined-apart (IfElse offset e block other rest) = ap (IfElse offset e block other) (joined-apart rest)
+joined-apart (For offset v b block rest) = ap (For offset v b block) (joined-apart rest)
+joined-apart (Changes c offset e x rest) = ap (Changes c offset e x) (joined-apart rest)
 
 are_joined : (limits : Limits) (limit loops : ℕ) (ss : List Single) → AllByRecursion (IsSingle limits limit loops) ss
     → IsBlock limits (suc limit) loops (joined ss)
 are_joined limits limit loops [] all = (tt, omega arith, omega arith)
 are_joined limits limit loops (SingleAssign n e ∷ ss) all = let r = are_joined limits limit loops ss all.1 in ((all.0, r.0), r.1, r.2)
-are_joined limits limit loops (SingleCommand c place n ∷ ss) all = let r = are_joined limits limit loops ss all.1 in (r.0, r.1, r.2)
-are_joined limits limit loops (SingleSend place p e ∷ ss) all = let r = are_joined limits limit loops ss all.1 in ((all.0, r.0), r.1, r.2)
-are_joined limits limit loops (SingleIf place e b ∷ ss) all =
+are_joined limits limit loops (SingleCommand c offset n ∷ ss) all = let r = are_joined limits limit loops ss all.1 in (r.0, r.1, r.2)
+are_joined limits limit loops (SingleSend offset p e ∷ ss) all = let r = are_joined limits limit loops ss all.1 in ((all.0, r.0), r.1, r.2)
+are_joined limits limit loops (SingleIf offset e b ∷ ss) all =
     let r = are_joined limits limit loops ss all.1 in
     ((all.0.0, all.0.1.0, r.0), omega (arith, r.1, all.0.1.1), omega (arith, r.2, all.0.1.2))
-are_joined limits limit loops (SingleIfElse place e b o ∷ ss) all =
+are_joined limits limit loops (SingleIfElse offset e b o ∷ ss) all =
     let r = are_joined limits limit loops ss all.1 in
     ((all.0.0, all.0.1.0, all.0.2.0, r.0), omega (arith, r.1, all.0.1.1, all.0.2.1), omega (arith, r.2, all.0.1.2, all.0.2.2))
-are_joined limits limit loops (SingleFor place v b block ∷ ss) all =
+are_joined limits limit loops (SingleFor offset v b block ∷ ss) all =
     let r = are_joined limits limit loops ss all.1 in
     ((all.0.1.0, r.0), omega (arith, r.1, all.0.1.1), omega (arith, r.2, all.0.0, all.0.1.2))
-are_joined limits limit loops (SingleChange c place e x ∷ ss) all =
+are_joined limits limit loops (SingleChange c offset e x ∷ ss) all =
     let r = are_joined limits limit loops ss all.1 in ((all.0, r.0), r.1, r.2)
 
 are_apart : (limits : Limits) (limit loops : ℕ) (s : Statements) → IsBlock limits (suc limit) loops s
     → AllByRecursion (IsSingle limits limit loops) (apart s)
 are_apart limits limit loops Done is = tt
 are_apart limits limit loops (Assign n e rest) is = (is.0.0, are_apart limits limit loops rest (is.0.1, is.1, is.2))
-are_apart limits limit loops (Does c place n rest) is = (tt, are_apart limits limit loops rest (is.0, is.1, is.2))
-are_apart limits limit loops (Send place p e rest) is = (is.0.0, are_apart limits limit loops rest (is.0.1, is.1, is.2))
-are_apart limits limit loops (If place e b rest) is = (
+are_apart limits limit loops (Does c offset n rest) is = (tt, are_apart limits limit loops rest (is.0, is.1, is.2))
+are_apart limits limit loops (Send offset p e rest) is = (is.0.0, are_apart limits limit loops rest (is.0.1, is.1, is.2))
+are_apart limits limit loops (If offset e b rest) is = (
   (is.0.0, (is.0.1, omega (arith, is.1), omega (arith, is.2))),
   are_apart limits limit loops rest (is.0.2, omega (arith, is.1), omega (arith, is.2)),
 )
-are_apart limits limit loops (IfElse place e b o rest) is = (
+are_apart limits limit loops (IfElse offset e b o rest) is = (
   (is.0.0, (is.0.1, omega (arith, is.1), omega (arith, is.2)), (is.0.2, omega (arith, is.1), omega (arith, is.2))),
   are_apart limits limit loops rest (is.0.3, omega (arith, is.1), omega (arith, is.2)),
 )
-are_apart limits limit loops (For place v b block rest) is = (
+are_apart limits limit loops (For offset v b block rest) is = (
   (omega (arith, is.2), (is.0.0, omega (arith, is.1), omega (arith, is.2))),
   are_apart limits limit loops rest (is.0.1, omega (arith, is.1), omega (arith, is.2)),
 )
-are_apart limits limit loops (Changes c place e x rest) is = (is.0.0, are_apart limits limit loops rest (is.0.1, is.1, is.2))
+are_apart limits limit loops (Changes c offset e x rest) is = (is.0.0, are_apart limits limit loops rest (is.0.1, is.1, is.2))
 
 -- ---- Blocks
 

@@ -17,7 +17,7 @@ use Rattle.dv_syntax.specs.declared.tree.BagCall.TheVariants as call
 use Rattle.dv_syntax.specs.Grammar.{Spelled, At, Anywhere, Spells, name, number, word, word_at, truth_word, call_word}
 use Rattle.dv_parser.specs.Reading.{Obstacle, Read, read_then, choose, maybe, keyword_number, symbol_number, same_kind, begins}
 use Rattle.dv_parser.specs.Reading.{Reader, after, is_name, begins_name, name_of, name_at, number_of, number_at, truth_at}
-use Rattle.dv_parser.specs.Reading.{word_of_at, call_word_at, place_at}
+use Rattle.dv_parser.specs.Reading.{word_of_at, call_word_at, offset_at}
 
 -- ---- What was read
 
@@ -226,12 +226,12 @@ same_kind_decided false a b h = is_false (same_kind a b) (λ e. false≢true (h.
 
 -- the kind that a spelling asks for
 abbrev pub kind_of : Spelled → TokenKind
-kind_of (At k place) = k
+kind_of (At k offset) = k
 kind_of (Anywhere k) = k
 
-abbrev pub AtPlace : Spelled → ℕ → Type 0
-AtPlace (At k place) n = n ≡ place
-AtPlace (Anywhere k) n = Unit {0}
+abbrev pub AtOffset : Spelled → ℕ → Type 0
+AtOffset (At k offset) n = n ≡ offset
+AtOffset (Anywhere k) n = Unit {0}
 
 -- what is known of tokens that begin with a token so spelled
 pub record First (s : Spelled) (ss : List Spelled) (ts rest : List Token) : Type 0 where
@@ -239,18 +239,18 @@ pub record First (s : Spelled) (ss : List Spelled) (ts rest : List Token) : Type
   pub after : after (kind_of s) ts ≡ Ok behind
   pub begins : (k : TokenKind) → begins k ts ≡ same_kind (kind_of s) k
   pub begins_name : begins_name ts ≡ is_name (kind_of s)
-  pub place : AtPlace s (place_at ts)
+  pub offset : AtOffset s (offset_at ts)
   pub spelled : Spans ss behind rest
 
 front : (s : Spelled) (ss : List Spelled) (ts rest : List Token) → Spells (s ∷ ss) ts rest → First s ss ts rest
-unfolding after choose place_at
+unfolding after choose offset_at
 front s ss [] rest h = absurd h
-front (At k place) ss (t ∷ ts) rest h = record {
+front (At k offset) ss (t ∷ ts) rest h = record {
   behind = ts;
   after = rw (h.0.0, same_kind-same k) refl;
   begins = λ j. ap (λ (i : TokenKind). same_kind i j) h.0.0;
   begins_name = ap is_name h.0.0;
-  place = h.0.1;
+  offset = h.0.1;
   spelled = record { spells = h.1 };
 }
 front (Anywhere k) ss (t ∷ ts) rest h = record {
@@ -258,7 +258,7 @@ front (Anywhere k) ss (t ∷ ts) rest h = record {
   after = rw (h.0, same_kind-same k) refl;
   begins = λ j. ap (λ (i : TokenKind). same_kind i j) h.0;
   begins_name = ap is_name h.0;
-  place = tt;
+  offset = tt;
   spelled = record { spells = h.1 };
 }
 
@@ -320,21 +320,21 @@ first_call call.Front h =
     let b = f.begins in
     record { behind = f.behind; read = past _ (b _) (past _ (b _) (past _ (b _) (past _ (b _) (rw f.after refl)))); spelled = f.spelled }
 
-unplaced_spells : (k : TokenKind) (place : ℕ) (ss : List Spelled) (ts rest : List Token) → Spells (At k place ∷ ss) ts rest
+unplaced_spells : (k : TokenKind) (offset : ℕ) (ss : List Spelled) (ts rest : List Token) → Spells (At k offset ∷ ss) ts rest
     → Spells (Anywhere k ∷ ss) ts rest
-unplaced_spells k place ss [] rest h = absurd h
-unplaced_spells k place ss (t ∷ ts) rest h = (h.0.0, h.1)
+unplaced_spells k offset ss [] rest h = absurd h
+unplaced_spells k offset ss (t ∷ ts) rest h = (h.0.0, h.1)
 
--- a token whose place is kept is one that stands anywhere
-pub unplaced : {k : TokenKind} {place : ℕ} {ss : List Spelled} {ts rest : List Token} → Spans (At k place ∷ ss) ts rest
+-- a token whose offset is kept is one that stands anywhere
+pub unplaced : {k : TokenKind} {offset : ℕ} {ss : List Spelled} {ts rest : List Token} → Spans (At k offset ∷ ss) ts rest
     → Spans (Anywhere k ∷ ss) ts rest
-unplaced {k = k} {place = place} {ss = ss} {ts = ts} {rest = rest} h = record { spells = unplaced_spells k place ss ts rest h.spells }
+unplaced {k = k} {offset = offset} {ss = ss} {ts = ts} {rest = rest} h = record { spells = unplaced_spells k offset ss ts rest h.spells }
 
 -- ---- The other way: a token that was read, before what is spelled
 
 after_spells : (k : TokenKind) (ss : List Spelled) (ts mid rest : List Token) → after k ts ≡ Ok mid → Spells ss mid rest
-    → Spells (At k (place_at ts) ∷ ss) ts rest
-unfolding after place_at
+    → Spells (At k (offset_at ts) ∷ ss) ts rest
+unfolding after offset_at
 after_spells k ss [] mid rest e h = absurd cc
 after_spells k ss (t ∷ ts) mid rest e h =
     elim (chosen _ _ _ _ e) [
@@ -343,46 +343,46 @@ after_spells k ss (t ∷ ts) mid rest e h =
     ]
 
 pub after_spans_at : {k : TokenKind} {ss : List Spelled} {ts mid rest : List Token} → after k ts ≡ Ok mid → Spans ss mid rest
-    → Spans (At k (place_at ts) ∷ ss) ts rest
+    → Spans (At k (offset_at ts) ∷ ss) ts rest
 after_spans_at {k = k} {ss = ss} {ts = ts} {mid = mid} {rest = rest} e h = record { spells = after_spells k ss ts mid rest e h.spells }
 
 pub after_spans : {k : TokenKind} {ss : List Spelled} {ts mid rest : List Token} → after k ts ≡ Ok mid → Spans ss mid rest
     → Spans (Anywhere k ∷ ss) ts rest
 after_spans e h = unplaced (after_spans_at e h)
 
-name_of-name : (k : TokenKind) (place : ℕ) (ts : List Token) (x : Name × List Token) → name_of k place ts ≡ Ok x
-    → (k ≡ kind.Name x.0.number) × (place ≡ x.0.place) × (ts ≡ x.1)
-name_of-name (kind.Name n) place ts x e =
+name_of-name : (k : TokenKind) (offset : ℕ) (ts : List Token) (x : Name × List Token) → name_of k offset ts ≡ Ok x
+    → (k ≡ kind.Name x.0.number) × (offset ≡ x.0.offset) × (ts ≡ x.1)
+name_of-name (kind.Name n) offset ts x e =
     let p = ok_is _ _ e in
     let number = ap (λ (y : Name × List Token). kind.Name y.0.number) p in
-    (number, ap (λ (y : Name × List Token). y.0.place) p, ap (λ (y : Name × List Token). y.1) p)
-name_of-name _ place ts x e = absurd (err_ok _ _ e)
+    (number, ap (λ (y : Name × List Token). y.0.offset) p, ap (λ (y : Name × List Token). y.1) p)
+name_of-name _ offset ts x e = absurd (err_ok _ _ e)
 
 name_spells : (ss : List Spelled) (ts rest : List Token) (x : Name × List Token) → name_at ts ≡ Ok x → Spells ss x.1 rest
     → Spells (name x.0 ∷ ss) ts rest
 unfolding name_at
 name_spells ss [] rest x e h = absurd (err_ok _ _ e)
 name_spells ss (t ∷ ts) rest x e h =
-    let p = name_of-name t.kind t.place ts x e in ((p.0, p.1), subst (λ (y : List Token). Spells ss y rest) (sym p.2) h)
+    let p = name_of-name t.kind t.offset ts x e in ((p.0, p.1), subst (λ (y : List Token). Spells ss y rest) (sym p.2) h)
 
 pub name_spans : {ss : List Spelled} {ts rest : List Token} {x : Name × List Token} → name_at ts ≡ Ok x → Spans ss x.1 rest
     → Spans (name x.0 ∷ ss) ts rest
 name_spans {ss = ss} {ts = ts} {rest = rest} {x = x} e h = record { spells = name_spells ss ts rest x e h.spells }
 
-number_of-number : (k : TokenKind) (place : ℕ) (ts : List Token) (x : Number × List Token) → number_of k place ts ≡ Ok x
-    → (k ≡ kind.Number x.0.value) × (place ≡ x.0.place) × (ts ≡ x.1)
-number_of-number (kind.Number n) place ts x e =
+number_of-number : (k : TokenKind) (offset : ℕ) (ts : List Token) (x : Number × List Token) → number_of k offset ts ≡ Ok x
+    → (k ≡ kind.Number x.0.value) × (offset ≡ x.0.offset) × (ts ≡ x.1)
+number_of-number (kind.Number n) offset ts x e =
     let p = ok_is _ _ e in
     let value = ap (λ (y : Number × List Token). kind.Number y.0.value) p in
-    (value, ap (λ (y : Number × List Token). y.0.place) p, ap (λ (y : Number × List Token). y.1) p)
-number_of-number _ place ts x e = absurd (err_ok _ _ e)
+    (value, ap (λ (y : Number × List Token). y.0.offset) p, ap (λ (y : Number × List Token). y.1) p)
+number_of-number _ offset ts x e = absurd (err_ok _ _ e)
 
 number_spells : (ss : List Spelled) (ts rest : List Token) (x : Number × List Token) → number_at ts ≡ Ok x → Spells ss x.1 rest
     → Spells (number x.0 ∷ ss) ts rest
 unfolding number_at
 number_spells ss [] rest x e h = absurd (err_ok _ _ e)
 number_spells ss (t ∷ ts) rest x e h =
-    let p = number_of-number t.kind t.place ts x e in ((p.0, p.1), subst (λ (y : List Token). Spells ss y rest) (sym p.2) h)
+    let p = number_of-number t.kind t.offset ts x e in ((p.0, p.1), subst (λ (y : List Token). Spells ss y rest) (sym p.2) h)
 
 pub number_spans : {ss : List Spelled} {ts rest : List Token} {x : Number × List Token} → number_at ts ≡ Ok x → Spans ss x.1 rest
     → Spans (number x.0 ∷ ss) ts rest
@@ -390,7 +390,7 @@ number_spans {ss = ss} {ts = ts} {rest = rest} {x = x} e h = record { spells = n
 
 -- what is known of a word that was read as this, before what is spelled
 abbrev WordSpans : {A : Type 0} → (A → Keyword) → List Spelled → List Token → List Token → A × List Token → Type 0
-WordSpans word_of ss ts rest x = Spans ss x.1 rest → Spans (word_at (word_of x.0) (place_at ts) ∷ ss) ts rest
+WordSpans word_of ss ts rest x = Spans ss x.1 rest → Spans (word_at (word_of x.0) (offset_at ts) ∷ ss) ts rest
 
 pub truth_spans : {ss : List Spelled} {ts rest : List Token} {x : Bool × List Token} → truth_at ts ≡ Ok x
     → WordSpans truth_word ss ts rest x

@@ -58,11 +58,11 @@ use Rattle.dv_syntax.specs.Written.{sorted_coupled_items}
 use Rattle.dv_syntax.specs.Grammar.{Limits, the_limits, prefix_kind, prefix_rank, operator_rank, left_rank, rank, depth}
 use Rattle.dv_syntax.specs.Grammar.{call_word, command_word, change_word, change_preposition, discipline_word, sort_word}
 
--- What stops a reader: the token at a place can't stand there, or what begins with it, or what it joins, lies too deep; or
+-- What stops a reader: the token at an offset can't stand there, or what begins with it, or what it joins, lies too deep; or
 -- more tokens have to follow.
 pub data Obstacle : Type 0 where
-  Unexpected : (place : ℕ) → Obstacle
-  TooDeep : (place : ℕ) → Obstacle
+  Unexpected : (offset : ℕ) → Obstacle
+  TooDeep : (offset : ℕ) → Obstacle
   TooShort : Obstacle
 
 abbrev pub Read : Type 0 → Type 0
@@ -79,8 +79,8 @@ read_then (Err o) f = Err o
 
 -- what stops the code
 abbrev pub obstacle_of : CodeObstacle → Obstacle
-obstacle_of (obstacle.Unexpected place) = Unexpected place
-obstacle_of (obstacle.TooDeep place) = TooDeep place
+obstacle_of (obstacle.Unexpected offset) = Unexpected offset
+obstacle_of (obstacle.TooDeep offset) = TooDeep offset
 obstacle_of obstacle.TooShort = TooShort
 
 -- What a function that takes no memory returned, seen by `view`, is what reading gives.
@@ -193,36 +193,36 @@ abbrev pub begins : TokenKind → List Token → Bool
 begins k [] = false
 begins k (t ∷ ts) = same_kind t.kind k
 
--- the place of the first token
-unfoldable pub place_at : List Token → ℕ
-place_at [] = 0
-place_at (t ∷ ts) = t.place
+-- the offset of the first token
+unfoldable pub offset_at : List Token → ℕ
+offset_at [] = 0
+offset_at (t ∷ ts) = t.offset
 
 -- the first token can't stand there, or there is none
 unfoldable pub obstacle_at : List Token → Obstacle
 obstacle_at [] = TooShort
-obstacle_at (t ∷ ts) = Unexpected t.place
+obstacle_at (t ∷ ts) = Unexpected t.offset
 
 -- the tokens after one of this kind
 unfoldable pub after : TokenKind → List Token → Read (List Token)
 after k [] = Err TooShort
-after k (t ∷ ts) = choose (same_kind t.kind k) (Ok ts) (Err (Unexpected t.place))
+after k (t ∷ ts) = choose (same_kind t.kind k) (Ok ts) (Err (Unexpected t.offset))
 
 abbrev pub name_of : TokenKind → ℕ → Reader Name
-name_of (kind.Name n) place ts = Ok (record { number = n; place = place }, ts)
-name_of _ place ts = Err (Unexpected place)
+name_of (kind.Name n) offset ts = Ok (record { number = n; offset = offset }, ts)
+name_of _ offset ts = Err (Unexpected offset)
 
 unfoldable pub name_at : Reader Name
 name_at [] = Err TooShort
-name_at (t ∷ ts) = name_of t.kind t.place ts
+name_at (t ∷ ts) = name_of t.kind t.offset ts
 
 abbrev pub number_of : TokenKind → ℕ → Reader Number
-number_of (kind.Number n) place ts = Ok (record { value = n; place = place }, ts)
-number_of _ place ts = Err (Unexpected place)
+number_of (kind.Number n) offset ts = Ok (record { value = n; offset = offset }, ts)
+number_of _ offset ts = Err (Unexpected offset)
 
 unfoldable pub number_at : Reader Number
 number_at [] = Err TooShort
-number_at (t ∷ ts) = number_of t.kind t.place ts
+number_at (t ∷ ts) = number_of t.kind t.offset ts
 
 -- `true` or `false`
 abbrev pub begins_truth : List Token → Bool
@@ -304,50 +304,50 @@ call_at ts = do
   inside ← after (kind.Symbol symbol.OpenParen) c.1
   bag ← name_at inside
   rest ← after (kind.Symbol symbol.CloseParen) bag.1
-  Ok (Call c.0 (place_at ts) bag.0, rest)
+  Ok (Call c.0 (offset_at ts) bag.0, rest)
 
 -- `elapsed`
 unfoldable pub elapsed_at : Reader Expression
-elapsed_at ts = after (kind.Keyword keyword.Elapsed) ts >>= λ rest. Ok (Elapsed (place_at ts), rest)
+elapsed_at ts = after (kind.Keyword keyword.Elapsed) ts >>= λ rest. Ok (Elapsed (offset_at ts), rest)
 
 -- a name, a truth value, a call, `elapsed` or a number
 unfoldable pub leaf_at : Reader Expression
 leaf_at ts = choose (begins_name ts) (name_at ts >>= λ n. Ok (Named n.0, n.1))
-    (choose (begins_truth ts) (truth_at ts >>= λ v. Ok (TruthValue (place_at ts) v.0, v.1))
+    (choose (begins_truth ts) (truth_at ts >>= λ v. Ok (TruthValue (offset_at ts) v.0, v.1))
     (choose (begins_call ts) (call_at ts)
     (choose (begins (kind.Keyword keyword.Elapsed) ts) (elapsed_at ts)
     (number_at ts >>= λ n. Ok (Literal n.0, n.1)))))
 
--- what a reader reads where there is room for it, and else an obstacle at the place of what owes it
-unfoldable pub within : {A : Type 0} → (limit place : ℕ) → Read A → Read A
-within zero place read = Err (TooDeep place)
-within (suc limit) place read = read
+-- what a reader reads where there is room for it, and else an obstacle at the offset of what owes it
+unfoldable pub within : {A : Type 0} → (limit offset : ℕ) → Read A → Read A
+within zero offset read = Err (TooDeep offset)
+within (suc limit) offset read = read
 
 -- An operand that no operator joins to another, at a level: `not` stands where no operator binds more tightly than it.
 -- `operand` reads what lies behind an operator, in parentheses or in `times`, at a level, no deeper than the limit.
 unfoldable pub parens_at : (ℕ → Reader Expression) → ℕ → Reader Expression
 parens_at operand limit ts = do
   inside ← after (kind.Symbol symbol.OpenParen) ts
-  e ← within limit (place_at ts) (operand 0 inside)
+  e ← within limit (offset_at ts) (operand 0 inside)
   rest ← after (kind.Symbol symbol.CloseParen) e.1
-  Ok (Parens (place_at ts) e.0, rest)
+  Ok (Parens (offset_at ts) e.0, rest)
 
 unfoldable pub prefixed_at : Prefix → (ℕ → Reader Expression) → ℕ → Reader Expression
 prefixed_at o operand limit ts = do
   behind ← after (prefix_kind o) ts
-  e ← within limit (place_at ts) (operand (prefix_rank o) behind)
-  Ok (Prefixed o (place_at ts) e.0, e.1)
+  e ← within limit (offset_at ts) (operand (prefix_rank o) behind)
+  Ok (Prefixed o (offset_at ts) e.0, e.1)
 
 -- how often a value is in a bag
 unfoldable pub times_at : (ℕ → Reader Expression) → ℕ → Reader Expression
 times_at operand limit ts = do
   behind ← after (kind.Keyword keyword.Times) ts
-  inside ← within limit (place_at ts) (after (kind.Symbol symbol.OpenParen) behind)
+  inside ← within limit (offset_at ts) (after (kind.Symbol symbol.OpenParen) behind)
   e ← operand 0 inside
   comma ← after (kind.Symbol symbol.Comma) e.1
   bag ← name_at comma
   rest ← after (kind.Symbol symbol.CloseParen) bag.1
-  Ok (Times (place_at ts) e.0 bag.0, rest)
+  Ok (Times (offset_at ts) e.0 bag.0, rest)
 
 -- a prefix comes first, and may stand at the level
 abbrev pub begins_prefix : Prefix → ℕ → List Token → Bool
@@ -363,11 +363,11 @@ primary_at operand limit level ts =
 
 -- What follows a left operand, as long as an operator of the level goes on with it. `more` counts the turns that are left.
 abbrev pub turns : (ℕ → Reader Expression) → (limit more level : ℕ) → Expression → Reader Expression
-turns operand limit zero level left ts = maybe (operator_at level left ts) (Ok (left, ts)) (λ o. Err (TooDeep (place_at ts)))
+turns operand limit zero level left ts = maybe (operator_at level left ts) (Ok (left, ts)) (λ o. Err (TooDeep (offset_at ts)))
 turns operand limit (suc more) level left ts = maybe (operator_at level left ts) (Ok (left, ts)) (λ o.
     choose (nat_lt (depth left) limit)
     (operand (operator_rank o.0 + 1) o.1 >>= λ right. turns operand limit more level (Binary o.0 left right.0) right.1)
-    (Err (TooDeep (place_at ts))))
+    (Err (TooDeep (offset_at ts))))
 
 -- An expression no deeper than the limit, at whose top no operator below the level stands
 unfoldable pub expression_at : ℕ → ℕ → Reader Expression
@@ -410,21 +410,21 @@ braces_at one ts = do
 -- a statement by itself
 pub data Single : Type 0 where
   SingleAssign : (variable : Name) → (value : Expression) → Single
-  SingleCommand : (command : Command) → (place : ℕ) → (name : Name) → Single
-  SingleSend : (place : ℕ) → (port : Name) → (value : Expression) → Single
-  SingleIf : (place : ℕ) → (condition : Expression) → (block : Statements) → Single
-  SingleIfElse : (place : ℕ) → (condition : Expression) → (block other : Statements) → Single
-  SingleFor : (place : ℕ) → (variable bag : Name) → (block : Statements) → Single
-  SingleChange : (change : Change) → (place : ℕ) → (value : Expression) → (collection : Name) → Single
+  SingleCommand : (command : Command) → (offset : ℕ) → (name : Name) → Single
+  SingleSend : (offset : ℕ) → (port : Name) → (value : Expression) → Single
+  SingleIf : (offset : ℕ) → (condition : Expression) → (block : Statements) → Single
+  SingleIfElse : (offset : ℕ) → (condition : Expression) → (block other : Statements) → Single
+  SingleFor : (offset : ℕ) → (variable bag : Name) → (block : Statements) → Single
+  SingleChange : (change : Change) → (offset : ℕ) → (value : Expression) → (collection : Name) → Single
 
 abbrev pub single_before : Single → Statements → Statements
 single_before (SingleAssign n e) rest = Assign n e rest
-single_before (SingleCommand c place n) rest = Does c place n rest
-single_before (SingleSend place p e) rest = Send place p e rest
-single_before (SingleIf place e block) rest = If place e block rest
-single_before (SingleIfElse place e block other) rest = IfElse place e block other rest
-single_before (SingleFor place v b block) rest = For place v b block rest
-single_before (SingleChange c place e x) rest = Changes c place e x rest
+single_before (SingleCommand c offset n) rest = Does c offset n rest
+single_before (SingleSend offset p e) rest = Send offset p e rest
+single_before (SingleIf offset e block) rest = If offset e block rest
+single_before (SingleIfElse offset e block other) rest = IfElse offset e block other rest
+single_before (SingleFor offset v b block) rest = For offset v b block rest
+single_before (SingleChange c offset e x) rest = Changes c offset e x rest
 
 abbrev pub joined : List Single → Statements
 joined [] = Done
@@ -432,13 +432,13 @@ joined (s ∷ ss) = single_before s (joined ss)
 
 abbrev pub single_of : Stmt → Single
 single_of (stmt.Assign n e) = SingleAssign n (expression_of e)
-single_of (stmt.Command c place n) = SingleCommand c place n
-single_of (stmt.Send place p e) = SingleSend place p (expression_of e)
-single_of (stmt.If' place e shape block) = SingleIf place (expression_of e) (row_statements block)
-single_of (stmt.IfElse' place e shape block other_shape other) =
-    SingleIfElse place (expression_of e) (row_statements block) (row_statements other)
-single_of (stmt.For' place v b shape block) = SingleFor place v b (row_statements block)
-single_of (stmt.Change c place e x) = SingleChange c place (expression_of e) x
+single_of (stmt.Command c offset n) = SingleCommand c offset n
+single_of (stmt.Send offset p e) = SingleSend offset p (expression_of e)
+single_of (stmt.If' offset e shape block) = SingleIf offset (expression_of e) (row_statements block)
+single_of (stmt.IfElse' offset e shape block other_shape other) =
+    SingleIfElse offset (expression_of e) (row_statements block) (row_statements other)
+single_of (stmt.For' offset v b shape block) = SingleFor offset v b (row_statements block)
+single_of (stmt.Change c offset e x) = SingleChange c offset (expression_of e) x
 
 unfoldable pub assign_at : Limits → Reader Single
 assign_at limits ts = do
@@ -453,7 +453,7 @@ command_at c ts = do
   behind ← after (kind.Keyword (command_word c)) ts
   n ← name_at behind
   rest ← after (kind.Symbol symbol.Semicolon) n.1
-  Ok (SingleCommand c (place_at ts) n.0, rest)
+  Ok (SingleCommand c (offset_at ts) n.0, rest)
 
 unfoldable pub send_at : Limits → Reader Single
 send_at limits ts = do
@@ -461,7 +461,7 @@ send_at limits ts = do
   n ← name_at behind
   e ← expression_at limits.expression 0 n.1
   rest ← after (kind.Symbol symbol.Semicolon) e.1
-  Ok (SingleSend (place_at ts) n.0 e.0, rest)
+  Ok (SingleSend (offset_at ts) n.0 e.0, rest)
 
 unfoldable pub change_at : Limits → Change → Reader Single
 change_at limits c ts = do
@@ -470,33 +470,33 @@ change_at limits c ts = do
   word ← after (kind.Keyword (change_preposition c)) e.1
   x ← name_at word
   rest ← after (kind.Symbol symbol.Semicolon) x.1
-  Ok (SingleChange c (place_at ts) e.0 x.0, rest)
+  Ok (SingleChange c (offset_at ts) e.0 x.0, rest)
 
 -- what follows the block of an `if`
 unfoldable pub else_at : Reader Statements → ℕ → Expression → Statements → Reader Single
-else_at block_at place e block ts = do
+else_at block_at offset e block ts = do
   behind ← after (kind.Keyword keyword.Else) ts
   other ← block_at behind
-  Ok (SingleIfElse place e block other.0, other.1)
+  Ok (SingleIfElse offset e block other.0, other.1)
 
 -- The limit is that of the blocks.
 unfoldable pub if_at : Limits → Reader Statements → ℕ → Reader Single
 if_at limits block_at limit ts = do
   behind ← after (kind.Keyword keyword.If) ts
-  e ← within limit (place_at ts) (expression_at limits.expression 0 behind)
+  e ← within limit (offset_at ts) (expression_at limits.expression 0 behind)
   block ← block_at e.1
-  choose (begins (kind.Keyword keyword.Else) block.1) (else_at block_at (place_at ts) e.0 block.0 block.1)
-      (Ok (SingleIf (place_at ts) e.0 block.0, block.1))
+  choose (begins (kind.Keyword keyword.Else) block.1) (else_at block_at (offset_at ts) e.0 block.0 block.1)
+      (Ok (SingleIf (offset_at ts) e.0 block.0, block.1))
 
 -- The limit is that of the blocks. `loops` is how many loops may lie in one another here; in the block it is one less.
 unfoldable pub for_at : (ℕ → Reader Statements) → (limit loops : ℕ) → Reader Single
 for_at block_at limit loops ts = do
   behind ← after (kind.Keyword keyword.For) ts
-  v ← within limit (place_at ts) (within loops (place_at ts) (name_at behind))
+  v ← within limit (offset_at ts) (within loops (offset_at ts) (name_at behind))
   word ← after (kind.Keyword keyword.In) v.1
   bag ← name_at word
   block ← block_at (loops - 1) bag.1
-  Ok (SingleFor (place_at ts) v.0 bag.0 block.0, block.1)
+  Ok (SingleFor (offset_at ts) v.0 bag.0 block.0, block.1)
 
 -- the word of this command comes first
 abbrev pub begins_command : Command → List Token → Bool
@@ -530,7 +530,7 @@ unfoldable pub bound_at : Reader Bound
 bound_at ts = choose (begins (kind.Symbol symbol.Minus) ts)
     (after (kind.Symbol symbol.Minus) ts >>= λ behind.
     number_at behind >>= λ n.
-    Ok (record { minus = Some (place_at ts); magnitude = n.0 }, n.1))
+    Ok (record { minus = Some (offset_at ts); magnitude = n.0 }, n.1))
     (number_at ts >>= λ n. Ok (record { minus = None; magnitude = n.0 }, n.1))
 
 unfoldable pub variable_at : Reader Variable
@@ -577,14 +577,14 @@ phases_at ts = do
   first ← name_at behind
   others ← many_at further_name_at (kind.Symbol symbol.Semicolon) first.1
   rest ← after (kind.Symbol symbol.Semicolon) others.1
-  Ok (Lists (record { place = place_at ts; names = first.0 ∷ others.0 }), rest)
+  Ok (Lists (record { offset = offset_at ts; names = first.0 ∷ others.0 }), rest)
 
 unfoldable pub start_at : Reader AtomicItem
 start_at ts = do
   behind ← after (kind.Keyword keyword.Start) ts
   n ← name_at behind
   rest ← after (kind.Symbol symbol.Semicolon) n.1
-  Ok (Starts (record { place = place_at ts; phase = n.0 }), rest)
+  Ok (Starts (record { offset = offset_at ts; phase = n.0 }), rest)
 
 unfoldable pub ticks_at : Limits → Reader (Option Expression)
 ticks_at limits ts = choose (begins (kind.Keyword keyword.Forever) ts)
@@ -598,7 +598,7 @@ hold_at limits ts = do
   colon ← after (kind.Symbol symbol.Colon) n.1
   ticks ← ticks_at limits colon
   rest ← after (kind.Symbol symbol.Semicolon) ticks.1
-  Ok (Holds (record { place = place_at ts; phase = n.0; ticks = ticks.0 }), rest)
+  Ok (Holds (record { offset = offset_at ts; phase = n.0; ticks = ticks.0 }), rest)
 
 unfoldable pub rule_at : Limits → RuleSort → Reader AtomicItem
 rule_at limits sort ts = do
@@ -676,7 +676,7 @@ link_at ts = do
   arrow ← after (kind.Symbol symbol.Arrow) source.1
   target ← end_at arrow
   rest ← after (kind.Symbol symbol.Semicolon) target.1
-  Ok (record { place = place_at ts; from = source.0; to = target.0 }, rest)
+  Ok (record { offset = offset_at ts; from = source.0; to = target.0 }, rest)
 
 unfoldable pub coupled_item_at : Reader CoupledItem
 coupled_item_at ts =
@@ -728,21 +728,21 @@ file_at limits ts = do
   rest ← after (kind.Symbol symbol.Semicolon) n.1
   choose (is_end rest) (Ok (record { header = header.0; models = models.0; root = n.0 })) (Err (obstacle_at rest))
 
--- what stops a reader is answered by this refusal; `end` is the place of the end of the text
+-- what stops a reader is answered by this refusal; `end` is the offset of the end of the text
 abbrev pub refusal_of : Obstacle → ℕ → Refusal
-refusal_of (Unexpected place) end = record { number = E4; place = place }
-refusal_of (TooDeep place) end = record { number = E5; place = place }
-refusal_of TooShort end = record { number = E4; place = end }
+refusal_of (Unexpected offset) end = record { number = E4; offset = offset }
+refusal_of (TooDeep offset) end = record { number = E5; offset = offset }
+refusal_of TooShort end = record { number = E4; offset = end }
 
 abbrev pub refusal_in : {A : Type 0} → Read A → ℕ → Option Refusal
 refusal_in (Ok x) end = None
 refusal_in (Err o) end = Some (refusal_of o end)
 
--- the refusal of the tokens of a text that ends at this place, unless they are those of a file
+-- the refusal of the tokens of a text that ends at this offset, unless they are those of a file
 abbrev pub refusal_of_tokens : List Token → ℕ → Option Refusal
 refusal_of_tokens ts end = refusal_in (file_at the_limits ts) end
 
--- the answer to the tokens of a text that ends at this place, by why the code could not read them
+-- the answer to the tokens of a text that ends at this offset, by why the code could not read them
 abbrev pub answer_of : ParseError → ℕ → LoadError
 answer_of parse_error.Memory end = error.Memory
 answer_of (parse_error.Stopped o) end = error.Refused (refusal_of (obstacle_of o) end)

@@ -13,7 +13,7 @@ use crate::expression::expression;
 use crate::parse_error::{Obstacle, ParseError};
 use crate::statement::block;
 use crate::token::{
-    after_keyword, after_symbol, begins_with_keyword, begins_with_symbol, first_place, name,
+    after_keyword, after_symbol, begins_with_keyword, begins_with_symbol, first_offset, name,
     number, truth,
 };
 use dv_bag::Discipline;
@@ -33,10 +33,15 @@ const LOOP_LIMIT: u32 = 3;
 /// An item of an atomic model.
 #[derive(Drop)]
 pub enum AtomicItem {
+    /// A port, a variable, a flag, a bag or a queue.
     Declares(Declaration),
+    /// Phases.
     Lists(Phases),
+    /// The start.
     Starts(Start),
+    /// The hold of a phase.
     Holds(Hold),
+    /// A rule of a phase.
     Rules(Rule),
 }
 
@@ -46,7 +51,7 @@ fn bound(tokens: &[Token]) -> Result<(Bound, &[Token]), Obstacle>
     ensures { Reads (λ x. (x.0, x.1.now)) result (bound_at tokens.now) }
 {
     if begins_with_symbol(tokens, Symbol::Minus) {
-        let place = first_place(tokens);
+        let offset = first_offset(tokens);
         let rest = after_symbol(tokens, Symbol::Minus)?;
         let (magnitude, rest) = match number(rest) {
             Ok(read) => read,
@@ -54,7 +59,7 @@ fn bound(tokens: &[Token]) -> Result<(Bound, &[Token]), Obstacle>
         };
         Ok((
             Bound {
-                minus: Some(place),
+                minus: Some(offset),
                 magnitude,
             },
             rest,
@@ -195,7 +200,7 @@ fn further_names(
 fn phases(alloc: Global, tokens: &[Token]) -> Result<(AtomicItem, &[Token]), ParseError>
     ensures { Gives (λ x. (item_of x.0, x.1.now)) result (phases_at tokens.now) }
 {
-    let place = first_place(tokens);
+    let offset = first_offset(tokens);
     let rest = after_keyword(tokens, Keyword::Phases)?;
     let (first, rest) = name(rest)?;
     let mut names = Vec::new(alloc);
@@ -203,7 +208,7 @@ fn phases(alloc: Global, tokens: &[Token]) -> Result<(AtomicItem, &[Token]), Par
     let (mut names, rest) = further_names(names, rest)?;
     let rest = after_symbol(rest, Symbol::Semicolon)?;
     names.shrink_to_fit();
-    Ok((AtomicItem::Lists(Phases { place, names }), rest))
+    Ok((AtomicItem::Lists(Phases { offset, names }), rest))
 }
 
 /// `start phase;`
@@ -211,11 +216,11 @@ fn phases(alloc: Global, tokens: &[Token]) -> Result<(AtomicItem, &[Token]), Par
 fn start(tokens: &[Token]) -> Result<(AtomicItem, &[Token]), Obstacle>
     ensures { Reads (λ x. (item_of x.0, x.1.now)) result (start_at tokens.now) }
 {
-    let place = first_place(tokens);
+    let offset = first_offset(tokens);
     let rest = after_keyword(tokens, Keyword::Start)?;
     let (phase, rest) = name(rest)?;
     let rest = after_symbol(rest, Symbol::Semicolon)?;
-    Ok((AtomicItem::Starts(Start { place, phase }), rest))
+    Ok((AtomicItem::Starts(Start { offset, phase }), rest))
 }
 
 /// `forever`, or an expression.
@@ -237,14 +242,14 @@ fn ticks(alloc: Global, tokens: &[Token]) -> Result<(Ticks, &[Token]), ParseErro
 fn hold(alloc: Global, tokens: &[Token]) -> Result<(AtomicItem, &[Token]), ParseError>
     ensures { Gives (λ x. (item_of x.0, x.1.now)) result (hold_at the_limits tokens.now) }
 {
-    let place = first_place(tokens);
+    let offset = first_offset(tokens);
     let rest = after_keyword(tokens, Keyword::Hold)?;
     let (phase, rest) = name(rest)?;
     let rest = after_symbol(rest, Symbol::Colon)?;
     let (ticks, rest) = ticks(alloc, rest)?;
     let rest = after_symbol(rest, Symbol::Semicolon)?;
     let hold = Hold {
-        place,
+        offset,
         phase,
         ticks,
     };

@@ -8,7 +8,7 @@ ghost use Rattle.dv_parser.specs.Reading.{with_coupled_item, with_coupled_items,
 use crate::atomic::port;
 use crate::parse_error::{Obstacle, ParseError};
 use crate::token::{
-    after_keyword, after_symbol, begins_with_keyword, begins_with_symbol, first_place, name,
+    after_keyword, after_symbol, begins_with_keyword, begins_with_symbol, first_offset, name,
 };
 use dv_lex::{Keyword, Symbol, Token, TokenKind};
 use dv_syntax::{Coupled, End, Link, Name, Part};
@@ -17,9 +17,13 @@ use std::alloc::Global;
 /// An item of a coupled model.
 #[derive(Clone, Copy)]
 pub enum CoupledItem {
+    /// An input port.
     Inputs(Name),
+    /// An output port.
     Outputs(Name),
+    /// A part.
     Contains(Part),
+    /// A link.
     Couples(Link),
 }
 
@@ -65,13 +69,13 @@ fn part(tokens: &[Token]) -> Result<(Part, &[Token]), Obstacle>
 fn link(tokens: &[Token]) -> Result<(Link, &[Token]), Obstacle>
     ensures { Reads (λ x. (x.0, x.1.now)) result (link_at tokens.now) }
 {
-    let place = first_place(tokens);
+    let offset = first_offset(tokens);
     let rest = after_keyword(tokens, Keyword::Link)?;
     let (from, rest) = end(rest)?;
     let rest = after_symbol(rest, Symbol::Arrow)?;
     let (to, rest) = end(rest)?;
     let rest = after_symbol(rest, Symbol::Semicolon)?;
-    Ok((Link { place, from, to }, rest))
+    Ok((Link { offset, from, to }, rest))
 }
 
 /// An item at the front.

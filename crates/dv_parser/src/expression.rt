@@ -3,7 +3,7 @@
 ghost use Rattle.std.specs.Prelude.{◌≡◌, ◌+◌, ◌-◌, ◌<◌, ◌≤◌, IfOk, List, MatchOption, MatchResult, None, Some, Ok};
 ghost use Rattle.dv_syntax.specs.Trees.{expression_of, Expression, Parens, Binary, Times};
 ghost use Rattle.dv_syntax.specs.Grammar.{prefix_kind, prefix_rank, operator_rank, left_rank, rank, depth};
-ghost use Rattle.dv_parser.specs.Reading.{Gives, Reads, operator_of, keyword_operator, symbol_operator, goes_on, operator_at, place_at};
+ghost use Rattle.dv_parser.specs.Reading.{Gives, Reads, operator_of, keyword_operator, symbol_operator, goes_on, operator_at, offset_at};
 ghost use Rattle.dv_parser.specs.Reading.{call_at, elapsed_at, leaf_at, parens_at, prefixed_at, times_at, begins_prefix};
 ghost use Rattle.dv_parser.specs.Reading.{primary_at, expression_at, after, name_at, within, read_then};
 ghost use Rattle.dv_parser.specs.declared.parse_error.ParseError.TheVariants.{Memory};
@@ -12,7 +12,7 @@ use crate::limits::test_depth;
 use crate::parse_error::{Obstacle, ParseError};
 use crate::token::{
     after_keyword, after_kind, after_symbol, begins_with, begins_with_call, begins_with_keyword,
-    begins_with_name, begins_with_symbol, begins_with_truth, call_word, first_place, name, number,
+    begins_with_name, begins_with_symbol, begins_with_truth, call_word, first_offset, name, number,
     truth,
 };
 use dv_lex::{Keyword, Symbol, Token, TokenKind};
@@ -135,8 +135,8 @@ fn rank_of(expression: &Expr) -> u32
     }
 }
 
-/// The operator at the front that goes on with the left operand at this level, its place, and what follows it.
-#[tactic(auto, unfolding(crate::specs::Reading::operator_at, crate::specs::Reading::place_at, crate::specs::Reading::goes_on, crate::specs::Reading::maybe, crate::specs::Reading::choose))]
+/// The operator at the front that goes on with the left operand at this level, its offset, and what follows it.
+#[tactic(auto, unfolding(crate::specs::Reading::operator_at, crate::specs::Reading::offset_at, crate::specs::Reading::goes_on, crate::specs::Reading::maybe, crate::specs::Reading::choose))]
 fn next_operator<'a>(
     tokens: &'a [Token],
     level: u32,
@@ -145,14 +145,14 @@ fn next_operator<'a>(
     ensures { MatchOption result
         (operator_at level (expression_of left.now) tokens.now ≡ None)
         (λ x. (operator_at level (expression_of left.now) tokens.now ≡ Some (x.0, x.2.now))
-        × (x.1 ≡ place_at tokens.now)) }
+        × (x.1 ≡ offset_at tokens.now)) }
 {
-    let [Token { kind, place }, rest @ ..] = tokens else {
+    let [Token { kind, offset }, rest @ ..] = tokens else {
         return None;
     };
     let operator = operator(*kind)?;
     if level <= rank_of_operator(operator) && least_left_rank(operator) <= rank_of(left) {
-        Some((operator, *place, rest))
+        Some((operator, *offset, rest))
     } else {
         None
     }
@@ -164,12 +164,12 @@ fn call(tokens: &[Token]) -> Result<(Expr, &[Token]), Obstacle>
     ensures gives { Reads (λ x. (expression_of x.0, x.1.now)) result (call_at tokens.now) }
     ensures depth { IfOk result (λ x. depth (expression_of x.0) ≡ 1) }
 {
-    let place = first_place(tokens);
+    let offset = first_offset(tokens);
     let (call, rest) = call_word(tokens)?;
     let rest = after_symbol(rest, Symbol::OpenParen)?;
     let (bag, rest) = name(rest)?;
     let rest = after_symbol(rest, Symbol::CloseParen)?;
-    Ok((Expr::Call { call, place, bag }, rest))
+    Ok((Expr::Call { call, offset, bag }, rest))
 }
 
 /// `elapsed`, and what follows it.
@@ -178,9 +178,9 @@ fn elapsed(tokens: &[Token]) -> Result<(Expr, &[Token]), Obstacle>
     ensures gives { Reads (λ x. (expression_of x.0, x.1.now)) result (elapsed_at tokens.now) }
     ensures depth { IfOk result (λ x. depth (expression_of x.0) ≡ 1) }
 {
-    let place = first_place(tokens);
+    let offset = first_offset(tokens);
     let rest = after_keyword(tokens, Keyword::Elapsed)?;
-    Ok((Expr::Elapsed { place }, rest))
+    Ok((Expr::Elapsed { offset }, rest))
 }
 
 /// A name, a truth value, a call, `elapsed` or a number, and what follows it.
@@ -193,9 +193,9 @@ fn leaf(tokens: &[Token]) -> Result<(Expr, &[Token]), Obstacle>
         let (name, rest) = name(tokens)?;
         Ok((Expr::Named(name), rest))
     } else if begins_with_truth(tokens) {
-        let place = first_place(tokens);
+        let offset = first_offset(tokens);
         let (value, rest) = truth(tokens)?;
-        Ok((Expr::TruthValue { place, value }, rest))
+        Ok((Expr::TruthValue { offset, value }, rest))
     } else if begins_with_call(tokens) {
         call(tokens)
     } else if begins_with_keyword(tokens, Keyword::Elapsed) {
@@ -209,11 +209,11 @@ fn leaf(tokens: &[Token]) -> Result<(Expr, &[Token]), Obstacle>
     }
 }
 
-/// The parentheses that open at this place, around what is inside them and before what closes them, their depth, and
+/// The parentheses that open at this offset, around what is inside them and before what closes them, their depth, and
 /// what follows them.
 #[tactic(auto, unfolding(crate::specs::Reading::read_then))]
 fn closed_parens(
-    place: u32,
+    offset: u32,
     inner: Box<Expr>,
     inner_depth: u32,
     tokens: &[Token],
@@ -222,12 +222,12 @@ fn closed_parens(
     requires bounded { inner_depth < 64 }
     ensures gives { Reads {Y = Expression × List Token} (λ x. (expression_of x.0, x.2.now)) result
         (read_then (after (TokenKind.Symbol Symbol.CloseParen) tokens.now)
-        (λ rest. Ok (Parens place (expression_of inner.value), rest))) }
+        (λ rest. Ok (Parens offset (expression_of inner.value), rest))) }
     ensures depth { IfOk result (λ x. x.1 ≡ depth (expression_of x.0)) }
     ensures deeper { IfOk result (λ x. x.1 ≡ inner_depth + 1) }
 {
     let rest = after_symbol(tokens, Symbol::CloseParen)?;
-    Ok((Expr::Parens { place, inner }, inner_depth + 1, rest))
+    Ok((Expr::Parens { offset, inner }, inner_depth + 1, rest))
 }
 
 /// The tokens behind the parenthesis of a `times`, if the limit leaves room for its value.
@@ -236,20 +236,20 @@ fn inside_times(tokens: &[Token], limit: u32) -> Result<&[Token], Obstacle>
     requires positive { 0 < limit }
     ensures gives { Reads (λ rest. rest.now) result
         (read_then (after (TokenKind.Keyword Keyword.Times) tokens.now)
-        (λ behind. within (limit - 1) (place_at tokens.now)
+        (λ behind. within (limit - 1) (offset_at tokens.now)
         (after (TokenKind.Symbol Symbol.OpenParen) behind))) }
     ensures room { IfOk result (λ rest. 1 < limit) }
 {
-    let place = first_place(tokens);
+    let offset = first_offset(tokens);
     let behind = after_keyword(tokens, Keyword::Times)?;
-    test_depth(limit - 1, place)?;
+    test_depth(limit - 1, offset)?;
     after_symbol(behind, Symbol::OpenParen)
 }
 
-/// The `times` at this place, of a value and of the bag that stands behind it, its depth, and what follows it.
+/// The `times` at this offset, of a value and of the bag that stands behind it, its depth, and what follows it.
 #[tactic(auto, unfolding(crate::specs::Reading::read_then))]
 fn counted_times(
-    place: u32,
+    offset: u32,
     value: Box<Expr>,
     value_depth: u32,
     tokens: &[Token],
@@ -260,14 +260,14 @@ fn counted_times(
         (read_then (after (TokenKind.Symbol Symbol.Comma) tokens.now)
         (λ comma. read_then (name_at comma)
         (λ bag. read_then (after (TokenKind.Symbol Symbol.CloseParen) bag.1)
-        (λ rest. Ok (Times place (expression_of value.value) bag.0, rest))))) }
+        (λ rest. Ok (Times offset (expression_of value.value) bag.0, rest))))) }
     ensures depth { IfOk result (λ x. x.1 ≡ depth (expression_of x.0)) }
     ensures deeper { IfOk result (λ x. x.1 ≡ value_depth + 1) }
 {
     let rest = after_symbol(tokens, Symbol::Comma)?;
     let (bag, rest) = name(rest)?;
     let rest = after_symbol(rest, Symbol::CloseParen)?;
-    Ok((Expr::Times { place, value, bag }, value_depth + 1, rest))
+    Ok((Expr::Times { offset, value, bag }, value_depth + 1, rest))
 }
 
 /// Two operands with their operator between them.
@@ -283,24 +283,24 @@ fn joined(alloc: Global, operator: Operator, left: Expr, right: Expr) -> Result<
     })
 }
 
-/// An operand of what stands at this place, if the limit leaves room for it, its depth, and what follows it.
+/// An operand of what stands at this offset, if the limit leaves room for it, its depth, and what follows it.
 #[cycle(expression)]
 #[tactic(auto, unfolding(crate::specs::Reading::within))]
 fn operand_within(
     alloc: Global,
     tokens: &[Token],
-    place: u32,
+    offset: u32,
     limit: u32,
     level: u32,
 ) -> Result<(Box<Expr>, u32, &[Token]), ParseError>
     requires positive { 0 < limit }
     requires bounded { limit ≤ 64 }
     ensures gives { Gives (λ x. (expression_of x.0.value, x.2.now)) result
-        (within (limit - 1) place (expression_at (limit - 1) level tokens.now)) }
+        (within (limit - 1) offset (expression_at (limit - 1) level tokens.now)) }
     ensures depth { IfOk result (λ x. x.1 ≡ depth (expression_of x.0.value)) }
     ensures within { IfOk result (λ x. (0 < x.1) × (x.1 < limit)) }
 {
-    test_depth(limit - 1, place)?;
+    test_depth(limit - 1, offset)?;
     let (operand, depth, rest) = within(alloc, tokens, limit - 1, level)?;
     Ok((Box::new(alloc, operand)?, depth, rest))
 }
@@ -316,10 +316,10 @@ fn parens(alloc: Global, tokens: &[Token], limit: u32) -> Result<(Expr, u32, &[T
     ensures depth { IfOk result (λ x. x.1 ≡ depth (expression_of x.0)) }
     ensures within { IfOk result (λ x. (0 < x.1) × (x.1 ≤ limit)) }
 {
-    let place = first_place(tokens);
+    let offset = first_offset(tokens);
     let inside = after_symbol(tokens, Symbol::OpenParen)?;
-    let (inner, depth, rest) = operand_within(alloc, inside, place, limit, 0)?;
-    Ok(closed_parens(place, inner, depth, rest)?)
+    let (inner, depth, rest) = operand_within(alloc, inside, offset, limit, 0)?;
+    Ok(closed_parens(offset, inner, depth, rest)?)
 }
 
 /// An operand behind its operator.
@@ -338,13 +338,13 @@ fn prefixed(
     ensures depth { IfOk result (λ x. x.1 ≡ depth (expression_of x.0)) }
     ensures within { IfOk result (λ x. (0 < x.1) × (x.1 ≤ limit)) }
 {
-    let place = first_place(tokens);
+    let offset = first_offset(tokens);
     let behind = after_kind(tokens, kind_of_prefix(operator))?;
     let level = rank_of_prefix(operator);
-    let (operand, depth, rest) = operand_within(alloc, behind, place, limit, level)?;
+    let (operand, depth, rest) = operand_within(alloc, behind, offset, limit, level)?;
     let expression = Expr::Prefixed {
         operator,
-        place,
+        offset,
         operand,
     };
     Ok((expression, depth + 1, rest))
@@ -361,10 +361,10 @@ fn times(alloc: Global, tokens: &[Token], limit: u32) -> Result<(Expr, u32, &[To
     ensures depth { IfOk result (λ x. x.1 ≡ depth (expression_of x.0)) }
     ensures within { IfOk result (λ x. (0 < x.1) × (x.1 ≤ limit)) }
 {
-    let place = first_place(tokens);
+    let offset = first_offset(tokens);
     let inside = inside_times(tokens, limit)?;
-    let (value, depth, rest) = operand_within(alloc, inside, place, limit, 0)?;
-    Ok(counted_times(place, value, depth, rest)?)
+    let (value, depth, rest) = operand_within(alloc, inside, offset, limit, 0)?;
+    Ok(counted_times(offset, value, depth, rest)?)
 }
 
 /// Whether an operator before its operand comes first, and may stand at the level.
@@ -422,8 +422,8 @@ fn within(
     ensures within { IfOk result (λ x. (0 < x.1) × (x.1 ≤ limit)) }
 {
     let (mut left, mut depth, mut rest) = primary(alloc, tokens, limit, level)?;
-    while let Some((operator, place, after)) = next_operator(rest, level, &left) {
-        test_depth(limit - depth, place)?;
+    while let Some((operator, offset, after)) = next_operator(rest, level, &left) {
+        test_depth(limit - depth, offset)?;
         let right_level = rank_of_operator(operator) + 1;
         let (right, right_depth, next) = within(alloc, after, limit - 1, right_level)?;
         depth = depth.max(right_depth) + 1;

@@ -89,27 +89,27 @@ fn file(alloc: Global, tokens: &[Token]) -> Result<File, ParseError>
     Ok(File { models, root })
 }
 
-/// The refusal of the tokens of a text that ends at this place, by what stops their reading.
+/// The refusal of the tokens of a text that ends at this offset, by what stops their reading.
 fn refusal(obstacle: Obstacle, end: u32) -> Refusal
     ensures { result ≡ refusal_of (obstacle_of obstacle) end }
 {
     match obstacle {
-        Obstacle::Unexpected(place) => Refusal {
+        Obstacle::Unexpected(offset) => Refusal {
             number: RefusalNumber::E4,
-            place,
+            offset,
         },
-        Obstacle::TooDeep(place) => Refusal {
+        Obstacle::TooDeep(offset) => Refusal {
             number: RefusalNumber::E5,
-            place,
+            offset,
         },
         Obstacle::TooShort => Refusal {
             number: RefusalNumber::E4,
-            place: end,
+            offset: end,
         },
     }
 }
 
-/// The answer to the tokens of a text that ends at this place, by why they could not be read.
+/// The answer to the tokens of a text that ends at this offset, by why they could not be read.
 fn load_error(error: ParseError, end: u32) -> LoadError
     ensures { result ≡ answer_of error end }
 {
@@ -119,11 +119,11 @@ fn load_error(error: ParseError, end: u32) -> LoadError
     }
 }
 
-/// The file that the tokens spell. `end` is the place of the end of the text.
+/// The file that the tokens spell. `end` is the offset of the end of the text.
 ///
 /// # Errors
 ///
-/// - `Refused` with E4 or E5: the tokens are those of no file. The place is that of the first token with which the
+/// - `Refused` with E4 or E5: the tokens are those of no file. The offset is that of the first token with which the
 ///   tokens no longer begin a file within the limits on depth: E5 where they still begin one without these limits,
 ///   else E4. Where they end too early it is E4 at the end of the text.
 /// - `Memory`: no memory for the trees.

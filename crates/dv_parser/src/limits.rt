@@ -4,18 +4,18 @@ ghost use Rattle.std.specs.Prelude.{◌≡◌, ◌<◌, IfErr, OnOk};
 
 use crate::parse_error::Obstacle;
 
-/// Whether something may lie one level deeper where so many levels are left. The place is that of the token that is
+/// Whether something may lie one level deeper where so many levels are left. The offset is that of the token that is
 /// refused.
 ///
 /// # Errors
 ///
-/// `TooDeep` at the place, where no level is left.
-pub fn test_depth(left: u32, place: u32) -> Result<(), Obstacle>
+/// `TooDeep` at the offset, where no level is left.
+pub fn test_depth(left: u32, offset: u32) -> Result<(), Obstacle>
     ensures room { OnOk result (0 < left) }
-    ensures deep { IfErr result (λ o. (o ≡ Obstacle.TooDeep place) × (left ≡ 0)) }
+    ensures deep { IfErr result (λ o. (o ≡ Obstacle.TooDeep offset) × (left ≡ 0)) }
 {
     if left == 0 {
-        Err(Obstacle::TooDeep(place))
+        Err(Obstacle::TooDeep(offset))
     } else {
         Ok(())
     }

@@ -2,7 +2,7 @@
 
 use std::alloc::{AllocError, AllocFailed};
 
-/// What stops the reading of tokens. A place is that of the token at which it shows.
+/// What stops the reading of tokens. An offset is that of the token at which it shows.
 #[derive(Clone, Copy)]
 pub enum Obstacle {
     /// The token can't stand there.

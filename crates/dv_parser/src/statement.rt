@@ -4,14 +4,14 @@ ghost use Rattle.std.specs.Prelude.{◌≡◌, ◌-◌, ◌<◌, ◌≤◌, IfOk
 ghost use Rattle.dv_syntax.specs.Trees.{block_of, expression_of, Statements};
 ghost use Rattle.dv_syntax.specs.Grammar.{the_limits, command_word, change_word, change_preposition};
 ghost use Rattle.dv_parser.specs.Reading.{Gives, Reads, single_of, many_at, assign_at, command_at, send_at, change_at, if_at, for_at};
-ghost use Rattle.dv_parser.specs.Reading.{statement_at, block_at, after, place_at, name_at, expression_at, within, read_then};
+ghost use Rattle.dv_parser.specs.Reading.{statement_at, block_at, after, offset_at, name_at, expression_at, within, read_then};
 ghost use Rattle.dv_parser.specs.Reading.{begins_command, begins_change, joined, SingleIf, SingleIfElse, SingleFor};
 
 use crate::expression::expression;
 use crate::limits::test_depth;
 use crate::parse_error::{Obstacle, ParseError};
 use crate::token::{
-    after_keyword, after_symbol, begins_with_keyword, begins_with_symbol, first_place, name,
+    after_keyword, after_symbol, begins_with_keyword, begins_with_symbol, first_offset, name,
 };
 use dv_bag::Change;
 use dv_lex::{Keyword, Symbol, Token, TokenKind};
@@ -52,14 +52,14 @@ fn begins_with_command(tokens: &[Token], command: Command) -> bool
 fn command_statement(tokens: &[Token], command: Command) -> Result<(Stmt, &[Token]), Obstacle>
     ensures { Reads (λ x. (single_of x.0, x.1.now)) result (command_at command tokens.now) }
 {
-    let place = first_place(tokens);
+    let offset = first_offset(tokens);
     let rest = after_keyword(tokens, word_of_command(command))?;
     let (name, rest) = name(rest)?;
     let rest = after_symbol(rest, Symbol::Semicolon)?;
     Ok((
         Stmt::Command {
             command,
-            place,
+            offset,
             name,
         },
         rest,
@@ -71,12 +71,19 @@ fn command_statement(tokens: &[Token], command: Command) -> Result<(Stmt, &[Toke
 fn send(alloc: Global, tokens: &[Token]) -> Result<(Stmt, &[Token]), ParseError>
     ensures { Gives (λ x. (single_of x.0, x.1.now)) result (send_at the_limits tokens.now) }
 {
-    let place = first_place(tokens);
+    let offset = first_offset(tokens);
     let rest = after_keyword(tokens, Keyword::Send)?;
     let (port, rest) = name(rest)?;
     let (value, rest) = expression(alloc, rest)?;
     let rest = after_symbol(rest, Symbol::Semicolon)?;
-    Ok((Stmt::Send { place, port, value }, rest))
+    Ok((
+        Stmt::Send {
+            offset,
+            port,
+            value,
+        },
+        rest,
+    ))
 }
 
 /// The word of a change.
@@ -117,7 +124,7 @@ fn change_statement(
     ensures { Gives (λ x. (single_of x.0, x.1.now)) result
         (change_at the_limits change tokens.now) }
 {
-    let place = first_place(tokens);
+    let offset = first_offset(tokens);
     let rest = after_keyword(tokens, word_of_change(change))?;
     let (value, rest) = expression(alloc, rest)?;
     let rest = after_keyword(rest, preposition_of(change))?;
@@ -126,7 +133,7 @@ fn change_statement(
     Ok((
         Stmt::Change {
             change,
-            place,
+            offset,
             value,
             collection,
         },
@@ -144,23 +151,23 @@ fn condition_of_if(
     requires { 0 < limit }
     ensures gives { Gives (λ x. (expression_of x.0, x.1.now)) result
         (read_then (after (TokenKind.Keyword Keyword.If) tokens.now)
-        (λ behind. within (limit - 1) (place_at tokens.now)
+        (λ behind. within (limit - 1) (offset_at tokens.now)
         (expression_at the_limits.expression 0 behind))) }
     ensures room { IfOk result (λ x. 1 < limit) }
 {
-    let place = first_place(tokens);
+    let offset = first_offset(tokens);
     let rest = after_keyword(tokens, Keyword::If)?;
-    test_depth(limit - 1, place)?;
+    test_depth(limit - 1, offset)?;
     expression(alloc, rest)
 }
 
 /// An `if` without `else`.
 #[tactic(auto, using(crate::proofs::Rows::rows))]
-fn if_without_else(place: u32, condition: Expr, then_block: Block) -> Stmt
-    ensures { single_of result ≡ SingleIf place (expression_of condition) (block_of then_block) }
+fn if_without_else(offset: u32, condition: Expr, then_block: Block) -> Stmt
+    ensures { single_of result ≡ SingleIf offset (expression_of condition) (block_of then_block) }
 {
     Stmt::If {
-        place,
+        offset,
         condition,
         then_block,
     }
@@ -168,12 +175,12 @@ fn if_without_else(place: u32, condition: Expr, then_block: Block) -> Stmt
 
 /// An `if` with its `else`.
 #[tactic(auto, using(crate::proofs::Rows::rows))]
-fn if_with_else(place: u32, condition: Expr, then_block: Block, else_block: Block) -> Stmt
+fn if_with_else(offset: u32, condition: Expr, then_block: Block, else_block: Block) -> Stmt
     ensures { single_of result
-        ≡ SingleIfElse place (expression_of condition) (block_of then_block) (block_of else_block) }
+        ≡ SingleIfElse offset (expression_of condition) (block_of then_block) (block_of else_block) }
 {
     Stmt::IfElse {
-        place,
+        offset,
         condition,
         then_block,
         else_block,
@@ -211,14 +218,17 @@ fn if_statement(
     ensures { Gives (λ x. (single_of x.0, x.1.now)) result
         (if_at the_limits (block_at the_limits (limit - 1) loops) (limit - 1) tokens.now) }
 {
-    let place = first_place(tokens);
+    let offset = first_offset(tokens);
     let (condition, rest) = condition_of_if(alloc, tokens, limit)?;
     let (then_block, rest) = block(alloc, rest, limit - 1, loops)?;
     if begins_with_keyword(rest, Keyword::Else) {
         let (else_block, rest) = after_else(alloc, rest, limit - 1, loops)?;
-        Ok((if_with_else(place, condition, then_block, else_block), rest))
+        Ok((
+            if_with_else(offset, condition, then_block, else_block),
+            rest,
+        ))
     } else {
-        Ok((if_without_else(place, condition, then_block), rest))
+        Ok((if_without_else(offset, condition, then_block), rest))
     }
 }
 
@@ -229,16 +239,16 @@ fn head_of_for(tokens: &[Token], limit: u32, loops: u32) -> Result<(Name, Name, 
     ensures gives { Reads {Y = Name × (Name × List Token)} (λ x. (x.0, (x.1, x.2.now))) result
         (read_then (after (TokenKind.Keyword Keyword.For) tokens.now)
         (λ behind. read_then
-        (within (limit - 1) (place_at tokens.now)
-        (within loops (place_at tokens.now) (name_at behind)))
+        (within (limit - 1) (offset_at tokens.now)
+        (within loops (offset_at tokens.now) (name_at behind)))
         (λ v. read_then (after (TokenKind.Keyword Keyword.In) v.1)
         (λ word. read_then (name_at word) (λ bag. Ok (v.0, (bag.0, bag.1))))))) }
     ensures room { IfOk result (λ x. (1 < limit) × (0 < loops)) }
 {
-    let place = first_place(tokens);
+    let offset = first_offset(tokens);
     let rest = after_keyword(tokens, Keyword::For)?;
-    test_depth(limit - 1, place)?;
-    test_depth(loops, place)?;
+    test_depth(limit - 1, offset)?;
+    test_depth(loops, offset)?;
     let (variable, rest) = name(rest)?;
     let rest = after_keyword(rest, Keyword::In)?;
     let (bag, rest) = name(rest)?;
@@ -247,11 +257,11 @@ fn head_of_for(tokens: &[Token], limit: u32, loops: u32) -> Result<(Name, Name, 
 
 /// The `for` of a variable, a collection and a block.
 #[tactic(auto, using(crate::proofs::Rows::rows))]
-fn for_loop(place: u32, variable: Name, bag: Name, block: Block) -> Stmt
-    ensures { single_of result ≡ SingleFor place variable bag (block_of block) }
+fn for_loop(offset: u32, variable: Name, bag: Name, block: Block) -> Stmt
+    ensures { single_of result ≡ SingleFor offset variable bag (block_of block) }
 {
     Stmt::For {
-        place,
+        offset,
         variable,
         bag,
         block,
@@ -271,10 +281,10 @@ fn for_statement(
     ensures { Gives (λ x. (single_of x.0, x.1.now)) result
         (for_at (block_at the_limits (limit - 1)) (limit - 1) loops tokens.now) }
 {
-    let place = first_place(tokens);
+    let offset = first_offset(tokens);
     let (variable, bag, rest) = head_of_for(tokens, limit, loops)?;
     let (block, rest) = block(alloc, rest, limit - 1, loops - 1)?;
-    Ok((for_loop(place, variable, bag, block), rest))
+    Ok((for_loop(offset, variable, bag, block), rest))
 }
 
 /// A statement at the front.

@@ -3,7 +3,7 @@
 ghost use Rattle.std.specs.Prelude.{◌≡◌, true, false, IfErr, OnOk};
 ghost use Rattle.dv_syntax.specs.Grammar.{call_word};
 ghost use Rattle.dv_parser.specs.Reading.{Reads, obstacle_of, obstacle_at, same_kind, begins, begins_name, begins_truth};
-ghost use Rattle.dv_parser.specs.Reading.{begins_word_of, begins_call, after, place_at, name_at, truth_at, number_at, word_of_at};
+ghost use Rattle.dv_parser.specs.Reading.{begins_word_of, begins_call, after, offset_at, name_at, truth_at, number_at, word_of_at};
 ghost use Rattle.dv_parser.specs.Reading.{call_word_at, is_end};
 
 use crate::parse_error::Obstacle;
@@ -111,13 +111,13 @@ pub fn begins_with_call(tokens: &[Token]) -> bool
         || begins_with_word_of(tokens, BagCall::Front)
 }
 
-/// The place of the first token.
-#[tactic(auto, unfolding(crate::specs::Reading::place_at))]
-pub fn first_place(tokens: &[Token]) -> u32
-    ensures { result ≡ place_at tokens.now }
+/// The offset of the first token.
+#[tactic(auto, unfolding(crate::specs::Reading::offset_at))]
+pub fn first_offset(tokens: &[Token]) -> u32
+    ensures { result ≡ offset_at tokens.now }
 {
     match tokens {
-        [first, ..] => first.place,
+        [first, ..] => first.offset,
         [] => 0,
     }
 }
@@ -128,7 +128,7 @@ pub fn unexpected(tokens: &[Token]) -> Obstacle
     ensures { obstacle_of result ≡ obstacle_at tokens.now }
 {
     match tokens {
-        [first, ..] => Obstacle::Unexpected(first.place),
+        [first, ..] => Obstacle::Unexpected(first.offset),
         [] => Obstacle::TooShort,
     }
 }
@@ -191,13 +191,13 @@ pub fn name(tokens: &[Token]) -> Result<(Name, &[Token]), Obstacle>
         [
             Token {
                 kind: TokenKind::Name(number),
-                place,
+                offset,
             },
             rest @ ..,
         ] => Ok((
             Name {
                 number: *number,
-                place: *place,
+                offset: *offset,
             },
             rest,
         )),
@@ -214,13 +214,13 @@ pub fn number(tokens: &[Token]) -> Result<(Number, &[Token]), Obstacle>
         [
             Token {
                 kind: TokenKind::Number(value),
-                place,
+                offset,
             },
             rest @ ..,
         ] => Ok((
             Number {
                 value: *value,
-                place: *place,
+                offset: *offset,
             },
             rest,
         )),

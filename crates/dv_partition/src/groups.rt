@@ -74,9 +74,9 @@ impl Groups {
         ensures few { self.now.processes ≤ greatest_processes }
     {
         let owners = self.owners.as_slice();
-        let place = component as usize;
-        if place < owners.len() {
-            owners[place]
+        let list_paths = component as usize;
+        if list_paths < owners.len() {
+            owners[list_paths]
         } else {
             0
         }

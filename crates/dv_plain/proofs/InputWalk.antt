@@ -22,9 +22,9 @@ pub record InputLaws (limit ports : ℕ) (inputs : List Input) : Type 0 where
   pub between : (n m : ℕ) → n ≤ m → IfSome (next_from limit inputs (time_of limit n)) (λ t. m < rank limit t) →
       inputs_at limit ports inputs m ≡ replicate ports []
 
--- the place in the inputs at a rank: that of the first to which the run comes there or later
-abbrev pub IsPlace : ℕ → List Input → ℕ → ℕ → Type 0
-IsPlace limit inputs at place = place ≡ inputs_before limit inputs (time_of limit at)
+-- the index in the inputs at a rank: that of the first to which the run comes there or later
+abbrev pub IsIndex : ℕ → List Input → ℕ → ℕ → Type 0
+IsIndex limit inputs at index = index ≡ inputs_before limit inputs (time_of limit at)
 
 -- the time of a rank
 time_at-first : (limit : ℕ) → start_of 0 ≡ time_of limit 0
@@ -62,48 +62,48 @@ past : (limit k m : ℕ) (t : Option Time) → k < m → IfSome t (λ u. m ≤ r
 past limit k m None lt h = tt
 past limit k m (Some t) lt h = omega (arith, lt, h)
 
-pub place-start : (limit : ℕ) (inputs : List Input) (place : ℕ) → place ≡ inputs_before limit inputs (start_of 0) →
-    IsPlace limit inputs 0 place
-place-start limit inputs place e = e ∙ ap (inputs_before limit inputs) (time_at-first limit)
+pub index-start : (limit : ℕ) (inputs : List Input) (index : ℕ) → index ≡ inputs_before limit inputs (start_of 0) →
+    IsIndex limit inputs 0 index
+index-start limit inputs index e = e ∙ ap (inputs_before limit inputs) (time_at-first limit)
 
-pub place-after : (limit : ℕ) (inputs : List Input) (t : Time) (place : ℕ) → IsOfRun limit t →
-    place ≡ inputs_before limit inputs (succ limit t) → IsPlace limit inputs (suc (rank limit t)) place
-place-after limit inputs t place run e = e ∙ ap (inputs_before limit inputs) (time_at-next limit t run)
+pub index-after : (limit : ℕ) (inputs : List Input) (t : Time) (index : ℕ) → IsOfRun limit t →
+    index ≡ inputs_before limit inputs (succ limit t) → IsIndex limit inputs (suc (rank limit t)) index
+index-after limit inputs t index run e = e ∙ ap (inputs_before limit inputs) (time_at-next limit t run)
 
--- from an instant to the next the place moves on
-pub place-moves : (limit : ℕ) (inputs : List Input) (t : Time) → IsOfRun limit t →
+-- from an instant to the next the index moves on
+pub index-moves : (limit : ℕ) (inputs : List Input) (t : Time) → IsOfRun limit t →
     inputs_before limit inputs t ≤ inputs_before limit inputs (succ limit t)
-place-moves limit inputs t run =
+index-moves limit inputs t run =
     let n = rank limit t in
     let here = ap (inputs_before limit inputs) (time_of-rank limit t run) in
     let there = ap (inputs_before limit inputs) (time_at-next limit t run) in
     omega (arith, here, there, ranks_rise limit n (suc n) inputs (omega arith))
 
-module _ (limit ports : ℕ) (inputs : List Input) (at place : ℕ) (laws : InputLaws limit ports inputs)
-    (p : IsPlace limit inputs at place) where
-  -- the input at the place is the next to which the run comes
-  here : time_at inputs place ≡ next_from limit inputs (time_of limit at)
+module _ (limit ports : ℕ) (inputs : List Input) (at index : ℕ) (laws : InputLaws limit ports inputs)
+    (p : IsIndex limit inputs at index) where
+  -- the input at the index is the next to which the run comes
+  here : time_at inputs index ≡ next_from limit inputs (time_of limit at)
   here = ap (time_at inputs) p ∙ laws.next (time_of limit at)
 
-  coming : (m : ℕ) → IsFrom m (rank_if limit (time_at inputs place)) →
+  coming : (m : ℕ) → IsFrom m (rank_if limit (time_at inputs index)) →
       IfSome (next_from limit inputs (time_of limit at)) (λ t. m ≤ rank limit t)
   coming m from = from-some limit m _ (subst (λ (t : Option Time). IsFrom m (rank_if limit t)) here from)
 
   -- its time is one of the run
-  pub place-of_run : IsOfRunIf limit (time_at inputs place)
-  place-of_run = subst (IsOfRunIf limit) (sym here) (laws.of_run (time_of limit at))
+  pub index-of_run : IsOfRunIf limit (time_at inputs index)
+  index-of_run = subst (IsOfRunIf limit) (sym here) (laws.of_run (time_of limit at))
 
   -- and not before the rank
-  pub place-rises : IsFrom at (rank_if limit (time_at inputs place))
-  place-rises = subst (λ (t : Option Time). IsFrom at (rank_if limit t)) (sym here) (some-from limit at _ (laws.not_before at))
+  pub index-rises : IsFrom at (rank_if limit (time_at inputs index))
+  index-rises = subst (λ (t : Option Time). IsFrom at (rank_if limit t)) (sym here) (some-from limit at _ (laws.not_before at))
 
-  -- the place at a rank is that at the next instant, where no input comes before it
-  pub place-now : (t : Time) → IsOfRun limit t → at ≤ rank limit t → IsFrom (rank limit t) (rank_if limit (time_at inputs place)) →
-      place ≡ inputs_before limit inputs t
-  place-now t run le from =
+  -- the index at a rank is that at the next instant, where no input comes before it
+  pub index-now : (t : Time) → IsOfRun limit t → at ≤ rank limit t → IsFrom (rank limit t) (rank_if limit (time_at inputs index)) →
+      index ≡ inputs_before limit inputs t
+  index-now t run le from =
       p ∙ sym (laws.same at (rank limit t) le (coming (rank limit t) from)) ∙ ap (inputs_before limit inputs) (time_of-rank limit t run)
 
   -- from a rank on nothing comes in before the next input
-  pub none_between : (m k : ℕ) → IsFrom m (rank_if limit (time_at inputs place)) → at ≤ k → k < m →
+  pub none_between : (m k : ℕ) → IsFrom m (rank_if limit (time_at inputs index)) → at ≤ k → k < m →
       inputs_at limit ports inputs k ≡ replicate ports []
   none_between m k from le below = laws.between at k le (past limit k m _ below (coming m from))

@@ -18,7 +18,7 @@ use Rattle.dv_react.specs.declared.running.Running.{Running}
 use Rattle.dv_plain.specs.InputTimes.{IsOfRunIf, rank_if}
 use Rattle.dv_react.specs.Components.{component_of}
 use Rattle.dv_plain.specs.Source.{behaviour_of, network_of, outside, trace_of}
-use Rattle.dv_plain.proofs.InputWalk.{InputLaws, IsPlace, none_between, place-after, place-now, place-of_run, place-rises, place-start}
+use Rattle.dv_plain.proofs.InputWalk.{InputLaws, IsIndex, none_between, index-after, index-now, index-of_run, index-rises, index-start}
 use Rattle.dv_plain.proofs.Least.{IsFrom-first, IsFrom-second, earlier-from}
 
 -- the components and the trace of a text when every instant before a rank is over
@@ -28,14 +28,14 @@ components_to limit f inputs n = components_at limit (network_of limit f) (outsi
 abbrev pub trace_to : ℕ → FileTree → List Input → ℕ → PartOf
 trace_to limit f inputs n = trace_before limit (network_of limit f) (outside f limit inputs) n
 
--- Every instant before a rank is over: these are the components and the trace, and this is the place in the inputs.
-pub record Reached (limit : ℕ) (f : FileTree) (inputs : List Input) (horizon : ℕ) (rs : List Running) (t : PartOf) (place : ℕ) :
+-- Every instant before a rank is over: these are the components and the trace, and this is the index in the inputs.
+pub record Reached (limit : ℕ) (f : FileTree) (inputs : List Input) (horizon : ℕ) (rs : List Running) (t : PartOf) (index : ℕ) :
     Type 0 where
   pub at : ℕ
   pub within : at ≤ end_of limit horizon
   pub components : components_to limit f inputs at ≡ map (component_of limit) rs
   pub trace : trace_to limit f inputs at ≡ t
-  pub walked : IsPlace limit inputs at place
+  pub walked : IsIndex limit inputs at index
 
 -- What the laws of runs and of inputs say of a text's network: next times are to come, and up to the least of them and the next
 -- input all stays.
@@ -59,35 +59,35 @@ work-falls e m (Some k) h g = omega arith
 
 -- from the next instant to the end
 abbrev pub work : ℕ → List Input → ℕ → List Running → ℕ → ℕ
-work limit inputs horizon rs place = end_of limit horizon - unwrap_or
-    (earlier (least_next (map (component_of limit) rs)) (rank_if limit (time_at inputs place))) (end_of limit horizon)
+work limit inputs horizon rs index = end_of limit horizon - unwrap_or
+    (earlier (least_next (map (component_of limit) rs)) (rank_if limit (time_at inputs index))) (end_of limit horizon)
 
-pub reached-start : (limit : ℕ) (f : FileTree) (inputs : List Input) (horizon : ℕ) (rs : List Running) (place : ℕ) →
-    map (component_of limit) rs ≡ (network_of limit f).start → place ≡ inputs_before limit inputs (start_of 0) →
-    Reached limit f inputs horizon rs nothing place
-reached-start limit f inputs horizon rs place e first = record {
+pub reached-start : (limit : ℕ) (f : FileTree) (inputs : List Input) (horizon : ℕ) (rs : List Running) (index : ℕ) →
+    map (component_of limit) rs ≡ (network_of limit f).start → index ≡ inputs_before limit inputs (start_of 0) →
+    Reached limit f inputs horizon rs nothing index
+reached-start limit f inputs horizon rs index e first = record {
   at = 0;
   within = omega arith;
   components = sym e;
   trace = refl;
-  walked = place-start limit inputs place first;
+  walked = index-start limit inputs index first;
 }
 
 module _ (limit : ℕ) (f : FileTree) (inputs : List Input) (horizon : ℕ) (laws : Laws limit f inputs) where
   abbrev next_of : List Running → ℕ → Option ℕ
-  next_of rs place = earlier (least_next (map (component_of limit) rs)) (rank_if limit (time_at inputs place))
+  next_of rs index = earlier (least_next (map (component_of limit) rs)) (rank_if limit (time_at inputs index))
 
   -- the next instant is not past
-  next-rises : (rs : List Running) (t : PartOf) (place : ℕ) (r : Reached limit f inputs horizon rs t place) → IsFrom r.at (next_of rs place)
-  next-rises rs t place r =
-      earlier-from r.at (least_next (map (component_of limit) rs)) (rank_if limit (time_at inputs place))
+  next-rises : (rs : List Running) (t : PartOf) (index : ℕ) (r : Reached limit f inputs horizon rs t index) → IsFrom r.at (next_of rs index)
+  next-rises rs t index r =
+      earlier-from r.at (least_next (map (component_of limit) rs)) (rank_if limit (time_at inputs index))
       (subst (λ cs. IsFrom r.at (least_next cs)) r.components (laws.rises r.at))
-      (place-rises limit (length (root_inputs f)) inputs r.at place laws.coming r.walked)
+      (index-rises limit (length (root_inputs f)) inputs r.at index laws.coming r.walked)
 
-  module _ (rs : List Running) (t : PartOf) (place : ℕ) (r : Reached limit f inputs horizon rs t place) where
+  module _ (rs : List Running) (t : PartOf) (index : ℕ) (r : Reached limit f inputs horizon rs t index) where
     -- the next input to which the run comes is at a time of it
-    pub reached-coming : IsOfRunIf limit (time_at inputs place)
-    reached-coming = place-of_run limit (length (root_inputs f)) inputs r.at place laws.coming r.walked
+    pub reached-coming : IsOfRunIf limit (time_at inputs index)
+    reached-coming = index-of_run limit (length (root_inputs f)) inputs r.at index laws.coming r.walked
 
     -- a component for each of the text's
     pub reached-matched : length rs ≡ length (instances f)
@@ -95,18 +95,18 @@ module _ (limit : ℕ) (f : FileTree) (inputs : List Input) (horizon : ℕ) (law
         sym (length-map rs (component_of limit)) ∙ ap length (sym r.components) ∙ sym (laws.matched r.at) ∙ length-map (instances f)
         (λ (i : Instance). behaviour_of i.model)
 
-    module _ (m : ℕ) (from : IsFrom m (next_of rs place)) where
+    module _ (m : ℕ) (from : IsFrom m (next_of rs index)) where
       least-from : IsFrom m (least_next (components_to limit f inputs r.at))
       least-from =
           subst (λ cs. IsFrom m (least_next cs)) (sym r.components)
-          (IsFrom-first m (least_next (map (component_of limit) rs)) (rank_if limit (time_at inputs place)) from)
+          (IsFrom-first m (least_next (map (component_of limit) rs)) (rank_if limit (time_at inputs index)) from)
 
       -- before the next instant nothing comes in
       none-come : AllBringNothing (network_of limit f) (outside f limit inputs) r.at m
       none-come k low high =
           subst (BringsNothing (network_of limit f))
-          (sym (none_between limit (length (root_inputs f)) inputs r.at place laws.coming r.walked m k
-          (IsFrom-second m (least_next (map (component_of limit) rs)) (rank_if limit (time_at inputs place)) from) low high))
+          (sym (none_between limit (length (root_inputs f)) inputs r.at index laws.coming r.walked m k
+          (IsFrom-second m (least_next (map (component_of limit) rs)) (rank_if limit (time_at inputs index)) from) low high))
           laws.none
 
       -- and all stays
@@ -117,21 +117,21 @@ module _ (limit : ℕ) (f : FileTree) (inputs : List Input) (horizon : ℕ) (law
       rest-trace le = laws.trace r.at m le least-from none-come ∙ r.trace
 
     -- nothing happens before the end
-    pub reached-end : IsFrom (end_of limit horizon) (next_of rs place) → t ≡ trace_of f inputs horizon limit
+    pub reached-end : IsFrom (end_of limit horizon) (next_of rs index) → t ≡ trace_of f inputs horizon limit
     reached-end last = sym (rest-trace (end_of limit horizon) last r.within)
 
-    module _ (now : Time) (run : IsOfRun limit now) (least : Some (rank limit now) ≡ next_of rs place) where
+    module _ (now : Time) (run : IsOfRun limit now) (least : Some (rank limit now) ≡ next_of rs index) where
       not-past : r.at ≤ rank limit now
-      not-past = subst (IsFrom r.at) (sym least) (next-rises rs t place r)
+      not-past = subst (IsFrom r.at) (sym least) (next-rises rs t index r)
 
-      at-next : IsFrom (rank limit now) (next_of rs place)
+      at-next : IsFrom (rank limit now) (next_of rs index)
       at-next = subst (IsFrom (rank limit now)) least (omega arith)
 
-      -- the place in the inputs is that of the next instant
-      pub reached-place : place ≡ inputs_before limit inputs now
-      reached-place =
-          place-now limit (length (root_inputs f)) inputs r.at place laws.coming r.walked now run not-past
-          (IsFrom-second (rank limit now) (least_next (map (component_of limit) rs)) (rank_if limit (time_at inputs place)) at-next)
+      -- the index in the inputs is that of the next instant
+      pub reached-index : index ≡ inputs_before limit inputs now
+      reached-index =
+          index-now limit (length (root_inputs f)) inputs r.at index laws.coming r.walked now run not-past
+          (IsFrom-second (rank limit now) (least_next (map (component_of limit) rs)) (rank_if limit (time_at inputs index)) at-next)
 
       module _ (new : List Running) (more : PartOf) (after : ℕ) (within : rank limit now < end_of limit horizon)
           (change : map (component_of limit) new ≡ components_after limit (network_of limit f) (rank limit now)
@@ -162,10 +162,10 @@ module _ (limit : ℕ) (f : FileTree) (inputs : List Input) (horizon : ℕ) (law
           within = within;
           components = step-components;
           trace = step-trace;
-          walked = place-after limit inputs now after run past;
+          walked = index-after limit inputs now after run past;
         }
 
-        pub work-step : work limit inputs horizon new after < work limit inputs horizon rs place
+        pub work-step : work limit inputs horizon new after < work limit inputs horizon rs index
         unfolding reached-step
         work-step =
             let e = end_of limit horizon in

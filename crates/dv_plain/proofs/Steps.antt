@@ -130,7 +130,7 @@ reactions_from-step limit is now rs received k m r bags e h f g is-there =
     (behaviour-step is k m e) (component-step limit rs k r h f)
     (drop_more received k bags g ∙ ap (λ (b : List Counts). b ∷ drop (k + 1) received) (sym is-there))
 
--- lists that are the same from a place on are so at it
+-- lists that are the same from an index on are so at it
 pub same_at : {X : Type 0} (xs ys : List X) (k : ℕ) (d : X) → k < length xs → k < length ys → drop k xs ≡ drop k ys →
     get_or xs k d ≡ get_or ys k d
 same_at xs ys k d h g same =
@@ -147,7 +147,7 @@ same_behind xs ys k d h g same x =
     let behind : drop (k + 1) xs ≡ drop (k + 1) ys = cc in
     drop-set-lt (k + 1) xs k x (omega arith) ∙ behind
 
--- lists that are the same from a place on are so at it and behind it
+-- lists that are the same from an index on are so at it and behind it
 pub same_from_drop : (xs ys : List Running) (k : ℕ) (r : Running) → k < length xs → k < length ys → drop k xs ≡ drop k ys →
     r ≡ get_or xs k r → (r ≡ get_or ys k r) × (drop (k + 1) xs ≡ drop (k + 1) ys)
 same_from_drop xs ys k r h g same e =

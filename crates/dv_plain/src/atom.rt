@@ -20,7 +20,9 @@ use std::alloc::Global;
 /// An atomic model of a text, with what it declares.
 #[derive(Clone, Copy)]
 pub struct Atom<'m> {
+    /// The tree of the model.
     pub model: &'m AtomicModel,
+    /// What its names stand for.
     pub scope: &'m Scope,
     ghost of_model: { scope.now ≡ scope_of (atomic_of model.now) },
 }

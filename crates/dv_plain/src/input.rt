@@ -12,21 +12,21 @@ use dv_react::Instant;
 use dv_time::Next;
 use std::alloc::{AllocError, Global};
 
-/// When the input at a place comes in.
-pub fn next_input(inputs: &Inputs, place: usize) -> Next
+/// When the input at an index comes in.
+pub fn next_input(inputs: &Inputs, index: usize) -> Next
     ensures rank { (limit : ℕ)
-        → next_rank limit result ≡ rank_if limit (time_at inputs.now place) }
-    ensures of_run { (limit : ℕ) → IsOfRunIf limit (time_at inputs.now place)
+        → next_rank limit result ≡ rank_if limit (time_at inputs.now index) }
+    ensures of_run { (limit : ℕ) → IsOfRunIf limit (time_at inputs.now index)
         → IsNextOfRun limit result }
 {
-    match inputs.next_time(place) {
+    match inputs.next_time(index) {
         Some(time) => Next::At(time),
         None => Next::Never,
     }
 }
 
-/// What comes in at an instant, a bag for each of so many ports, and the place of the first input to which the run comes
-/// past it. The place that is given is that of the first to which it comes then or later.
+/// What comes in at an instant, a bag for each of so many ports, and the index of the first input to which the run comes
+/// past it. The index that is given is that of the first to which it comes then or later.
 ///
 /// # Errors
 ///
@@ -36,19 +36,19 @@ pub fn input_at(
     inputs: &Inputs,
     ports: usize,
     instant: &Instant,
-    place: usize,
+    index: usize,
 ) -> Result<(Bags, usize), AllocError>
     requires within { instant.now.time.tick ≤ greatest_tick }
     requires of_run { IsOfRun instant.now.limit instant.now.time }
-    requires place { place ≡ inputs_before instant.now.limit inputs.now instant.now.time }
+    requires index { index ≡ inputs_before instant.now.limit inputs.now instant.now.time }
     ensures bags { IfOk result (λ r.
         r.0 ≡ inputs_at instant.now.limit ports inputs.now (rank_of instant.now)) }
     ensures after { IfOk result (λ r.
         r.1 ≡ inputs_before instant.now.limit inputs.now
         (succ instant.now.limit instant.now.time)) }
 {
-    let bags = inputs.bags_at(alloc, ports, instant.time, place)?;
+    let bags = inputs.bags_at(alloc, ports, instant.time, index)?;
     let next = instant.time.succ(instant.limit);
-    let after = inputs.place_from(place, next, instant.limit);
+    let after = inputs.index_from(index, next, instant.limit);
     Ok((bags, after))
 }

@@ -23,7 +23,9 @@ use std::mem;
 /// What the output functions give at an instant, component by component: what is sent, and the faults.
 #[derive(Drop)]
 pub struct Outputs {
+    /// What each component sends; nothing where it does not emit, or has a fault.
     pub sent: Vec<Sent>,
+    /// The fault of each component's output function, if it has one.
     pub faults: Vec<Option<Fault>>,
 }
 
@@ -124,7 +126,7 @@ fn react(
     what_of(component, happened)
 }
 
-// A component without variables, as the place of what another one was.
+// A component without variables, as the index of what another one was.
 fn empty_component(alloc: Global) -> Running {
     Running {
         state: State {

@@ -17,7 +17,7 @@ use crate::atom::Atom;
 use crate::input::{input_at, next_input};
 use crate::laws::networks_of_texts;
 use crate::network::run_instant;
-use dv_bag::inputs::laws::{nothing_comes_in_between, places_follow_times};
+use dv_bag::inputs::laws::{indices_follow_times, nothing_comes_in_between};
 use dv_bag::{Bags, Inputs, Part, Trace};
 use dv_devs::laws::runs;
 use dv_eval::start_state;
@@ -52,23 +52,23 @@ pub fn resultant_run(
     runs::next_times_rise::<Bags>();
     runs::next_instant_is_the_least_next_time::<Bags>();
     // Nor does an input come in between, nor is one missed, since times never fall.
-    places_follow_times();
+    indices_follow_times();
     nothing_comes_in_between();
     let _ = inputs.as_slice();
     let mut components = begin(alloc, tree, limit)?;
     let mut trace = Part::new(alloc);
-    let mut place = inputs.place_from(0, Time::ZERO, limit);
-    'instants: while let Next::At(now) = next_instant(&components, inputs, place) {
+    let mut index = inputs.index_from(0, Time::ZERO, limit);
+    'instants: while let Next::At(now) = next_instant(&components, inputs, index) {
         if now.tick > horizon {
             break;
         }
         let instant = Instant { time: now, limit };
-        place = play(
+        index = play(
             alloc,
             tree,
             &instant,
             inputs,
-            place,
+            index,
             &mut components,
             &mut trace,
         )?;
@@ -76,13 +76,13 @@ pub fn resultant_run(
     Ok(trace)
 }
 
-// One instant, with what comes in then. It gives the place of the first input to which the run comes past it.
+// One instant, with what comes in then. It gives the index of the first input to which the run comes past it.
 fn play(
     alloc: Global,
     tree: &Tree,
     instant: &Instant,
     inputs: &Inputs,
-    place: usize,
+    index: usize,
     components: &mut [Running],
     trace: &mut Part,
 ) -> Result<usize, AllocError>
@@ -90,7 +90,7 @@ fn play(
     requires waits { AreWaitsOfRun instant.now.limit components.old }
     requires within { instant.now.time.tick ≤ greatest_tick }
     requires of_run { IsOfRun instant.now.limit instant.now.time }
-    requires place { place ≡ inputs_before instant.now.limit inputs.now instant.now.time }
+    requires index { index ≡ inputs_before instant.now.limit inputs.now instant.now.time }
     ensures components { IfOk result (λ after. components_of instant.now.limit components.new
         ≡ components_after instant.now.limit (network_of instant.now.limit (file_of tree.now.file))
         (rank_of instant.now)
@@ -107,7 +107,7 @@ fn play(
         (succ instant.now.limit instant.now.time)) }
 {
     let ports = tree.input_count();
-    let (input, after) = input_at(alloc, inputs, ports, instant, place)?;
+    let (input, after) = input_at(alloc, inputs, ports, instant, index)?;
     run_instant(alloc, tree, instant, &input, components, trace)?;
     Ok(after)
 }
@@ -137,17 +137,17 @@ fn start(alloc: Global, limit: u32, atom: &Atom) -> Result<Running, AllocError>
 }
 
 // The next instant at which anything may happen: the least of the components' next times and that of the input at a
-// place.
-fn next_instant(components: &[Running], inputs: &Inputs, place: usize) -> Next
+// index.
+fn next_instant(components: &[Running], inputs: &Inputs, index: usize) -> Next
     ensures least { (limit : ℕ) → AreWaitsOfRun limit components.now
-        → IsOfRunIf limit (time_at inputs.now place) → next_rank limit result
+        → IsOfRunIf limit (time_at inputs.now index) → next_rank limit result
         ≡ earlier (least_next (components_of limit components.now))
-        (rank_if limit (time_at inputs.now place)) }
+        (rank_if limit (time_at inputs.now index)) }
     ensures of_run { (limit : ℕ) → AreWaitsOfRun limit components.now
-        → IsOfRunIf limit (time_at inputs.now place) → IsNextOfRun limit result }
+        → IsOfRunIf limit (time_at inputs.now index) → IsNextOfRun limit result }
 {
     let next = next_time(components);
-    match next_input(inputs, place) {
+    match next_input(inputs, index) {
         Next::At(time) => Next::At(earlier(next, time)),
         Next::Never => next,
     }

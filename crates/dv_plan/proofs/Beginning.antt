@@ -20,7 +20,7 @@ got Q [] i d h lt = absurd (omega arith)
 got Q (x ∷ xs) zero d h lt = h.0
 got Q (x ∷ xs) (suc i) d h lt = got Q xs i d h.1 (omega (arith, lt))
 
--- what holds of all holds of the one at a place
+-- what holds of all holds of the one at an index
 pub holds_at : {X : Type 0} (Q : X → Type 0) (xs : List X) (i : ℕ) (x : X) → AllByRecursion Q xs
     → (i < length xs) × (x ≡ get_or xs i x) → Q x
 holds_at Q xs i x h at = subst Q (sym at.1) (got Q xs i x h at.0)
@@ -40,7 +40,7 @@ module _ {L W R : Type 0} (view settled : L → View) where
   begun_count (t ∷ ss) [] h = absurd h
   begun_count (t ∷ ss) (q ∷ ps) h = ap suc (begun_count ss ps h.1)
 
-  -- the process at a place is that of the share there
+  -- the process at an index is that of the share there
   pub record IsBegunAt (ss : List ShareAsMeant) (p : ℕ) (x : Process L W R) : Type 0 where
     pub share : ShareAsMeant
     pub there : slice_get ss p ≡ Some share
@@ -56,7 +56,7 @@ module _ {L W R : Type 0} (view settled : L → View) where
   begun_at (t ∷ ss) (q ∷ ps) (suc p) x h e =
       let rest = begun_at ss ps p x h.1 e in record { share = rest.share; there = rest.there; begun = rest.begun }
 
--- the item at a place of those that a function gives
+-- the item at an index of those that a function gives
 pub record IsGivenAt {X Y : Type 0} (f : X → Y) (xs : List X) (p : ℕ) (y : Y) : Type 0 where
   pub item : X
   pub there : slice_get xs p ≡ Some item

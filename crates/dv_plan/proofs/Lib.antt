@@ -26,7 +26,7 @@ pub mod Leading
 pub mod Responded
 -- The order of the links.
 pub mod Rising
--- Places among models.
+-- Indices among models.
 pub mod Placing
 -- The text of a plan.
 pub mod Texts

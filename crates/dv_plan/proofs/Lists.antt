@@ -4,7 +4,7 @@ use Rattle.std.proofs.Common.{List, [], ◌∷◌, length, map, filter, drop, ge
 use Rattle.std.specs.List.{All, AllByRecursion, Contains, list_any, slice_get}
 use Rattle.std.proofs.lemmas.List.{at_drop_more}
 use Rattle.dv_partition.specs.Steps.{with_key}
-use Rattle.dv_share.specs.Places.{RiseFrom}
+use Rattle.dv_share.specs.Indices.{RiseFrom}
 use Rattle.dv_share.specs.Share.{numbers_of}
 use Rattle.dv_share.specs.declared.tables.Member.{Member}
 

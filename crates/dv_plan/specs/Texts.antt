@@ -36,10 +36,10 @@ plan_links l = record {
 unfoldable pub quoted : List ℕ → List ℕ
 quoted text = compact_text (string text)
 
--- what stands before the value at a place of a list
+-- what stands before the value at an index of a list
 abbrev pub front : ℕ → List ℕ
 front zero = codes "["
-front (suc place) = codes ","
+front (suc index) = codes ","
 
 -- what stands behind so many values of a list
 abbrev pub back : ℕ → List ℕ
@@ -70,17 +70,17 @@ abbrev pub link_text : List ℕ → List ℕ → ℕ → List ℕ
 link_text from to copies =
     codes "{\"copies\":" ++ (decimal copies ++ (codes ",\"from\":" ++ (quoted from ++ (codes ",\"to\":" ++ (quoted to ++ codes "}")))))
 
--- links, the first of which stands at a place of their list, with its end
+-- links, the first of which stands at an index of their list, with its end
 abbrev pub links_text : PlanNames → Owner → Owner → ℕ → List Link → List ℕ
-links_text names source target place [] = back place
-links_text names source target place (l ∷ ls) =
-    front place
-    ++ (link_text (source_text names source l) (target_text names target l) l.copies ++ links_text names source target (suc place) ls)
+links_text names source target index [] = back index
+links_text names source target index (l ∷ ls) =
+    front index
+    ++ (link_text (source_text names source l) (target_text names target l) l.copies ++ links_text names source target (suc index) ls)
 
--- the paths of components, the first of which stands at a place of their list, with its end
+-- the paths of components, the first of which stands at an index of their list, with its end
 abbrev pub members_text : PlanNames → ℕ → List ℕ → List ℕ
-members_text names place [] = back place
-members_text names place (k ∷ ks) = front place ++ (quoted (names.path k) ++ members_text names (suc place) ks)
+members_text names index [] = back index
+members_text names index (k ∷ ks) = front index ++ (quoted (names.path k) ++ members_text names (suc index) ks)
 
 -- a response in ticks; where it is never, or unknown, `null`
 abbrev pub response_text : Option ℕ → List ℕ

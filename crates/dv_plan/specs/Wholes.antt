@@ -12,7 +12,7 @@ use Rattle.dv_conservative.specs.Responses.{least_response}
 use Rattle.dv_conservative.specs.World.{Job}
 use Rattle.dv_react.specs.Components.{IsWaitOfRun}
 use Rattle.dv_share.specs.Links.{RiseByPort, RiseBySource, links_of}
-use Rattle.dv_share.specs.Places.{AreRising}
+use Rattle.dv_share.specs.Indices.{AreRising}
 use Rattle.dv_share.specs.Share.{FitsAt, flat_by, numbers_of}
 use Rattle.dv_share.specs.declared.tables.Member.{Member}
 use Rattle.dv_share.specs.declared.tables.Tables.{Tables}

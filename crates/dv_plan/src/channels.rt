@@ -14,7 +14,9 @@ use std::alloc::{AllocError, Global};
 /// A link between processes that leads away from one: its number, and where it leads.
 #[derive(Clone, Copy, Debug, PartialEq, Eq)]
 pub struct Away {
+    /// The number of the link between processes.
     pub number: u32,
+    /// The number of the process to which it leads.
     pub target: u32,
 }
 
@@ -114,6 +116,6 @@ fn sends_to(source: u32, target: u32, processes: u32, pairs: &[Vec<Link>]) -> bo
     if source == target {
         return false;
     }
-    let place = (source * processes + target) as usize;
-    !pairs[place].as_slice().is_empty()
+    let index = (source * processes + target) as usize;
+    !pairs[index].as_slice().is_empty()
 }

@@ -122,9 +122,9 @@ impl<'g> Cut<'g> {
 }
 
 // One of several lists.
-fn list_at(lists: &[Vec<Link>], place: usize) -> &[Link]
-    requires { place < length lists.now }
-    ensures { result.now ≡ slice_index_or (map (λ list. list.items) lists.now) place [] }
+fn list_at(lists: &[Vec<Link>], index: usize) -> &[Link]
+    requires { index < length lists.now }
+    ensures { result.now ≡ slice_index_or (map (λ list. list.items) lists.now) index [] }
 {
-    &lists[place]
+    &lists[index]
 }

@@ -2,12 +2,12 @@
 
 ghost use Rattle.std.specs.Prelude.{◌≡◌, ◌&&◌, ◌||◌, ℕ, false, length, nat_eq, nat_le, nat_lt, slice_index_or, IfOk};
 ghost use Rattle.dv_share.specs.Links.{link_of, links_of};
-ghost use Rattle.dv_share.specs.Places.{AreRising};
+ghost use Rattle.dv_share.specs.Indices.{AreRising};
 ghost use Rattle.dv_share.specs.Share.{numbers_of};
 ghost use Rattle.dv_plan.specs.Steps.{is_led, is_port, leads, led_inputs};
 
 use dv_bag::{Input, Inputs};
-use dv_share::tables::place_of;
+use dv_share::tables::index_of;
 use dv_share::{Link, Member};
 use std::alloc::{AllocError, Global};
 
@@ -66,9 +66,9 @@ fn mark(port: u32, led: &mut Vec<bool>)
         ≡ ((nat_eq port p && nat_lt p (length led.old.items))
         || slice_index_or led.old.items p false) }
 {
-    let place = port as usize;
-    if place < led.len() {
-        led[place] = true;
+    let index = port as usize;
+    if index < led.len() {
+        led[index] = true;
     }
 }
 
@@ -84,8 +84,8 @@ fn is_to_come(input: Input, limit: u32, led: &[bool]) -> bool
 fn at(led: &[bool], port: u32) -> bool
     ensures { result ≡ slice_index_or led.now port false }
 {
-    let place = port as usize;
-    place < led.len() && led[place]
+    let index = port as usize;
+    index < led.len() && led[index]
 }
 
 // Whether a link brings something to one of the components.
@@ -101,8 +101,8 @@ fn is_port(members: &[Member], component: u32, port: u32) -> bool
     requires { AreRising (numbers_of members.now) }
     ensures { result ≡ is_port members.now component port }
 {
-    match place_of(members, component) {
-        Some(place) => port < members[place].inputs,
+    match index_of(members, component) {
+        Some(index) => port < members[index].inputs,
         None => false,
     }
 }

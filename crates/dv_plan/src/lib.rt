@@ -1,6 +1,13 @@
-//! From a flat model to the processes of its run. `Whole` is what is planned; `Plan::new` cuts it, so that each process has its
-//! share and the links between processes are numbered; and the processes of a plan stand as a world, which takes steps. What is
-//! planned keeps that the shares together are the job of the whole model.
+//! From a flat model to the processes of its run.
+//!
+//! `Whole` is what is planned: components, their models and responses, and links. `Plan::new` cuts it by groups, with
+//! the inputs, so that each process has its share and the links between processes are numbered. It is proved that
+//! each share runs as that of the job of the whole model. The processes of a plan stand as a world, which takes
+//! rounds, or any list of steps (`step_plan`), after which each process has committed its part of the whole run
+//! before its clock. `plan_json` prints a plan as text.
+//!
+//! `dv_run` plans the text of a model, and `dv_stream` runs plans in rounds and by workers. A plan knows no
+//! rules, paths or programs: the code of components is of any type that implements `Atomic`.
 #![tactic(auto)]
 
 /// A world of the one process of a plan, with the record that it tells what happens.

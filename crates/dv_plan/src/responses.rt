@@ -50,10 +50,10 @@ fn lower(process: u32, response: Response, responses: &mut Vec<Response>)
         (earlier (slice_index_or (map ticks_of responses.old.items) process None)
         (ticks_of response)) }
 {
-    let place = process as usize;
-    if place < responses.len() {
-        let least = sooner(responses[place], response);
-        responses[place] = least;
+    let index = process as usize;
+    if index < responses.len() {
+        let least = sooner(responses[index], response);
+        responses[index] = least;
     }
 }
 

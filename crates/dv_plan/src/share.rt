@@ -3,7 +3,7 @@
 ghost use Rattle.std.specs.Prelude.{◌≡◌, ◌<◌, ◌≤◌, ◌^◌, IfOk, List, length, map};
 ghost use Rattle.std.specs.List.{AllByRecursion};
 ghost use Rattle.dv_share.specs.Links.{RiseBySource, links_of};
-ghost use Rattle.dv_share.specs.Places.{AreRising};
+ghost use Rattle.dv_share.specs.Indices.{AreRising};
 ghost use Rattle.dv_share.specs.Share.{numbers_of};
 ghost use Rattle.dv_share.specs.declared.tables.Member.{Member as MemberOfCode};
 ghost use Rattle.dv_local.specs.Shares.{outgoing_of};
@@ -24,13 +24,21 @@ use std::alloc::{AllocError, Global};
 /// between processes, the response of each process, and all that comes from outside.
 #[derive(Clone, Copy)]
 pub struct Common<'a> {
+    /// The greatest microstep of a tick.
     pub limit: u32,
+    /// The last tick of the run.
     pub horizon: u64,
+    /// How many input ports the outside has.
     pub ports: u32,
+    /// How many output ports the outside has.
     pub outputs: u32,
+    /// The links of the model, cut to processes.
     pub cut: &'a Cut<'a>,
+    /// The links between processes, by their numbers.
     pub links: &'a [Channel],
+    /// The response of each process, by its number.
     pub responses: &'a [Response],
+    /// All that comes from outside, by time.
     pub inputs: &'a Inputs,
 }
 
@@ -84,8 +92,8 @@ fn share_of_process<A: Drop>(
     requires rise { AreRising (numbers_of members.items) }
     ensures { IfOk result (λ s. IsMadeOf common.now process members.items models.items s) }
 {
-    let place = process as usize;
-    let entrances = common.cut.entrances(place);
+    let index = process as usize;
+    let entrances = common.cut.entrances(index);
     let inputs = led_inputs(
         alloc,
         common.limit,
@@ -98,15 +106,15 @@ fn share_of_process<A: Drop>(
         limit: common.limit,
         members,
         models,
-        links: routes(alloc, common.cut.between(place, place))?,
+        links: routes(alloc, common.cut.between(index, index))?,
         entrances: Entrances::new(copies(alloc, entrances)?),
-        exits: routes(alloc, common.cut.exits(place))?,
+        exits: routes(alloc, common.cut.exits(index))?,
         outputs: common.outputs,
     };
     Ok(Share {
         tables,
         horizon: common.horizon,
-        response: common.responses[place],
+        response: common.responses[index],
         sources: incoming(alloc, common.links, process)?,
         ways: ways(
             alloc,
@@ -141,9 +149,9 @@ fn links_to<'c>(cut: &'c Cut<'_>, source: u32, target: u32) -> &'c [Link]
     requires { source < cut.now.grouping.processes }
     ensures { links_of result.now ≡ between cut.now source target }
 {
-    let place = target as usize;
-    if place < cut.groups().processes() {
-        cut.between(source as usize, place)
+    let index = target as usize;
+    if index < cut.groups().processes() {
+        cut.between(source as usize, index)
     } else {
         &[]
     }

@@ -100,11 +100,11 @@ pub fn plan_json<N: Names>(
     Ok(text)
 }
 
-// What stands before the value at a place of a list: its bracket or a comma.
-fn push_front(text: &mut String, place: usize) -> Result<(), AllocError>
-    ensures { OnOk result (string_bytes text.new ≡ string_bytes text.old ++ front place) }
+// What stands before the value at an index of a list: its bracket or a comma.
+fn push_front(text: &mut String, index: usize) -> Result<(), AllocError>
+    ensures { OnOk result (string_bytes text.new ≡ string_bytes text.old ++ front index) }
 {
-    text.push_str(if place == 0 { "[" } else { "," })
+    text.push_str(if index == 0 { "[" } else { "," })
 }
 
 // Ends a list of so many values.
@@ -166,8 +166,8 @@ fn push_links<N: Names>(
     ensures { OnOk result (string_bytes text.new ≡ string_bytes text.old
         ++ links_text (N.names names.now) source target 0 (links_of links.now)) }
 {
-    for (place, link) in links.iter().enumerate() {
-        push_front(text, place)?;
+    for (index, link) in links.iter().enumerate() {
+        push_front(text, index)?;
         let from = source_text(alloc, names, source, link)?;
         let to = target_text(alloc, names, target, link)?;
         push_link(alloc, text, from.as_str(), to.as_str(), link.copies)?;
@@ -246,8 +246,8 @@ fn push_members<N: Names>(
     ensures { OnOk result (string_bytes text.new ≡ string_bytes text.old
         ++ members_text (N.names names.now) 0 members.now) }
 {
-    for (place, member) in members.iter().enumerate() {
-        push_front(text, place)?;
+    for (index, member) in members.iter().enumerate() {
+        push_front(text, index)?;
         push_path(alloc, text, names, *member)?;
     }
     push_back(text, members.len())

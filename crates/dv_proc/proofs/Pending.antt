@@ -42,10 +42,10 @@ module _ (limit : ℕ) (stream : ℕ → List Delivery) where
   silent_between from mid upto le h = elim (cases_lt from mid) [
     | inl before ↦
         let count : upto - from ≡ (mid - from) + (upto - mid) = omega arith in
-        let place : from + (mid - from) ≡ mid = omega arith in
+        let index : from + (mid - from) ≡ mid = omega arith in
         ap (events_from limit stream from) count
         ∙ from_parts from (mid - from) (upto - mid)
-        ∙ ap (λ (n : ℕ). events_from limit stream from (mid - from) ++ events_from limit stream n (upto - mid)) place
+        ∙ ap (λ (n : ℕ). events_from limit stream from (mid - from) ++ events_from limit stream n (upto - mid)) index
         ∙ ap (λ (es : List Event). events_from limit stream from (mid - from) ++ es)
         (silent_from mid (upto - mid) (λ n low less. h n low (omega arith)))
         ∙ append-nil (events_from limit stream from (mid - from))
@@ -58,8 +58,8 @@ module _ (limit : ℕ) (stream : ℕ → List Delivery) where
   pub one_more : (from n : ℕ) → from ≤ n → events_between limit stream from (suc n) ≡ events_between limit stream from n ++ at_rank n
   one_more from n le =
       let count : suc n - from ≡ (n - from) + 1 = omega arith in
-      let place : from + (n - from) ≡ n = omega arith in
+      let index : from + (n - from) ≡ n = omega arith in
       ap (events_from limit stream from) count
       ∙ from_parts from (n - from) 1
-      ∙ ap (λ (m : ℕ). events_from limit stream from (n - from) ++ events_from limit stream m 1) place
+      ∙ ap (λ (m : ℕ). events_from limit stream from (n - from) ++ events_from limit stream m 1) index
       ∙ ap (λ (es : List Event). events_from limit stream from (n - from) ++ es) (append-nil (at_rank n))

@@ -18,7 +18,7 @@ use Rattle.dv_conservative.specs.Links.{Delivery, delivered}
 use Rattle.dv_conservative.specs.Process.{Packet, Share, all_events, channel_clock, clock_after, events_by, events_in, least_of}
 use Rattle.dv_conservative.specs.Process.{with_packet}
 use Rattle.dv_conservative.specs.Sound.{AllNumbers, AllReceivedNumbers}
-use Rattle.dv_proc.specs.Arriving.{AreApart, AreClocked, IsClocked, IsPlace, incoming_numbers, least_among, received_by}
+use Rattle.dv_proc.specs.Arriving.{AreApart, AreClocked, IsClocked, IsIndex, incoming_numbers, least_among, received_by}
 use Rattle.dv_proc.specs.Local.{DeliverAlike}
 use Rattle.dv_proc.specs.Packets.{meant_events}
 use Rattle.dv_proc.specs.declared.packet.Event.{Event as EventOfCode}
@@ -29,38 +29,38 @@ use Rattle.dv_proc.specs.declared.incoming.Incoming.{Incoming}
 pub eq_sym : (a b : ℕ) → nat_eq a b ≡ nat_eq b a
 eq_sym a b = grind (arith, nat_tests)
 
--- what is received on the links at their places
+-- what is received on the links at their indices
 abbrev meant : Incoming → List Packet
 meant i = i.received.packets
 
-pub received_here : (n place : ℕ) (is : List Incoming) (x : Incoming) → IsPlace n place is → x ≡ get_or is place x
+pub received_here : (n index : ℕ) (is : List Incoming) (x : Incoming) → IsIndex n index is → x ≡ get_or is index x
     → received_by is n ≡ meant x
-received_here n place [] x h e = absurd h
+received_here n index [] x h e = absurd h
 received_here n zero (i ∷ is) x h e = rw h (ap meant (sym e))
-received_here n (suc place) (i ∷ is) x h e = rw h.0 (received_here n place is x h.1 e)
+received_here n (suc index) (i ∷ is) x h e = rw h.0 (received_here n index is x h.1 e)
 
-pub clocked_here : (limit n place : ℕ) (is : List Incoming) (x : Incoming) → AreClocked limit is → IsPlace n place is
-    → x ≡ get_or is place x → IsClocked limit x
-clocked_here limit n place [] x c h e = absurd h
+pub clocked_here : (limit n index : ℕ) (is : List Incoming) (x : Incoming) → AreClocked limit is → IsIndex n index is
+    → x ≡ get_or is index x → IsClocked limit x
+clocked_here limit n index [] x c h e = absurd h
 clocked_here limit n zero (i ∷ is) x c h e = subst (IsClocked limit) (sym e) c.0
-clocked_here limit n (suc place) (i ∷ is) x c h e = clocked_here limit n place is x c.1 h.1 e
+clocked_here limit n (suc index) (i ∷ is) x c h e = clocked_here limit n index is x c.1 h.1 e
 
--- a link with another at its place
+-- a link with another at its index
 module _ (n : ℕ) (x y : Incoming) (p : Packet) (number : y.number ≡ x.number) (more : meant y ≡ meant x ++ p ∷ []) (link : p.link ≡ n) where
-  number_here : (place : ℕ) (is : List Incoming) → IsPlace n place is → x ≡ get_or is place x → x.number ≡ n
-  number_here place [] h e = absurd h
+  number_here : (index : ℕ) (is : List Incoming) → IsIndex n index is → x ≡ get_or is index x → x.number ≡ n
+  number_here index [] h e = absurd h
   number_here zero (i ∷ is) h e = ap (λ (j : Incoming). j.number) e ∙ sym (same_number n i.number h)
-  number_here (suc place) (i ∷ is) h e = number_here place is h.1 e
+  number_here (suc index) (i ∷ is) h e = number_here index is h.1 e
 
-  pub numbers_stay : (place : ℕ) (is : List Incoming) → IsPlace n place is → x ≡ get_or is place x
-      → incoming_numbers (slice_set is place y) ≡ incoming_numbers is
-  numbers_stay place [] h e = absurd h
+  pub numbers_stay : (index : ℕ) (is : List Incoming) → IsIndex n index is → x ≡ get_or is index x
+      → incoming_numbers (slice_set is index y) ≡ incoming_numbers is
+  numbers_stay index [] h e = absurd h
   numbers_stay zero (i ∷ is) h e = ap (λ (m : ℕ). m ∷ incoming_numbers is) (number ∙ ap (λ (j : Incoming). j.number) e)
-  numbers_stay (suc place) (i ∷ is) h e = ap (λ (ms : List ℕ). i.number ∷ ms) (numbers_stay place is h.1 e)
+  numbers_stay (suc index) (i ∷ is) h e = ap (λ (ms : List ℕ). i.number ∷ ms) (numbers_stay index is h.1 e)
 
-  pub received_with : (place : ℕ) (is : List Incoming) → IsPlace n place is → x ≡ get_or is place x → (l : ℕ) →
-      received_by (slice_set is place y) l ≡ with_packet (received_by is) p l
-  received_with place [] h e l = absurd h
+  pub received_with : (index : ℕ) (is : List Incoming) → IsIndex n index is → x ≡ get_or is index x → (l : ℕ) →
+      received_by (slice_set is index y) l ≡ with_packet (received_by is) p l
+  received_with index [] h e l = absurd h
   received_with zero (i ∷ is) h e l =
       let same : i.number ≡ n = sym (same_number n i.number h) in
       let other : y.number ≡ n = number ∙ number_here zero (i ∷ is) h e in
@@ -73,10 +73,10 @@ module _ (n : ℕ) (x y : Incoming) (p : Packet) (number : y.number ≡ x.number
           (cond t (meant i) (received_by is l))
       by_test true = more ∙ ap (λ (j : Incoming). meant j ++ p ∷ []) e
       by_test false = refl
-  received_with (suc place) (i ∷ is) h e l = by_test (received_with place is h.1 e l) (nat_eq l i.number) refl
+  received_with (suc index) (i ∷ is) h e l = by_test (received_with index is h.1 e l) (nat_eq l i.number) refl
     where
-      by_test : received_by (slice_set is place y) l ≡ with_packet (received_by is) p l → (t : Bool) → nat_eq l i.number ≡ t →
-          cond t (meant i) (received_by (slice_set is place y) l)
+      by_test : received_by (slice_set is index y) l ≡ with_packet (received_by is) p l → (t : Bool) → nat_eq l i.number ≡ t →
+          cond t (meant i) (received_by (slice_set is index y) l)
           ≡ cond (nat_eq l p.link) (cond t (meant i) (received_by is l) ++ p ∷ []) (cond t (meant i) (received_by is l))
       by_test rest true s =
           let here : l ≡ i.number = same_number l i.number s in
@@ -84,11 +84,11 @@ module _ (n : ℕ) (x y : Incoming) (p : Packet) (number : y.number ≡ x.number
           rw away refl
       by_test rest false s = rest
 
-  pub clocked_with : (limit place : ℕ) (is : List Incoming) → AreClocked limit is → IsClocked limit y
-      → AreClocked limit (slice_set is place y)
-  clocked_with limit place [] c k = tt
+  pub clocked_with : (limit index : ℕ) (is : List Incoming) → AreClocked limit is → IsClocked limit y
+      → AreClocked limit (slice_set is index y)
+  clocked_with limit index [] c k = tt
   clocked_with limit zero (i ∷ is) c k = (k, c.1)
-  clocked_with limit (suc place) (i ∷ is) c k = (c.0, clocked_with limit place is c.1 k)
+  clocked_with limit (suc index) (i ∷ is) c k = (c.0, clocked_with limit index is c.1 k)
 
 pub clock_last : (start : Time) (ps : List Packet) (p : Packet) → clock_after start (ps ++ p ∷ []) ≡ p.upto
 clock_last start [] p = refl
@@ -246,7 +246,7 @@ one_more_number es i d lt all here =
     subst (λ (n : ℕ). AllNumbers (meant_events (take n es))) next (more_numbers es i d lt all here)
 
 -- a link of a number there is
-pub any_here : (n place : ℕ) (is : List Incoming) → IsPlace n place is → list_any (nat_eq n) (incoming_numbers is) ≡ true
-any_here n place [] h = absurd h
+pub any_here : (n index : ℕ) (is : List Incoming) → IsIndex n index is → list_any (nat_eq n) (incoming_numbers is) ≡ true
+any_here n index [] h = absurd h
 any_here n zero (i ∷ is) h = rw h refl
-any_here n (suc place) (i ∷ is) h = rw h.0 (any_here n place is h.1)
+any_here n (suc index) (i ∷ is) h = rw h.0 (any_here n index is h.1)

@@ -22,7 +22,7 @@ use Rattle.dv_conservative.specs.Sound.{AllNumbers, AllReceivedNumbers}
 use Rattle.dv_proc.proofs.Received.{any_here, clock_last, clocked_here, clocked_with, least_rises}
 use Rattle.dv_proc.proofs.Received.{numbers_stay, numbers_with, received_here, received_with}
 use Rattle.dv_proc.proofs.Runs.{run_received}
-use Rattle.dv_proc.specs.Arriving.{AreApart, IsClocked, IsPlace, incoming_numbers, received_by}
+use Rattle.dv_proc.specs.Arriving.{AreApart, IsClocked, IsIndex, incoming_numbers, received_by}
 use Rattle.dv_proc.specs.Leaving.{ArePending}
 use Rattle.dv_proc.specs.Local.{IsAfterEvents, IsLocalRun, View, are_for_ports}
 use Rattle.dv_proc.specs.Standing.{IsAccepted, IsProcess, IsStanding}
@@ -56,13 +56,13 @@ pending_stays s events also upto (out ∷ outs) (o ∷ os) same h = (
   pending_stays s events also upto outs os same h.1,
 )
 
-module _ (s : Share) (is : List Incoming) (os : List Outgoing) (clock : Time) (standing : IsStanding s is os clock) (place : ℕ)
-    (x y : Incoming) (p : Packet) (at : IsPlace p.link place is) (item : x ≡ get_or is place x) (number : y.number ≡ x.number)
+module _ (s : Share) (is : List Incoming) (os : List Outgoing) (clock : Time) (standing : IsStanding s is os clock) (index : ℕ)
+    (x y : Incoming) (p : Packet) (at : IsIndex p.link index is) (item : x ≡ get_or is index x) (number : y.number ≡ x.number)
     (more : y.received.packets ≡ x.received.packets ++ p ∷ []) (ends : y.clock ≡ p.upto)
     (of_run : IsOfRun s.limit p.upto)
     (fine : refusal_of s (received_by is) p ≡ None) (some : AllNumbers p.events) where
-  pub received_now : received_by (slice_set is place y) ≡ with_packet (received_by is) p
-  received_now = fun_ext (λ l. received_with p.link x y p number more refl place is at item l)
+  pub received_now : received_by (slice_set is index y) ≡ with_packet (received_by is) p
+  received_now = fun_ext (λ l. received_with p.link x y p number more refl index is at item l)
 
   rises : rank s.limit (channel_clock (received_by is p.link)) ≤ rank s.limit p.upto
   rises =
@@ -76,16 +76,16 @@ module _ (s : Share) (is : List Incoming) (os : List Outgoing) (clock : Time) (s
     subst (IsOfRun s.limit) (sym ends) of_run,
   )
 
-  stay : incoming_numbers (slice_set is place y) ≡ incoming_numbers is
-  stay = numbers_stay p.link x y p number more refl place is at item
+  stay : incoming_numbers (slice_set is index y) ≡ incoming_numbers is
+  stay = numbers_stay p.link x y p number more refl index is at item
 
-  pub standing_with : IsStanding s (slice_set is place y) os clock
+  pub standing_with : IsStanding s (slice_set is index y) os clock
   standing_with =
       record {
         sound = standing.sound;
         linked = standing.linked ∙ sym stay;
         apart = subst AreApart (sym stay) standing.apart;
-        clocked = clocked_with p.link x y p number more refl s.limit place is standing.clocked clocked_y;
+        clocked = clocked_with p.link x y p number more refl s.limit index is standing.clocked clocked_y;
         numbers = subst (λ (r : ℕ → List Packet). AllReceivedNumbers r s.incoming) (sym received_now)
             (numbers_with s.limit (received_by is) p s.incoming standing.numbers some);
         within = standing.within;
@@ -100,18 +100,18 @@ module _ (s : Share) (is : List Incoming) (os : List Outgoing) (clock : Time) (s
             standing.pending);
       }
 
-module _ (v w : View) (is : List Incoming) (os : List Outgoing) (clock : Time) (process : IsProcess v is os clock) (place : ℕ)
-    (x y : Incoming) (p : Packet) (at : IsPlace p.link place is) (item : x ≡ get_or is place x) (number : y.number ≡ x.number)
+module _ (v w : View) (is : List Incoming) (os : List Outgoing) (clock : Time) (process : IsProcess v is os clock) (index : ℕ)
+    (x y : Incoming) (p : Packet) (at : IsIndex p.link index is) (item : x ≡ get_or is index x) (number : y.number ≡ x.number)
     (more : y.received.packets ≡ x.received.packets ++ p ∷ []) (ends : y.clock ≡ p.upto)
     (of_run : IsOfRun v.share.limit p.upto)
     (fine : refusal_of v.share (received_by is) p ≡ None) (some : AllNumbers p.events) (kept : IsAfterEvents p.events v w) where
-  pub process_with : IsProcess w (slice_set is place y) os clock
+  pub process_with : IsProcess w (slice_set is index y) os clock
   process_with = record {
-    standing = subst (λ (s : Share). IsStanding s (slice_set is place y) os clock) (sym kept.share)
-        (standing_with v.share is os clock process.standing place x y p at item number more ends of_run fine some);
-    run = subst (λ (s : Share). IsLocalRun w (events_by (received_by (slice_set is place y))) (rank s.limit clock)) (sym kept.share)
+    standing = subst (λ (s : Share). IsStanding s (slice_set is index y) os clock) (sym kept.share)
+        (standing_with v.share is os clock process.standing index x y p at item number more ends of_run fine some);
+    run = subst (λ (s : Share). IsLocalRun w (events_by (received_by (slice_set is index y))) (rank s.limit clock)) (sym kept.share)
         (subst (λ (r : ℕ → List Packet). IsLocalRun w (events_by r) (rank v.share.limit clock))
-        (sym (received_now v.share is os clock process.standing place x y p at item number more ends of_run fine some))
+        (sym (received_now v.share is os clock process.standing index x y p at item number more ends of_run fine some))
         (run_received v w (received_by is) p (rank v.share.limit clock) process.run fine process.standing.heard
         (subst AreApart (sym process.standing.linked) process.standing.apart) (there v.share (received_by is) p fine) kept));
   }
@@ -123,15 +123,15 @@ module _ (s : Share) (is : List Incoming) (os : List Outgoing) (clock : Time) (s
       let none : list_any (nat_eq p.link) s.incoming ≡ false = ap (list_any (nat_eq p.link)) standing.linked ∙ h in
       rw none refl
 
-  module _ (place : ℕ) (x : Incoming) (at : IsPlace p.link place is) (item : x ≡ get_or is place x) where
+  module _ (index : ℕ) (x : Incoming) (at : IsIndex p.link index is) (item : x ≡ get_or is index x) where
     linked_here : list_any (nat_eq p.link) s.incoming ≡ true
-    linked_here = ap (list_any (nat_eq p.link)) standing.linked ∙ any_here p.link place is at
+    linked_here = ap (list_any (nat_eq p.link)) standing.linked ∙ any_here p.link index is at
 
     here : IsClocked s.limit x
-    here = clocked_here s.limit p.link place is x standing.clocked at item
+    here = clocked_here s.limit p.link index is x standing.clocked at item
 
     pub clock_here : x.clock ≡ channel_clock (received_by is p.link)
-    clock_here = here.0 ∙ ap channel_clock (sym (received_here p.link place is x at item))
+    clock_here = here.0 ∙ ap channel_clock (sym (received_here p.link index is x at item))
 
     pub other_window : same_time p.from x.clock ≡ false → refusal_of s (received_by is) p ≡ Some P2
     other_window h =
@@ -171,21 +171,21 @@ all_for_ports s p (e ∷ es) h =
 
 -- the tests as the code makes them
 module _ (s : Share) (is xs : List Incoming) (os : List Outgoing) (clock : Time) (standing : IsStanding s is os clock) (p : Packet)
-    (place : ℕ) (x : Incoming) (same : xs ≡ is) (found : (place < length xs) × IsPlace p.link place xs) (item : x ≡ get_or is place x)
+    (index : ℕ) (x : Incoming) (same : xs ≡ is) (found : (index < length xs) × IsIndex p.link index xs) (item : x ≡ get_or is index x)
     (limit horizon : ℕ) (le : limit ≡ s.limit) (he : horizon ≡ s.horizon)
     (t : Bool) (te : t ≡ same_time p.from x.clock) where
-  at : IsPlace p.link place is
-  at = subst (IsPlace p.link place) same found.1
+  at : IsIndex p.link index is
+  at = subst (IsIndex p.link index) same found.1
 
   pub found_other : t ≡ false → (refusal_of s (received_by is) p ≡ Some P2) × Unit {0}
-  found_other h = (other_window s is os clock standing p place x at item (sym te ∙ h), tt)
+  found_other h = (other_window s is os clock standing p index x at item (sym te ∙ h), tt)
 
   module _ (joined : t ≡ true) where
     joins : same_time p.from x.clock ≡ true
     joins = sym te ∙ joined
 
     pub found_of_run : IsOfRun limit p.from
-    found_of_run = subst (λ (l : ℕ). IsOfRun l p.from) (sym le) (of_run_here s is os clock standing p place x at item joins)
+    found_of_run = subst (λ (l : ℕ). IsOfRun l p.from) (sym le) (of_run_here s is os clock standing p index x at item joins)
 
     module _ (w : Bool)
         (we : w ≡ (nat_lt (rank limit p.from) (rank limit p.upto) &&
@@ -198,7 +198,7 @@ module _ (s : Share) (is xs : List Incoming) (os : List Outgoing) (clock : Time)
           (nat_le (rank s.limit p.upto) (end_of s.limit h) && nat_le p.upto.micro s.limit)) he
 
       pub found_none : w ≡ false → (refusal_of s (received_by is) p ≡ Some P4) × Unit {0}
-      found_none h = (no_window s is os clock standing p place x at item joins (sym meets ∙ h), tt)
+      found_none h = (no_window s is os clock standing p index x at item joins (sym meets ∙ h), tt)
 
       module _ (window : w ≡ true) where
         is_one : is_window s p ≡ true
@@ -215,7 +215,7 @@ module _ (s : Share) (is xs : List Incoming) (os : List Outgoing) (clock : Time)
         pub found_unordered : (o : Bool) → o ≡ are_in_order p.events → o ≡ false → (refusal_of s (received_by is) p ≡ Some P3) × Unit {0}
         found_unordered o oe h =
             let none : are_in_order p.events ≡ false = sym oe ∙ h in
-            (other_event s is os clock standing p place x at item joins is_one (rw none refl), tt)
+            (other_event s is os clock standing p index x at item joins is_one (rw none refl), tt)
 
         module _ (o : Bool) (oe : o ≡ are_in_order p.events) (ordered : o ≡ true) (e : Bool)
             (ee : e ≡ list_all (is_event_of s p) p.events) where
@@ -225,14 +225,14 @@ module _ (s : Share) (is xs : List Incoming) (os : List Outgoing) (clock : Time)
           pub found_outside : e ≡ false → (refusal_of s (received_by is) p ≡ Some P3) × Unit {0}
           found_outside h =
               let none : list_all (is_event_of s p) p.events ≡ false = sym ee ∙ h in
-              (other_event s is os clock standing p place x at item joins is_one (rw (all, none) refl), tt)
+              (other_event s is os clock standing p index x at item joins is_one (rw (all, none) refl), tt)
 
-          pub found_fine : e ≡ true → IsAccepted s is p place
+          pub found_fine : e ≡ true → IsAccepted s is p index
           found_fine h =
               let some : list_all (is_event_of s p) p.events ≡ true = sym ee ∙ h in
               record {
-                fine = accepted s is os clock standing p place x at item joins is_one (rw (all, some) refl);
-                there = subst (λ (ys : List Incoming). place < length ys) same found.0;
+                fine = accepted s is os clock standing p index x at item joins is_one (rw (all, some) refl);
+                there = subst (λ (ys : List Incoming). index < length ys) same found.0;
                 at = at;
                 of_run = subst (λ (l : ℕ). IsOfRun l p.upto) le found_upto;
                 ports = all_for_ports s p p.events some;

@@ -17,7 +17,7 @@ use Rattle.dv_conservative.specs.Links.{Delivery, Link, carried, carried_by, sen
 use Rattle.dv_conservative.specs.Process.{Outgoing, Packet, Share, all_events, at_most, brings, components_by, end_rank}
 use Rattle.dv_conservative.specs.Process.{events_by, inputs_by, known_until, least_clock, promise, sent_on}
 use Rattle.dv_conservative.specs.Promise.{IsWaiting, foreseen, reach}
-use Rattle.dv_conservative.specs.Sound.{AllReceivedNumbers, IsSoundShare, are_of_numbers, by_place}
+use Rattle.dv_conservative.specs.Sound.{AllReceivedNumbers, IsSoundShare, are_of_numbers, by_index}
 
 -- where nobody sends, links carry nothing
 sent_none : (js : List ℕ) (bs : List Behaviour) (k : ℕ) → sent_of js (map (λ (b : Behaviour). []) bs) k ≡ []
@@ -60,7 +60,7 @@ module _ (fits : ℕ → State → Bool) (s : Share) (received : ℕ → List Pa
   abbrev until : ℕ
   until = known_until s received k
 
-  waits : IsWaiting (by_place fits s.flat.members) are_of_numbers s.response s.limit (network s.flat) (inputs_by s (events_by received)) k
+  waits : IsWaiting (by_index fits s.flat.members) are_of_numbers s.response s.limit (network s.flat) (inputs_by s (events_by received)) k
       until
   waits = record {
     ready = is_ready fits (λ k. s.response) s.flat sound.sound;
@@ -87,7 +87,7 @@ module _ (fits : ℕ → State → Bool) (s : Share) (received : ℕ → List Pa
       by_test true lt = absurd (omega arith)
       by_test false lt =
           nothing_away s (events_by received) out n
-          (sends_nothing_at (by_place fits s.flat.members) are_of_numbers s.response s.limit (network s.flat)
+          (sends_nothing_at (by_index fits s.flat.members) are_of_numbers s.response s.limit (network s.flat)
           (inputs_by s (events_by received))
           k until (suc n) waits
           (below_most (end_rank s) (suc n) (earlier (least_next cs) (reach s.limit until s.response)) (omega arith)) n (omega arith)

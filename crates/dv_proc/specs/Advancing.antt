@@ -35,7 +35,7 @@ pub record IsAdvance (k upto : ℕ) (before after : View) (n : ℕ) : Type 0 whe
   pub instant : IsAfterInstant k before after
   pub next : IsNextDue after (suc k) upto n
 
--- links stand beside links, place by place
+-- links stand beside links, index by index
 abbrev pub AreBeside : (ℕ → Outgoing → Outgoing → Type 0) → List Outgoing → List Outgoing → Type 0
 AreBeside R xs ys = (length ys ≡ length xs) × ((j : ℕ) (d : Outgoing) → j < length xs → R j (slice_index_or xs j d) (slice_index_or ys j d))
 
@@ -50,9 +50,9 @@ pub record IsSameLink (x y : Outgoing) : Type 0 where
 abbrev pub HasRoom : Outgoing → Type 0
 HasRoom y = vec_len y.pending + vec_len y.fresh ≤ vec_capacity y.pending
 
--- what is sent at a time on the link of a place was computed, and there is room for it to wait
-pub record IsFresh (v : View) (sent : List (List Counts)) (now : Time) (place : ℕ) (y : Outgoing) : Type 0 where
-  pub fresh : (out : OutgoingAsMeant) → slice_get v.share.outgoing place ≡ Some out
+-- what is sent at a time on the link of an index was computed, and there is room for it to wait
+pub record IsFresh (v : View) (sent : List (List Counts)) (now : Time) (index : ℕ) (y : Outgoing) : Type 0 where
+  pub fresh : (out : OutgoingAsMeant) → slice_get v.share.outgoing index ≡ Some out
       → meant_events y.fresh.items ≡ map (event_of now) (carried_away v out.links sent)
   pub room : HasRoom y
 

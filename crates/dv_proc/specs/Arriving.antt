@@ -13,16 +13,16 @@ abbrev pub received_by : List Incoming → ℕ → List Packet
 received_by [] l = []
 received_by (i ∷ is) l = if nat_eq l i.number then i.received.packets else received_by is l
 
--- the place of the first link of a number, counted from one on
-abbrev pub place_from : ℕ → ℕ → List Incoming → Option ℕ
-place_from base number [] = None
-place_from base number (i ∷ is) = if nat_eq number i.number then Some base else place_from (base + 1) number is
+-- the index of the first link of a number, counted from one on
+abbrev pub index_from : ℕ → ℕ → List Incoming → Option ℕ
+index_from base number [] = None
+index_from base number (i ∷ is) = if nat_eq number i.number then Some base else index_from (base + 1) number is
 
--- at a place is the first link of a number
-abbrev pub IsPlace : ℕ → ℕ → List Incoming → Type 0
-IsPlace number place [] = ⊥
-IsPlace number zero (i ∷ is) = nat_eq number i.number ≡ true
-IsPlace number (suc place) (i ∷ is) = (nat_eq number i.number ≡ false) × IsPlace number place is
+-- at an index is the first link of a number
+abbrev pub IsIndex : ℕ → ℕ → List Incoming → Type 0
+IsIndex number index [] = ⊥
+IsIndex number zero (i ∷ is) = nat_eq number i.number ≡ true
+IsIndex number (suc index) (i ∷ is) = (nat_eq number i.number ≡ false) × IsIndex number index is
 
 -- no number comes twice
 abbrev pub AreApart : List ℕ → Type 0

@@ -57,13 +57,13 @@ AreNewOutgoing (n ∷ ns) (o ∷ os) =
 AreNewOutgoing [] (o ∷ os) = ⊥
 AreNewOutgoing (n ∷ ns) [] = ⊥
 
--- at a place is the first link of a number
-abbrev pub IsOutPlace : ℕ → ℕ → List Outgoing → Type 0
-IsOutPlace number place [] = ⊥
-IsOutPlace number zero (o ∷ os) = nat_eq number o.number ≡ true
-IsOutPlace number (suc place) (o ∷ os) = (nat_eq number o.number ≡ false) × IsOutPlace number place os
+-- at an index is the first link of a number
+abbrev pub IsOutIndex : ℕ → ℕ → List Outgoing → Type 0
+IsOutIndex number index [] = ⊥
+IsOutIndex number zero (o ∷ os) = nat_eq number o.number ≡ true
+IsOutIndex number (suc index) (o ∷ os) = (nat_eq number o.number ≡ false) × IsOutIndex number index os
 
--- the place of the first link of a number, counted from one on
-abbrev pub out_place_from : ℕ → ℕ → List Outgoing → Option ℕ
-out_place_from base number [] = None
-out_place_from base number (o ∷ os) = if nat_eq number o.number then Some base else out_place_from (base + 1) number os
+-- the index of the first link of a number, counted from one on
+abbrev pub out_index_from : ℕ → ℕ → List Outgoing → Option ℕ
+out_index_from base number [] = None
+out_index_from base number (o ∷ os) = if nat_eq number o.number then Some base else out_index_from (base + 1) number os

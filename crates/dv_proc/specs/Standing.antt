@@ -9,7 +9,7 @@ use Rattle.dv_bag.specs.Part.{nothing}
 use Rattle.dv_conservative.specs.Flat.{network}
 use Rattle.dv_conservative.specs.Process.{IsWithin, Packet, Share, brings, components_by, end_rank, events_by, least_clock, refusal_of}
 use Rattle.dv_conservative.specs.Sound.{AllReceivedNumbers, IsSoundShare}
-use Rattle.dv_proc.specs.Arriving.{AreApart, AreClocked, IsPlace, incoming_numbers, received_by}
+use Rattle.dv_proc.specs.Arriving.{AreApart, AreClocked, IsIndex, incoming_numbers, received_by}
 use Rattle.dv_proc.specs.Leaving.{ArePending, outgoing_numbers}
 use Rattle.dv_proc.specs.Local.{DeliverAlike, IsLocalRun, View, are_for_ports}
 use Rattle.dv_proc.specs.declared.incoming.Incoming.{Incoming}
@@ -42,11 +42,11 @@ IsDue s received k =
 abbrev pub IsFar : Share → (ℕ → List Packet) → ℕ → Type 0
 IsFar s received k = (k ≡ least_clock s received) ⊎ IsDue s received k
 
--- A packet passes all tests, and its link is at a place.
-pub record IsAccepted (s : Share) (incoming : List Incoming) (p : Packet) (place : ℕ) : Type 0 where
+-- A packet passes all tests, and its link is at an index.
+pub record IsAccepted (s : Share) (incoming : List Incoming) (p : Packet) (index : ℕ) : Type 0 where
   pub fine : refusal_of s (received_by incoming) p ≡ None
-  pub there : place < length incoming
-  pub at : IsPlace p.link place incoming
+  pub there : index < length incoming
+  pub at : IsIndex p.link index incoming
   pub of_run : IsOfRun s.limit p.upto
   pub ports : are_for_ports s p.events ≡ true
 

@@ -3,6 +3,8 @@
 /// Between which processes a link leads, by their numbers.
 #[derive(Clone, Copy, Debug, PartialEq, Eq)]
 pub struct Channel {
+    /// The number of the process from which the link leads.
     pub source: u32,
+    /// The number of the process to which it leads.
     pub target: u32,
 }

@@ -1,5 +1,15 @@
-//! One logical process of a conservative parallel simulation: packets that come over its links, its clock, what it
-//! promises, and the packets that it sends.
+//! One logical process of a conservative parallel simulation.
+//!
+//! A `Process` has its components, the links that lead here and away, and a clock: all instants before it are
+//! committed. A turn commits the instant at the clock, moves the clock as far as the received packets allow, lets the
+//! components emit there, and prepares for each link a packet or a null message that promises what is known. Whatever
+//! packets it accepted, what it committed is its local run before its clock, and each turn makes the progress that it
+//! must. A packet is refused exactly where its link is unknown, its window is not the next one, an event does not
+//! belong there, or memory lacks; what is refused changes nothing.
+//!
+//! The components stand behind the trait `Local`, which `dv_local` implements. `dv_core` joins processes to a world,
+//! and `dv_work` runs them on threads. Here are neither threads nor links themselves: a packet is handed in and taken
+//! out.
 #![tactic(auto)]
 
 /// The clock of a process moves.

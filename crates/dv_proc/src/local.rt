@@ -117,14 +117,14 @@ pub trait Local {
         ensures settled { settled self.new ≡ settled self.old }
         ensures handed { handed self.new ≡ handed self.old };
 
-    /// Adds the events of what they send by the outgoing link at a place, at the time that was last asked about.
+    /// Adds the events of what they send by the outgoing link at an index, at the time that was last asked about.
     ///
     /// # Errors
     ///
     /// No memory; some events may have been added then.
-    fn send(&self, place: usize, now: Time, into: &mut Vec<Event>) -> Result<(), AllocError>
+    fn send(&self, index: usize, now: Time, into: &mut Vec<Event>) -> Result<(), AllocError>
         ensures { OnOk result ((out : Outgoing)
-            → slice_get (view self.now).share.outgoing place ≡ Some out
+            → slice_get (view self.now).share.outgoing index ≡ Some out
             → meant_events into.new.items ≡ meant_events into.old.items
             ++ map (event_of now) (carried_away (view self.now) out.links (sent self.now))) };
 

@@ -4,7 +4,7 @@ ghost use Rattle.std.specs.Prelude.{◌≡◌, ◌<◌, ◌≤◌, ◌+◌, ◌+
 ghost use Rattle.std.specs.Prelude.{if◌then◌else◌, is_none, length, slice_index_or, vec_capacity, vec_len};
 ghost use Rattle.std.specs.List.{list_all, list_any};
 ghost use Rattle.dv_time.specs.Time.{is_before};
-ghost use Rattle.dv_proc.specs.Leaving.{AreNewOutgoing, is_prepared, out_place_from, standing_by};
+ghost use Rattle.dv_proc.specs.Leaving.{AreNewOutgoing, is_prepared, out_index_from, standing_by};
 ghost use Rattle.dv_proc.specs.Advancing.{AreBeside, HasRoom, IsFinished, IsFresh, IsSameLink};
 ghost use Rattle.dv_proc.specs.Packets.{meant_packet};
 ghost use Rattle.dv_proc.specs.declared.outgoing.Outgoing.{Outgoing};
@@ -19,10 +19,15 @@ use std::mem;
 /// sent since and is in no packet yet; and what is sent at the time that is computed.
 #[derive(Drop)]
 pub struct Outgoing {
+    /// The number of the link.
     pub number: u32,
+    /// The packet that was prepared and is not taken away yet.
     pub standing: Option<Packet>,
+    /// Where the window of the last prepared packet ends.
     pub promised: Time,
+    /// The events that are in no packet yet.
     pub pending: Vec<Event>,
+    /// The events of the time that is computed.
     pub fresh: Vec<Event>,
 }
 
@@ -50,18 +55,18 @@ impl Outgoing {
         }
     }
 
-    /// Computes what is sent at a time on the link, which stands at a place, and makes room for it to wait.
+    /// Computes what is sent at a time on the link, which stands at an index, and makes room for it to wait.
     ///
     /// # Errors
     ///
     /// No memory.
-    pub fn fill<L: Local>(&mut self, local: &L, place: usize, now: Time) -> Result<(), AllocError>
+    pub fn fill<L: Local>(&mut self, local: &L, index: usize, now: Time) -> Result<(), AllocError>
         ensures same { IsSameLink self.old self.new }
         ensures fresh { OnOk result
-            (IsFresh (L.view local.now) (L.sent local.now) now place self.new) }
+            (IsFresh (L.view local.now) (L.sent local.now) now index self.new) }
     {
         self.fresh.clear();
-        local.send(place, now, &mut self.fresh)?;
+        local.send(index, now, &mut self.fresh)?;
         self.pending.reserve(self.fresh.len())
     }
 
@@ -136,8 +141,8 @@ pub fn fill_all<L: Local>(local: &L, outgoing: &mut [Outgoing], now: Time) -> Re
     ensures fresh { OnOk result ((j : ℕ) (d : Outgoing) → j < length outgoing.old
         → IsFresh (L.view local.now) (L.sent local.now) now j (slice_index_or outgoing.new j d)) }
 {
-    for place in 0..outgoing.len() {
-        outgoing[place].fill(local, place, now)?;
+    for index in 0..outgoing.len() {
+        outgoing[index].fill(local, index, now)?;
     }
     Ok(())
 }
@@ -148,8 +153,8 @@ pub fn finish_all(alloc: Global, outgoing: &mut [Outgoing], emitted: bool, now: 
         → HasRoom (slice_index_or outgoing.old j d) }
     ensures { AreBeside (λ j. IsFinished emitted now upto) outgoing.old outgoing.new }
 {
-    for place in 0..outgoing.len() {
-        outgoing[place].finish(alloc, emitted, now, upto);
+    for index in 0..outgoing.len() {
+        outgoing[index].finish(alloc, emitted, now, upto);
     }
 }
 
@@ -201,14 +206,14 @@ pub fn standing_on(outgoing: &[Outgoing], number: u32) -> Option<&Packet>
     None
 }
 
-/// The place of the link of a number.
-pub fn out_place_of(outgoing: &[Outgoing], number: u32) -> Option<usize>
-    ensures place { result ≡ out_place_from 0 number outgoing.now }
-    ensures within { IfSome result (λ place. place < length outgoing.now) }
+/// The index of the link of a number.
+pub fn out_index_of(outgoing: &[Outgoing], number: u32) -> Option<usize>
+    ensures index { result ≡ out_index_from 0 number outgoing.now }
+    ensures within { IfSome result (λ index. index < length outgoing.now) }
 {
-    for (place, link) in outgoing.iter().enumerate() {
+    for (index, link) in outgoing.iter().enumerate() {
         if number == link.number {
-            return Some(place);
+            return Some(index);
         }
     }
     None

@@ -12,19 +12,28 @@ use std::cmp::Ordering;
 /// At a time, so many copies of a value for an input port of a component of the model.
 #[derive(Clone, Copy, Debug, PartialEq, Eq)]
 pub struct Event {
+    /// The time at which the value arrives.
     pub time: Time,
+    /// The number of the component.
     pub component: u32,
+    /// The index of its input port.
     pub port: u32,
+    /// The value.
     pub value: i64,
+    /// How many copies of it arrive.
     pub copies: u64,
 }
 
 /// All events of a window on a link: not before `from`, and before `upto`. Without events it is a null message.
 #[derive(Debug, Drop)]
 pub struct Packet {
+    /// The number of the link.
     pub link: u32,
+    /// Where the window begins: no event is before it.
     pub from: Time,
+    /// Where the window ends: every event is before it.
     pub upto: Time,
+    /// All events of the window, in order.
     pub events: Vec<Event>,
 }
 

@@ -20,10 +20,10 @@ ghost use Rattle.dv_proc.specs.Refusals.{IsByTest, meant_refusal};
 ghost use Rattle.dv_proc.specs.Standing.{IsAccepted, IsBegun, IsDue, IsFar, IsProcess, IsStanding};
 
 use crate::advance::{promise_at, step};
-use crate::incoming::{Incoming, Refused, least_clock, new_incoming, place_of};
+use crate::incoming::{Incoming, Refused, index_of, least_clock, new_incoming};
 use crate::local::{Local, LocalHandsOver};
 use crate::outgoing::{
-    Outgoing, are_free, can_prepare_any, finish_all, new_outgoing, out_place_of, standing_on,
+    Outgoing, are_free, can_prepare_any, finish_all, new_outgoing, out_index_of, standing_on,
 };
 use crate::packet::{Event, Packet};
 use crate::window::{Frame, are_in_order, is_same};
@@ -46,10 +46,15 @@ pub enum Turned {
 /// clock are committed.
 #[derive(Drop)]
 pub struct Process<L: Local> {
+    /// The components, and the links between them.
     pub local: L,
+    /// The links that lead here.
     pub incoming: Vec<Incoming>,
+    /// The links that lead away.
     pub outgoing: Vec<Outgoing>,
+    /// All instants before it are committed.
     pub clock: Time,
+    /// Where memory comes from.
     pub alloc: Global,
 }
 
@@ -129,9 +134,9 @@ impl<L: Local> Process<L> {
         ensures incoming { self.new.incoming ≡ self.old.incoming }
         ensures clock { self.new.clock ≡ self.old.clock }
     {
-        match out_place_of(self.outgoing.as_slice(), link) {
+        match out_index_of(self.outgoing.as_slice(), link) {
             None => None,
-            Some(place) => self.outgoing[place].take(),
+            Some(index) => self.outgoing[index].take(),
         }
     }
 
@@ -219,15 +224,15 @@ impl<L: Local> Process<L> {
         ensures outgoing { self.new.outgoing ≡ self.old.outgoing }
         ensures handed { L.handed self.new.local ≡ L.handed self.old.local }
     {
-        let place = match self.test(&packet) {
-            Ok(place) => place,
+        let index = match self.test(&packet) {
+            Ok(index) => index,
             Err(refused) => return Err((refused, packet)),
         };
         of_numbers(packet.events.as_slice());
         let Ok(()) = self.local.keep(packet.events.as_slice()) else {
             return Err((Refused::NoMemory, packet));
         };
-        self.incoming[place].take(packet);
+        self.incoming[index].take(packet);
         Ok(())
     }
 
@@ -340,21 +345,21 @@ impl<L: Local> Process<L> {
         answer(!now.is_before(frame.end()), free, rose, prepared)
     }
 
-    /// The place of a packet's link, if the packet passes all tests.
+    /// The index of a packet's link, if the packet passes all tests.
     fn test(&self, packet: &Packet) -> Result<usize, Refused>
         requires { IsStanding (L.view self.now.local).share
             self.now.incoming.items self.now.outgoing.items self.now.clock }
         ensures { MatchResult result
-            (λ place. IsAccepted (L.view self.now.local).share self.now.incoming.items
-            (meant_packet packet.now) place)
+            (λ index. IsAccepted (L.view self.now.local).share self.now.incoming.items
+            (meant_packet packet.now) index)
             (λ r. (refusal_of (L.view self.now.local).share (received_by self.now.incoming.items)
             (meant_packet packet.now) ≡ meant_refusal r) × IsByTest r) }
     {
         let frame = self.local.frame();
-        let Some(place) = place_of(self.incoming.as_slice(), packet.link) else {
+        let Some(index) = index_of(self.incoming.as_slice(), packet.link) else {
             return Err(Refused::NoSuchLink);
         };
-        if !is_same(packet.from, self.incoming[place].clock) {
+        if !is_same(packet.from, self.incoming[index].clock) {
             return Err(Refused::OtherWindow);
         }
         if !frame.is_window(packet.from, packet.upto) {
@@ -366,7 +371,7 @@ impl<L: Local> Process<L> {
         if !are_of_window(&self.local, &frame, packet) {
             return Err(Refused::OtherEvent);
         }
-        Ok(place)
+        Ok(index)
     }
 }
 

@@ -3,7 +3,7 @@
 ghost use Rattle.std.specs.Prelude.{◌≡◌, ◌≤◌, ◌+◌, ℕ, List};
 ghost use Rattle.dv_time.specs.Time.{IsOfRun, end_of, rank};
 ghost use Rattle.dv_devs.specs.Behaviour.{Component, is_at};
-ghost use Rattle.dv_devs.specs.NextTimes.{earlier, least_next};
+ghost use Rattle.dv_devs.specs.NextTimes.{least_next};
 ghost use Rattle.dv_conservative.specs.Process.{at_most};
 ghost use Rattle.dv_conservative.specs.Promise.{foreseen, reach};
 ghost use Rattle.dv_proc.specs.Foreseeing.{IsOfHold, IsOfRunIf, rank_if, ticks_of};
@@ -11,21 +11,7 @@ ghost use Rattle.dv_time.specs.Limits.{greatest_tick};
 
 use crate::window::Frame;
 use dv_bag::Response;
-use dv_time::Time;
-
-/// The lesser of two times, of which each may be never.
-pub fn earlier(limit: u32, one: Option<Time>, other: Option<Time>) -> Option<Time>
-    requires one { IsOfRunIf limit one }
-    requires other { IsOfRunIf limit other }
-    ensures earlier { rank_if limit result ≡ earlier (rank_if limit one) (rank_if limit other) }
-    ensures of_run { IsOfRunIf limit result }
-{
-    match (one, other) {
-        (Some(one), Some(other)) => Some(if other.is_before(one) { other } else { one }),
-        (Some(one), None) => Some(one),
-        (None, other) => other,
-    }
-}
+use dv_time::{Time, earliest};
 
 /// The first time at which a hold runs out that is not below a response and begins at a time or later.
 pub fn reach(limit: u32, from: Time, response: Response) -> Option<Time>
@@ -80,7 +66,7 @@ pub fn foreseen(
     if is_now(limit, now, next) {
         return Some(now.succ(limit));
     }
-    earlier(limit, next, reach(limit, known, response))
+    earliest(next, reach(limit, known, response))
 }
 
 /// A time, but no later than the end of the run.

@@ -13,7 +13,9 @@ use dv_time::Time;
 /// The frame of a run: its microstep limit and its horizon, in ticks.
 #[derive(Clone, Copy, Debug)]
 pub struct Frame {
+    /// The greatest microstep of a tick.
     pub limit: u32,
+    /// The last tick of the run.
     pub horizon: u64,
     ghost limited: { limit ≤ greatest_limit },
     ghost near: { horizon ≤ greatest_tick },

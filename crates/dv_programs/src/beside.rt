@@ -12,7 +12,9 @@ use std::sync::ledger::Ledger;
 /// How many runs had an effect, or a number, and how many a fault.
 #[derive(Clone, Copy, Debug, PartialEq, Eq)]
 pub struct Endings {
+    /// How many runs had an effect, or a number.
     pub effects: u64,
+    /// How many runs had a fault.
     pub faults: u64,
 }
 

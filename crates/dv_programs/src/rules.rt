@@ -21,8 +21,8 @@ fn compare_text<R: Abort + AllocGlobal, L: Ledger>(
     endings: &mut Endings,
 ) -> Result<(), Fail> {
     let checked = checked(rt.alloc(), text).expect(rt, text);
-    for place in 0..checked.file.models.len() {
-        if let Some(model) = atomic_at(&checked, place) {
+    for index in 0..checked.file.models.len() {
+        if let Some(model) = atomic_at(&checked, index) {
             compare_model(rt, model, runs, endings)?;
         }
     }

@@ -1,5 +1,13 @@
-//! The reaction of one component at an instant, for any code that gives the behaviour of an atomic model, and the lines
-//! of what leaves then.
+//! The kernel of an instant: the reaction of one component, written once for any code of an atomic model.
+//!
+//! `Atomic` is the trait of such code: output, the three kinds of transition, and the hold. `Running` is a component
+//! of a run: its state, the tick of its last transition, and what it waits for. `react` says which transition it is,
+//! makes it, and answers what happened. What comes of it is the reaction of `dv_devs` for the behaviour that the code
+//! gives, faults in the order in which they are looked for.
+//!
+//! Two kinds of code implement the trait: trees in `dv_plain`, and programs in `dv_coded`. `dv_share` calls the
+//! kernel for components that have something to do, `dv_plain` for all. Which components these are, and where their
+//! values go, is not decided here.
 #![tactic(auto)]
 
 /// Code that gives the behaviour of an atomic model.

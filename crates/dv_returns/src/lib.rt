@@ -1,5 +1,11 @@
-//! Tests alone: runs by workers return, and print what they should. That such a call returns is in no contract, so beside each run
-//! here a thread looks whether it has, and fails the test where it has not after so many looks.
+//! Tests alone: runs by workers return, and print what they should.
+//!
+//! That such a call returns is in no contract, so beside each run here a thread looks whether it has, and fails the
+//! test where it has not after so many looks. Runs of a ring and of clocks are slowed at one process, stopped before
+//! a turn, or written to a writer that is late or fails. The expected trace is that of the plain run of the same
+//! model (`run_plain` of `dv_job`).
+//!
+//! What is tested is `run_watched` of `dv_job`, and with it `dv_work`, `dv_board` and `dv_stream`.
 #![tactic(auto)]
 
 /// Who watches a process that runs ahead.

@@ -15,10 +15,15 @@ use std::time::Clock;
 /// A model, until when it runs, in how many processes by how many workers, and how many packets a link holds.
 #[derive(Clone, Copy)]
 pub struct Run {
+    /// The text of the model.
     pub model: &'static str,
+    /// The last tick of the run.
     pub horizon: u64,
+    /// How many processes there are.
     pub processes: u32,
+    /// How many workers there are.
     pub workers: u32,
+    /// How many packets a link holds.
     pub capacity: u32,
 }
 

@@ -16,6 +16,7 @@ pub const NONE: u32 = u32::MAX;
 #[derive(Drop)]
 pub struct Turns<'r, R> {
     rt: &'r R,
+    /// How many turns began.
     pub begun: AtomicU64,
     slow: u32,
     stop: u64,

@@ -11,6 +11,7 @@ use std::time::Clock;
 #[derive(Drop)]
 pub struct Late<'r, R> {
     rt: &'r R,
+    /// What was written.
     pub bytes: Vec<u8>,
     /// How many turns began while it took nothing.
     pub turns: u64,

@@ -52,11 +52,11 @@ module _ (job : RingJob) (one other : Process Silent (Unit {0}) Told)
   abbrev processes : List (Process Silent (Unit {0}) Told)
   processes = one ∷ other ∷ []
 
-  by_place : (Q : ℕ → Process Silent (Unit {0}) Told → Type 0) → Q 0 one → Q 1 other →
+  by_index : (Q : ℕ → Process Silent (Unit {0}) Told → Type 0) → Q 0 one → Q 1 other →
       (p : ℕ) (x : Process Silent (Unit {0}) Told) → slice_get processes p ≡ Some x → Q p x
-  by_place Q at_one at_other zero x e = let same : one ≡ x = cc in subst (Q 0) same at_one
-  by_place Q at_one at_other (suc zero) x e = let same : other ≡ x = cc in subst (Q 1) same at_other
-  by_place Q at_one at_other (suc (suc p)) x e = absurd (cc)
+  by_index Q at_one at_other zero x e = let same : one ≡ x = cc in subst (Q 0) same at_one
+  by_index Q at_one at_other (suc zero) x e = let same : other ≡ x = cc in subst (Q 1) same at_other
+  by_index Q at_one at_other (suc (suc p)) x e = absurd (cc)
 
   ends : (l : ℕ) (c : Channel) → slice_get (job_of job).channels l ≡ Some c → (c.source < 2) × (c.target < 2)
   ends zero c e =
@@ -69,13 +69,13 @@ module _ (job : RingJob) (one other : Process Silent (Unit {0}) Told)
 
   pub are_made : AreMadeFor job_of (state_by view_of) (IsConservative view_of view_of) job links processes
   are_made = record {
-    valid = by_place (λ p x. IsConservative view_of view_of x) one_valid other_valid;
+    valid = by_index (λ p x. IsConservative view_of view_of x) one_valid other_valid;
     fits = λ k s. true;
     sound = is_job job;
     links = refl;
     count = refl;
     ends = ends;
-    shares = by_place (λ p x. AreAlike (state_by view_of x).share (share_of (job_of job) p) × IsNew (state_by view_of x))
+    shares = by_index (λ p x. AreAlike (state_by view_of x).share (share_of (job_of job) p) × IsNew (state_by view_of x))
         (equal_alike _ _ one_share, one_new) (equal_alike _ _ other_share, other_new);
     few = (lit< tt, lit< tt);
   }

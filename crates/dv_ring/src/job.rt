@@ -6,7 +6,9 @@ use dv_proc::Frame;
 /// Until when they run, and their response in ticks.
 #[derive(Drop)]
 pub struct RingJob {
+    /// The microstep limit and the last tick of the run.
     pub frame: Frame,
+    /// The response of each process, in ticks.
     pub ticks: u32,
 }
 

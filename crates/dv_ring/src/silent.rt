@@ -12,10 +12,15 @@ use std::alloc::AllocError;
 /// away.
 #[derive(Drop)]
 pub struct Silent {
+    /// The microstep limit and the last tick of the run.
     pub frame: Frame,
+    /// The response, in ticks.
     pub ticks: u32,
+    /// The number of the link that leads here.
     pub incoming: u32,
+    /// The number of the link that leads away.
     pub outgoing: u32,
+    /// The record, which is told nothing.
     pub record: PartRecord,
 }
 
@@ -68,7 +73,7 @@ impl Local for Silent {
         Ok(())
     }
 
-    fn send(&self, _place: usize, _now: Time, _into: &mut Vec<Event>) -> Result<(), AllocError> {
+    fn send(&self, _index: usize, _now: Time, _into: &mut Vec<Event>) -> Result<(), AllocError> {
         Ok(())
     }
 

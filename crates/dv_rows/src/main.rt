@@ -1,7 +1,12 @@
-//! Runs rows: texts that are data, each with the command that is given to it and what has to come of it.
+//! A test that is a program: it runs rows, which are texts that are data, each with the command that is given to it
+//! and what has to come of it.
 //!
-//! Each word names a file of rows, as `data/README.md` describes it. The word `explanations` stands for the examples that
-//! `pdevs explain` shows.
+//! What is wanted was worked out by hand from what the language means, and never taken from a run. A row of a run is
+//! also run in several processes, and by workers, which have to print the same. The rows test the calls of `dv_job`,
+//! and what `dv_cause` and `dv_explain` tell of refusals.
+//!
+//! Each word names a file of rows, as `data/README.md` describes it. The word `explanations` stands for the examples
+//! that `pdevs explain` shows.
 #![tactic(auto)]
 
 /// What `pdevs explain` shows, and whether it is so.

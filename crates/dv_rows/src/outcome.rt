@@ -3,8 +3,8 @@
 use dv_cause::{Source, explained};
 use dv_explain::{explanation_of, explanation_text};
 use dv_job::{
-    JobError, Options, check_bytes, list_code, plan_bytes, run_by_workers, run_bytes, run_plain,
-    status,
+    Driver, JobError, Options, check_bytes, list_code, plan_bytes, run_by_workers, run_bytes,
+    run_plain, status,
 };
 use dv_partition::Partition;
 use std::alloc::{AllocError, Global};
@@ -28,8 +28,11 @@ const CAPACITIES: [u32; 3] = [1, 2, 16];
 /// What a command reads.
 #[derive(Clone, Copy)]
 pub struct Texts<'a> {
+    /// The text of the model.
     pub model: &'a [u8],
+    /// The text of the partition.
     pub partition: &'a [u8],
+    /// The text of the inputs.
     pub inputs: &'a [u8],
 }
 
@@ -133,7 +136,7 @@ fn error_text(
 fn last_line(text: &str) -> (&str, &str) {
     let text = text.trim_end_matches('\n');
     match text.rfind('\n') {
-        Some(place) => text.split_at(place),
+        Some(offset) => text.split_at(offset),
         None => ("", text),
     }
 }
@@ -174,8 +177,8 @@ fn ran<R: AllocGlobal + Threads + Wait + Sync>(
     };
     let groups = partition_of(command, texts.partition);
     let mut printed = Vec::new(alloc);
-    let ended = match options.workers {
-        Some(workers) => run_by_workers(
+    let ended = match options.driver {
+        Driver::Workers(workers) => run_by_workers(
             rt,
             alloc,
             texts.model,
@@ -185,7 +188,7 @@ fn ran<R: AllocGlobal + Threads + Wait + Sync>(
             workers,
             &mut printed,
         ),
-        None => run_bytes(
+        Driver::Rounds(_) => run_bytes(
             alloc,
             texts.model,
             texts.inputs,

@@ -7,6 +7,7 @@ use std::io::Write;
 /// A text that grows line by line.
 #[derive(Drop)]
 pub struct Text {
+    /// The bytes of the text so far.
     pub bytes: Vec<u8>,
     alloc: Global,
     // Whether a line end stands between what is there and the next line.

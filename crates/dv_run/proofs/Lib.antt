@@ -6,3 +6,11 @@ pub mod Shares
 pub mod Merging
 -- What was written of a text that ran in processes: the lines of its trace.
 pub mod Traces
+-- The components of a text by programs where they lie.
+pub mod Lent
+-- The links and the responses of a text as those of a plan.
+pub mod Lists
+-- What is planned of a text is the text's job.
+pub mod Jobs
+-- The order of the links.
+pub mod Rising

@@ -10,8 +10,8 @@ use Rattle.dv_devs.specs.NextTimes.{IsReady}
 use Rattle.dv_devs.specs.Outside.{LeavesLinearly, SendsBags}
 use Rattle.dv_partition.specs.Groups.{owner_of}
 use Rattle.dv_plain.specs.Source.{outside}
-use Rattle.dv_planned.specs.Texts.{text_job}
-use Rattle.dv_planned.specs.declared.job.TextJob.{TextJob}
+use Rattle.dv_run.specs.Texts.{text_job}
+use Rattle.dv_run.specs.declared.text_job.TextJob.{TextJob}
 use Rattle.dv_sound.specs.Members.{flat_of}
 use Rattle.dv_syntax.specs.Trees.{FileTree, file_of}
 

@@ -38,13 +38,13 @@ pub one_more_share : {S : Type 0} (xs : List (Share S)) (i : ℕ) (d : Share S) 
     → AllByRecursion (λ (s : Share S). AllInputNumbers s.inputs) (take (i + 1) xs)
 one_more_share {S} xs i d lt h n = one_more_taken (λ (s : Share S). AllInputNumbers s.inputs) xs i d lt h n
 
--- what holds of all holds of the one at a place
+-- what holds of all holds of the one at an index
 pub holds_at : {X : Type 0} (Q : X → Type 0) (xs : List X) (p : ℕ) (x : X) → AllByRecursion Q xs → slice_get xs p ≡ Some x → Q x
 holds_at Q [] p x h e = absurd (cc)
 holds_at Q (y ∷ xs) zero x h e = let same : y ≡ x = cc in subst Q same h.0
 holds_at Q (y ∷ xs) (suc p) x h e = holds_at Q xs p x h.1 e
 
--- and what holds at each place holds of all
+-- and what holds at each index holds of all
 pub holds_of_all : {X : Type 0} (Q : X → Type 0) (xs : List X) → ((p : ℕ) (x : X) → slice_get xs p ≡ Some x → Q x) → AllByRecursion Q xs
 holds_of_all Q [] h = tt
 holds_of_all Q (x ∷ xs) h = (h 0 x refl, holds_of_all Q xs (λ p y e. h (suc p) y e))

@@ -22,11 +22,9 @@ use Rattle.dv_core.proofs.Driving.{enough_rounds}
 use Rattle.dv_core.specs.declared.step.Step.{Step}
 use Rattle.dv_core.specs.declared.step.Ended.{Ended}
 use Rattle.dv_core.specs.declared.step.Ended.TheVariants.{Memory, Stalled, Whole}
-use Rattle.dv_run.specs.Endings.{by_rounds}
-use Rattle.dv_run.specs.declared.ran.RanEnded.TheVariants as told
 use Rattle.dv_plain.specs.Source.{network_of, outside}
-use Rattle.dv_planned.specs.Texts.{text_job}
-use Rattle.dv_planned.specs.declared.job.TextJob.{TextJob}
+use Rattle.dv_run.specs.Texts.{text_job}
+use Rattle.dv_run.specs.declared.text_job.TextJob.{TextJob}
 use Rattle.dv_plan.specs.Runs.{HasRun, HasStepped}
 use Rattle.dv_plan.specs.declared.ran.Committed.{Committed}
 use Rattle.dv_plan.specs.declared.ran.Stepped.{Stepped}
@@ -39,14 +37,15 @@ use Rattle.dv_text.proofs.Taking.{AppendsBeginning-nothing}
 use Rattle.dv_stream.specs.Clocks.{AreWithin}
 use Rattle.dv_written.specs.Faults.{has_fault}
 use Rattle.dv_stream.specs.Written.{IsBegun, IsWrittenTo}
-use Rattle.dv_stream.specs.declared.rounds.Streamed.{Streamed}
-use Rattle.dv_stream.specs.declared.written.Written.{Written}
+use Rattle.dv_stream.specs.Endings.{HasRunInRounds, by_rounds}
+use Rattle.dv_stream.specs.declared.ran.Ran.{Ran}
+use Rattle.dv_stream.specs.declared.ran.RunEnded.TheVariants as told
+use Rattle.dv_stream.specs.declared.ran.Why.TheVariants as why
 use Rattle.dv_text.specs.declared.writing.WriteError.{WriteError}
 use Rattle.dv_plan.proofs.LeastClock.{AllOfRun, least_below, least_of_same}
 use Rattle.dv_stream.proofs.ToldClocks.{same_rank}
-use Rattle.dv_work.proofs.Lists.{at_place}
+use Rattle.dv_work.proofs.Lists.{at_index}
 use Rattle.dv_run.specs.Runs.{AreAtEnd, IsCutShort, IsPrinted, IsRunOf, IsStepped, lines_before}
-use Rattle.dv_run.specs.declared.ran.Ran.{Ran}
 
 -- ---- The laws on which it rests
 
@@ -105,19 +104,20 @@ module _ (j : TextJob) (text : AreOfOneText j.tree.now.names (file_of j.tree.now
     ≡ None)
     (laws : Laws (file_of j.tree.now.file) j.limit) {old new : Option (List ℕ)} where
   -- up to the least of the clocks that were reached
-  pub is_printed : (w : Written) (r : Ran) → IsWrittenTo (text_job j) j.tree.now old new w
-      → rank j.limit w.mark ≡ least_rank j.limit r.clocks.items
-      → r.faulted ≡ w.faulted → 0 < length r.clocks.items → length r.clocks.items ≡ (text_job j).processes
+  pub is_printed : (r : Ran) → IsWrittenTo (text_job j) j.tree.now old new r.written
+      → rank j.limit r.written.mark ≡ least_rank j.limit r.clocks.items
+      → 0 < length r.clocks.items → length r.clocks.items ≡ (text_job j).processes
       → AreWithin j.horizon j.limit r.clocks.items → AreAtEnd (text_job j) r.ended r.clocks.items
       → IsPrinted j.tree.now.names (file_of j.tree.now.file) j.inputs.now j.groups.now j.horizon j.limit old new r
-  is_printed w r written mark fault some count within at_end = record {
+  is_printed r written mark some count within at_end = record {
     lines =
         subst (λ (n : ℕ). Appends old new (lines_before j.tree.now.names (file_of j.tree.now.file) j.inputs.now j.limit n)) mark
         (subst (Appends old new) (same_lines j.tree.now.names (file_of j.tree.now.file) j.inputs.now j.limit text accepted laws
-        (rank j.limit w.mark)) written.text);
+        (rank j.limit r.written.mark)) written.text);
     faults =
-        fault ∙ written.faults
-        ∙ ap has_fault (same_trace j.tree.now.names (file_of j.tree.now.file) j.inputs.now j.limit text accepted laws (rank j.limit w.mark))
+        written.faults
+        ∙ ap has_fault (same_trace j.tree.now.names (file_of j.tree.now.file) j.inputs.now j.limit text accepted laws
+        (rank j.limit r.written.mark))
         ∙ ap (λ (n : ℕ). has_fault (trace_before j.limit (network_of j.limit (file_of j.tree.now.file))
         (outside (file_of j.tree.now.file) j.limit j.inputs.now) n)) mark;
     some = some;
@@ -147,7 +147,7 @@ pub cut_before_end : (job : Job) (clocks : List Time) → 0 < length clocks → 
 cut_before_end job clocks some within not_all = elim (cases_lt (least_rank job.limit clocks) (end_of job.limit job.horizon)) [
   | inl less ↦ less
   | inr more ↦ absurd (not_all (λ p t at.
-      let is = at_place (λ (u : Time). IsOfRun job.limit u × (rank job.limit u ≤ end_of job.limit job.horizon)) clocks p t within at in
+      let is = at_index (λ (u : Time). IsOfRun job.limit u × (rank job.limit u ≤ end_of job.limit job.horizon)) clocks p t within at in
       let low = least_below job.limit clocks p t at in
       let end : rank job.limit (end_time job) ≡ end_of job.limit job.horizon = plus_nothing (end_of job.limit job.horizon) in
       same_rank job.limit t (end_time job) is.0 (omega arith)
@@ -162,17 +162,17 @@ whole_by_rounds Whole is = refl
 whole_by_rounds Stalled is = absurd (cc)
 whole_by_rounds Memory is = absurd (cc)
 
-pub stalled_by_rounds : (e : Ended) → by_rounds e ≡ told.Stalled → e ≡ Stalled
+pub stalled_by_rounds : (e : Ended) → by_rounds e ≡ told.Cut why.Rounds → e ≡ Stalled
 stalled_by_rounds Whole is = absurd (cc)
 stalled_by_rounds Stalled is = refl
 stalled_by_rounds Memory is = absurd (cc)
 
-pub memory_by_rounds : (e : Ended) → by_rounds e ≡ told.Memory → e ≡ Memory
+pub memory_by_rounds : (e : Ended) → by_rounds e ≡ told.Cut why.Memory → e ≡ Memory
 memory_by_rounds Whole is = absurd (cc)
 memory_by_rounds Stalled is = absurd (cc)
 memory_by_rounds Memory is = refl
 
-pub never_stopped_by_rounds : (e : Ended) → by_rounds e ≡ told.Stopped → ⊥
+pub never_stopped_by_rounds : (e : Ended) → by_rounds e ≡ told.Cut why.Stopped → ⊥
 never_stopped_by_rounds Whole is = absurd (cc)
 never_stopped_by_rounds Stalled is = absurd (cc)
 never_stopped_by_rounds Memory is = absurd (cc)
@@ -216,11 +216,14 @@ module _ (j : TextJob) (capacity rounds : ℕ) (c : Committed) (ran : HasRun (te
 
   pub is_run : {old new : Option (List ℕ)} (r : Ran) → r.clocks ≡ c.clocks → r.ended ≡ by_rounds c.ended
       → IsPrinted j.tree.now.names (file_of j.tree.now.file) j.inputs.now j.groups.now j.horizon j.limit old new r
-      → (0 < capacity → end_of j.limit j.horizon + 1 ≤ rounds → c.ended ≢ Stalled)
+      → (0 < capacity → end_of j.limit j.horizon + 1 ≤ rounds → r.ended ≢ told.Cut why.Rounds)
       → IsRunOf j.tree.now.names (file_of j.tree.now.file) j.inputs.now j.groups.now j.horizon j.limit capacity rounds old new r
   is_run r same ended printed enough = record {
     printed = printed;
-    stalls = λ e holds. few (stalled_by_rounds c.ended (sym ended ∙ e)) holds;
+    stalls = λ e holds. elim (cases_lt (end_of j.limit j.horizon) rounds) [
+      | inl more ↦ absurd (enough holds (omega (arith, more)) e)
+      | inr less ↦ less
+    ];
     ended = c.ended;
     ended_so = ended;
     led = record {
@@ -230,20 +233,15 @@ module _ (j : TextJob) (capacity rounds : ℕ) (c : Committed) (ran : HasRun (te
       clocks = λ p t at. ran.handed.clocks p t (ap (λ ts. slice_get ts.items p) (sym same) ∙ at);
     };
   }
-    where
-      few : c.ended ≡ Stalled → 0 < capacity → rounds ≤ end_of j.limit j.horizon
-      few e holds = elim (cases_lt (end_of j.limit j.horizon) rounds) [
-        | inl more ↦ absurd (enough holds (omega (arith, more)) e)
-        | inr less ↦ less
-      ]
 
 -- what rounds lead to where there are enough of them
 pub enough_of : (j : TextJob) (capacity rounds : ℕ) → ((l : ℕ) (ch : Channel) → slice_get (text_job j).channels l ≡ Some ch
     → (ch.source < (text_job j).processes) × (ch.target < (text_job j).processes))
-    → (r : Result Streamed WriteError) → IfOk r (λ s. HasRun (text_job j) capacity rounds s.committed)
-    → IfOk r (λ s. 0 < capacity → end_of (text_job j).limit (text_job j).horizon + 1 ≤ rounds → s.committed.ended ≢ Stalled)
-enough_of j capacity rounds ends (Ok s) run = unstalled j capacity rounds s.committed run ends
-enough_of j capacity rounds ends (Err e) run = tt
+    → (r : Result Ran WriteError) → IfOk r (HasRunInRounds (text_job j) capacity rounds)
+    → IfOk r (λ (x : Ran). 0 < capacity → end_of (text_job j).limit (text_job j).horizon + 1 ≤ rounds → x.ended ≢ told.Cut why.Rounds)
+enough_of j capacity rounds ends (Ok r) h = λ some enough cut.
+    unstalled j capacity rounds h.committed h.run ends some enough (stalled_by_rounds h.committed.ended (sym h.ended ∙ cut))
+enough_of j capacity rounds ends (Err e) h = tt
 
 -- ---- Steps
 

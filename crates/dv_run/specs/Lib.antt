@@ -1,4 +1,4 @@
--- How it ended.
-pub mod Endings
 -- What ran of a text.
 pub mod Runs
+-- What is planned of a text.
+pub mod Texts

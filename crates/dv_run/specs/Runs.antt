@@ -19,14 +19,15 @@ use Rattle.dv_plain.specs.Source.{network_of, outside}
 use Rattle.dv_plan.specs.declared.ran.Stepped.{Stepped}
 use Rattle.dv_sound.specs.Jobs.{job_of}
 use Rattle.dv_stream.specs.Clocks.{AreWithin}
+use Rattle.dv_stream.specs.Endings.{by_rounds}
+use Rattle.dv_stream.specs.declared.ran.Ran.{Ran}
+use Rattle.dv_stream.specs.declared.ran.RunEnded.{RunEnded}
+use Rattle.dv_stream.specs.declared.ran.RunEnded.TheVariants.{Cut, Whole}
+use Rattle.dv_stream.specs.declared.ran.Why.TheVariants.{Rounds}
 use Rattle.dv_written.specs.Faults.{has_fault}
 use Rattle.dv_text.specs.Names.{component_names, root_ports}
 use Rattle.dv_text.specs.Texts.{instants_text}
 use Rattle.dv_text.specs.Writing.{AppendsBeginning}
-use Rattle.dv_run.specs.Endings.{by_rounds}
-use Rattle.dv_run.specs.declared.ran.Ran.{Ran}
-use Rattle.dv_run.specs.declared.ran.RanEnded.{RanEnded}
-use Rattle.dv_run.specs.declared.ran.RanEnded.TheVariants.{Stalled, Whole}
 
 -- Rounds of the processes of a text, so many at most, led from a new world to these clocks, one for each process, by their numbers.
 pub record LedTo (f : FileTree) (played : List Input) (groups : Grouping) (horizon limit capacity rounds : ℕ) (ended : Ended)
@@ -37,7 +38,7 @@ pub record LedTo (f : FileTree) (played : List Input) (groups : Grouping) (horiz
   pub clocks : (p : ℕ) (t : Time) → slice_get times p ≡ Some t → world.clock p ≡ t
 
 -- where it is whole, all clocks are at the end
-abbrev pub AreAtEnd : Job → RanEnded → List Time → Type 0
+abbrev pub AreAtEnd : Job → RunEnded → List Time → Type 0
 AreAtEnd job ended clocks = ended ≡ Whole → (p : ℕ) (t : Time) → slice_get clocks p ≡ Some t → t ≡ end_time job
 
 -- the lines of the instants of a text's resultant, with these inputs, before a rank
@@ -50,18 +51,19 @@ lines_before names f played limit n =
 pub record IsPrinted (names : List (List ℕ)) (f : FileTree) (played : List Input) (groups : Grouping) (horizon limit : ℕ)
     (old new : Option (List ℕ)) (ran : Ran) : Type 0 where
   pub lines : Appends old new (lines_before names f played limit (least_rank limit ran.clocks.items))
-  pub faults : ran.faulted ≡ has_fault
+  pub faults : ran.written.faulted ≡ has_fault
       (trace_before limit (network_of limit f) (outside f limit played) (least_rank limit ran.clocks.items))
   pub some : 0 < length ran.clocks.items
   pub count : length ran.clocks.items ≡ groups.processes
   pub within : AreWithin horizon limit ran.clocks.items
   pub whole : ran.ended ≡ Whole → least_rank limit ran.clocks.items ≡ end_of limit horizon
 
--- The same of a run in rounds, which led to those clocks: it stalls only where there are no more rounds than ranks before the end.
+-- The same of a run in rounds, which led to those clocks: it is cut for want of rounds only where there are no more rounds than ranks
+-- before the end.
 pub record IsRunOf (names : List (List ℕ)) (f : FileTree) (played : List Input) (groups : Grouping)
     (horizon limit capacity rounds : ℕ) (old new : Option (List ℕ)) (ran : Ran) : Type 0 where
   pub printed : IsPrinted names f played groups horizon limit old new ran
-  pub stalls : ran.ended ≡ Stalled → 0 < capacity → rounds ≤ end_of limit horizon
+  pub stalls : ran.ended ≡ Cut Rounds → 0 < capacity → rounds ≤ end_of limit horizon
   pub ended : Ended
   pub ended_so : ran.ended ≡ by_rounds ended
   pub led : LedTo f played groups horizon limit capacity rounds ended ran.clocks.items

@@ -3,36 +3,36 @@
 ghost use Rattle.std.specs.Prelude.{◌≢◌, ◌+◌, ◌<◌, ◌≤◌, ◌≡◌, None, IfOk, OnErr};
 ghost use Rattle.dv_board.specs.Jobs.{IsMergeable};
 ghost use Rattle.dv_check.specs.Refusals.{AreOfOneText, refusal_of};
-ghost use Rattle.dv_core.specs.declared.step.Ended.TheVariants as ended;
-ghost use Rattle.dv_planned.specs.Texts.{AreComponentsOf, AreLinksOf, text_job};
+ghost use Rattle.dv_run.specs.Texts.{AreComponentsOf, AreLinksOf, text_job};
 ghost use Rattle.dv_run.specs.Runs.{IsCutShort, IsRunOf};
 ghost use Rattle.dv_plan.specs.Clocks.{least_time};
-ghost use Rattle.dv_plan.specs.Runs.{HasRun};
 ghost use Rattle.dv_sound.specs.Jobs.{AllInputNumbers};
+ghost use Rattle.dv_stream.specs.Endings.{HasRunInRounds};
 ghost use Rattle.dv_stream.specs.Written.{IsBegun, IsWrittenTo};
+ghost use Rattle.dv_stream.specs.declared.ran.RunEnded.TheVariants.{Cut};
+ghost use Rattle.dv_stream.specs.declared.ran.Why.TheVariants.{Rounds};
 ghost use Rattle.dv_syntax.specs.Trees.{file_of};
 ghost use Rattle.dv_time.specs.Time.{end_of};
 
 use crate::plan::plan_of;
-use crate::ran::{Ran, ran_of};
+use crate::text_job::TextJob;
 use dv_bag::Bags;
 use dv_coded::{Bench, Components, components_of};
 use dv_devs::laws::parts::parts_are_of_the_trace;
 use dv_flat::LinkLists;
 use dv_gen::laws::texts_are_compilable;
 use dv_plain::laws::networks_of_texts;
-use dv_planned::TextJob;
 use dv_sound::jobs::parts_of_the_flat_model_are_those_of_the_text;
 use dv_sound::outside::what_leaves_a_flat_model_is_linear;
-use dv_stream::{Streamed, stream_plan};
+use dv_stream::{Bounds, Ran, stream_plan};
 use dv_text::WriteError;
 use dv_text::laws::a_trace_is_its_instants;
 use std::alloc::Global;
 use std::io::Write;
 
-/// Runs the compiled model of a text by its programs and its links, with inputs, in processes that exchange packets, in so
-/// many rounds at most, to a horizon in ticks, and writes the lines of the trace before the least clock while it runs. A link
-/// holds so many packets at most. Where memory is refused to a turn or to a packet, that is what was known then.
+/// Runs the compiled model of a text by its programs and its links, with inputs, in processes that exchange packets in rounds
+/// within these bounds, to a horizon in ticks, and writes the lines of the trace before the least clock while it runs. Where
+/// memory is refused to a turn or to a packet, that is what was known then.
 ///
 /// # Errors
 ///
@@ -42,8 +42,7 @@ pub fn compiled_run<W: Write>(
     alloc: Global,
     job: &TextJob<'_, '_>,
     links: &LinkLists,
-    rounds: u64,
-    capacity: usize,
+    bounds: Bounds,
     writer: &mut W,
 ) -> Result<Ran, WriteError>
     requires text { AreOfOneText job.now.tree.now.names (file_of job.now.tree.now.file) }
@@ -51,8 +50,8 @@ pub fn compiled_run<W: Write>(
     requires numbers { AllInputNumbers job.now.inputs.now }
     requires links { AreLinksOf (file_of job.now.tree.now.file) links.now }
     ensures run { IfOk result (IsRunOf job.now.tree.now.names (file_of job.now.tree.now.file)
-        job.now.inputs.now job.now.groups.now job.now.horizon job.now.limit capacity rounds
-        (W.contents writer.old) (W.contents writer.new)) }
+        job.now.inputs.now job.now.groups.now job.now.horizon job.now.limit bounds.capacity
+        bounds.rounds (W.contents writer.old) (W.contents writer.new)) }
     ensures err { OnErr result (IsCutShort job.now.tree.now.names
         (file_of job.now.tree.now.file) job.now.inputs.now job.now.horizon job.now.limit
         (W.contents writer.old) (W.contents writer.new)) }
@@ -70,10 +69,8 @@ pub fn compiled_run<W: Write>(
     let _processes = job.groups.processes();
     let mut bench = Bench::new(alloc);
     let components = components_of(&mut bench, job.tree, job.limit)?;
-    let streamed = run_components(
-        alloc, job, components, links, &mut bench, rounds, capacity, writer,
-    )?;
-    Ok(ran_of(streamed))
+    let ran = run_components(alloc, job, components, links, &mut bench, bounds, writer)?;
+    Ok(ran)
 }
 
 // What the processes of a text commit in rounds, written meanwhile.
@@ -83,10 +80,9 @@ fn run_components<W: Write>(
     components: Components,
     links: &LinkLists,
     bench: &mut Bench,
-    rounds: u64,
-    capacity: usize,
+    bounds: Bounds,
     writer: &mut W,
-) -> Result<Streamed, WriteError>
+) -> Result<Ran, WriteError>
     requires text { AreOfOneText job.now.tree.now.names (file_of job.now.tree.now.file) }
     requires accepted { refusal_of (file_of job.now.tree.now.file) ≡ None }
     requires numbers { AllInputNumbers job.now.inputs.now }
@@ -95,13 +91,13 @@ fn run_components<W: Write>(
     requires links { AreLinksOf (file_of job.now.tree.now.file) links.now }
     requires merges { IsMergeable (text_job job.now) }
     ensures some { IfOk result (λ _. 0 < (text_job job.now).processes) }
-    ensures run { IfOk result (λ s. HasRun (text_job job.now) capacity rounds s.committed) }
-    ensures enough { IfOk result (λ s. 0 < capacity
-        → end_of (text_job job.now).limit (text_job job.now).horizon + 1 ≤ rounds
-        → s.committed.ended ≢ ended.Stalled) }
-    ensures written { IfOk result (λ s. IsWrittenTo (text_job job.now) job.now.tree.now
-        (W.contents writer.old) (W.contents writer.new) s.written) }
-    ensures least { IfOk result (λ s. s.written.mark ≡ least_time s.committed.clocks.items) }
+    ensures run { IfOk result (HasRunInRounds (text_job job.now) bounds.capacity bounds.rounds) }
+    ensures enough { IfOk result (λ r. 0 < bounds.capacity
+        → end_of (text_job job.now).limit (text_job job.now).horizon + 1 ≤ bounds.rounds
+        → r.ended ≢ Cut Rounds) }
+    ensures written { IfOk result (λ r. IsWrittenTo (text_job job.now) job.now.tree.now
+        (W.contents writer.old) (W.contents writer.new) r.written) }
+    ensures least { IfOk result (λ r. r.written.mark ≡ least_time r.clocks.items) }
     ensures err { OnErr result (IsBegun (text_job job.now) job.now.tree.now
         (W.contents writer.old) (W.contents writer.new)) }
 {
@@ -111,5 +107,5 @@ fn run_components<W: Write>(
         responses,
     } = components;
     let plan = plan_of(alloc, job, &models, members, responses, links)?;
-    stream_plan(alloc, *job, plan, bench, rounds, capacity, job.tree, writer)
+    stream_plan(alloc, *job, plan, bench, bounds, job.tree, writer)
 }

@@ -3,18 +3,19 @@
 ghost use Rattle.std.specs.Prelude.{◌<◌, ◌≡◌, None, IfOk};
 ghost use Rattle.dv_check.specs.Refusals.{AreOfOneText, refusal_of};
 ghost use Rattle.dv_coded.specs.Lent.{behaviour_of_lent, lent_takes};
-ghost use Rattle.dv_planned.specs.Texts.{AreComponentsOf, AreLinksOf, text_job};
+ghost use Rattle.dv_run.specs.Texts.{AreComponentsOf, AreLinksOf, text_job};
 ghost use Rattle.dv_plan.specs.Beginning.{CanRun};
 ghost use Rattle.dv_sound.specs.Jobs.{AllInputNumbers};
 ghost use Rattle.dv_syntax.specs.Trees.{file_of};
 
 use crate::numbers::shares_have_numbers;
+use crate::text_job::TextJob;
+use crate::text_plan::plan_text;
 use dv_bag::Response;
 use dv_coded::{Lent, Programs};
 use dv_conservative::channels::channels_are_where_links_cross;
 use dv_flat::LinkLists;
 use dv_plan::Plan;
-use dv_planned::{TextJob, plan_text};
 use dv_share::Member;
 use dv_sound::jobs::texts_are_jobs;
 use dv_sound::shares::processes_of_texts_start_sound;

@@ -5,30 +5,28 @@ ghost use Rattle.dv_board.specs.Jobs.{IsMergeable};
 ghost use Rattle.dv_check.specs.Refusals.{AreOfOneText, refusal_of};
 ghost use Rattle.dv_core.specs.Worlds.{end_time};
 ghost use Rattle.dv_devs.specs.Clocks.{least_rank};
-ghost use Rattle.dv_planned.specs.Texts.{AreComponentsOf, AreLinksOf, text_job};
-ghost use Rattle.dv_run.specs.Endings.{by_workers, cause_of};
+ghost use Rattle.dv_run.specs.Texts.{AreComponentsOf, AreLinksOf, text_job};
 ghost use Rattle.dv_run.specs.Runs.{IsCutShort, IsPrinted};
-ghost use Rattle.dv_run.specs.declared.ran.RanEnded.TheVariants as ended;
 ghost use Rattle.dv_sound.specs.Jobs.{AllInputNumbers};
 ghost use Rattle.dv_stream.specs.Clocks.{AreWithin};
 ghost use Rattle.dv_stream.specs.Written.{IsBegun, IsWrittenTo};
 ghost use Rattle.dv_syntax.specs.Trees.{file_of};
 ghost use Rattle.dv_time.specs.Time.{end_of, rank};
 ghost use Rattle.dv_time.specs.declared.time.Time.{Time as MeantTime};
-ghost use Rattle.dv_stream.specs.declared.rest.WorkersEnded.TheVariants as reported;
+ghost use Rattle.dv_stream.specs.declared.ran.RunEnded.TheVariants.{Cut, Whole};
+ghost use Rattle.dv_stream.specs.declared.ran.Why.TheVariants.{Rounds, Stopped};
 
 use crate::plan::plan_of;
-use crate::ran::{Ran, RanByWorkers, RanEnded};
+use crate::text_job::TextJob;
 use dv_bag::Bags;
 use dv_coded::{Bench, Components, components_of};
 use dv_devs::laws::parts::parts_are_of_the_trace;
 use dv_flat::LinkLists;
 use dv_gen::laws::texts_are_compilable;
 use dv_plain::laws::networks_of_texts;
-use dv_planned::TextJob;
 use dv_sound::jobs::parts_of_the_flat_model_are_those_of_the_text;
 use dv_sound::outside::what_leaves_a_flat_model_is_linear;
-use dv_stream::{Watch, Worked, WorkersEnded, stream_plan_by_workers};
+use dv_stream::{RanByWorkers, Watch, stream_plan_by_workers};
 use dv_text::WriteError;
 use dv_text::laws::a_trace_is_its_instants;
 use std::alloc::{AllocError, Global};
@@ -67,10 +65,10 @@ pub fn compiled_workers<R: Threads + Wait + Sync, G: Watch, W: Write>(
         (file_of job.now.tree.now.file) job.now.inputs.now job.now.groups.now
         job.now.horizon job.now.limit
         (W.contents writer.old) (W.contents writer.new) r.ran) }
-    ensures ended { IfOk result (λ r. r.ran.ended ≢ ended.Stalled) }
-    ensures partial { IfOk result (λ r. r.ran.ended ≢ ended.Whole
+    ensures ended { IfOk result (λ r. r.ran.ended ≢ Cut Rounds) }
+    ensures partial { IfOk result (λ r. r.ran.ended ≢ Whole
         → least_rank job.now.limit r.ran.clocks.items < end_of job.now.limit job.now.horizon) }
-    ensures cause { IfOk result (λ r. IsSome r.cause ↔ (r.ran.ended ≡ ended.Stopped)) }
+    ensures cause { IfOk result (λ r. IsSome r.cause ↔ (r.ran.ended ≡ Cut Stopped)) }
     ensures err { OnErr result (IsCutShort job.now.tree.now.names
         (file_of job.now.tree.now.file) job.now.inputs.now job.now.horizon job.now.limit
         (W.contents writer.old) (W.contents writer.new)) }
@@ -92,7 +90,7 @@ pub fn compiled_workers<R: Threads + Wait + Sync, G: Watch, W: Write>(
     let worked = work_components(
         rt, alloc, job, components, links, benches, capacity, watch, writer,
     )?;
-    Ok(ran_by_workers(worked))
+    Ok(worked)
 }
 
 // A bench for each worker.
@@ -117,7 +115,7 @@ fn work_components<R: Threads + Wait + Sync, G: Watch, W: Write>(
     capacity: usize,
     watch: &G,
     writer: &mut W,
-) -> Result<Worked<G::Cause>, WriteError>
+) -> Result<RanByWorkers<G::Cause>, WriteError>
     requires text { AreOfOneText job.now.tree.now.names (file_of job.now.tree.now.file) }
     requires accepted { refusal_of (file_of job.now.tree.now.file) ≡ None }
     requires numbers { AllInputNumbers job.now.inputs.now }
@@ -128,15 +126,17 @@ fn work_components<R: Threads + Wait + Sync, G: Watch, W: Write>(
     requires workers { 0 < length benches.items }
     requires capacity { 0 < capacity }
     ensures written { IfOk result (λ w. IsWrittenTo (text_job job.now) job.now.tree.now
-        (W.contents writer.old) (W.contents writer.new) w.written) }
-    ensures some_clocks { IfOk result (λ w. 0 < length w.clocks.items) }
-    ensures count { IfOk result (λ w. length w.clocks.items ≡ (text_job job.now).processes) }
-    ensures least { IfOk result (λ w. rank job.now.limit w.written.mark
-        ≡ least_rank job.now.limit w.clocks.items) }
-    ensures within { IfOk result (λ w. AreWithin job.now.horizon job.now.limit w.clocks.items) }
-    ensures whole { IfOk result (λ w. (w.ended ≡ reported.Whole)
-        ↔ ((p : ℕ) (t : MeantTime) → slice_get w.clocks.items p ≡ Some t
+        (W.contents writer.old) (W.contents writer.new) w.ran.written) }
+    ensures some_clocks { IfOk result (λ w. 0 < length w.ran.clocks.items) }
+    ensures count { IfOk result (λ w. length w.ran.clocks.items ≡ (text_job job.now).processes) }
+    ensures least { IfOk result (λ w. rank job.now.limit w.ran.written.mark
+        ≡ least_rank job.now.limit w.ran.clocks.items) }
+    ensures within { IfOk result (λ w. AreWithin job.now.horizon job.now.limit w.ran.clocks.items) }
+    ensures whole { IfOk result (λ w. (w.ran.ended ≡ Whole)
+        ↔ ((p : ℕ) (t : MeantTime) → slice_get w.ran.clocks.items p ≡ Some t
         → t ≡ end_time (text_job job.now))) }
+    ensures ended { IfOk result (λ w. w.ran.ended ≢ Cut Rounds) }
+    ensures cause { IfOk result (λ w. IsSome w.cause ↔ (w.ran.ended ≡ Cut Stopped)) }
     ensures err { OnErr result (IsBegun (text_job job.now) job.now.tree.now
         (W.contents writer.old) (W.contents writer.new)) }
 {
@@ -149,32 +149,4 @@ fn work_components<R: Threads + Wait + Sync, G: Watch, W: Write>(
     stream_plan_by_workers(
         rt, alloc, job, plan, benches, capacity, watch, job.tree, writer,
     )
-}
-
-// What is known of a run once its lines are printed: it ended as its workers did, and for that cause.
-fn ran_by_workers<C: Drop>(worked: Worked<C>) -> RanByWorkers<C>
-    ensures clocks { result.ran.clocks ≡ worked.clocks }
-    ensures whole { (result.ran.ended ≡ ended.Whole) ↔ (worked.ended ≡ reported.Whole) }
-    ensures ended { result.ran.ended ≢ ended.Stalled }
-    ensures reason { result.ran.ended ≡ by_workers worked.ended }
-    ensures cause { result.cause ≡ cause_of worked.ended }
-    ensures is_told { IsSome result.cause ↔ (result.ran.ended ≡ ended.Stopped) }
-    ensures faults { result.ran.faulted ≡ worked.written.faulted }
-{
-    let Worked {
-        clocks,
-        ended,
-        written,
-    } = worked;
-    let (ended, cause) = match ended {
-        WorkersEnded::Whole => (RanEnded::Whole, None),
-        WorkersEnded::Stopped(cause) => (RanEnded::Stopped, Some(cause)),
-        WorkersEnded::Memory => (RanEnded::Memory, None),
-    };
-    let ran = Ran {
-        clocks,
-        ended,
-        faulted: written.faulted,
-    };
-    RanByWorkers { ran, cause }
 }

@@ -13,18 +13,18 @@ use Rattle.dv_syntax.specs.declared.tree.Model.{Model}
 use Rattle.dv_syntax.specs.declared.tree.Model.TheVariants as model
 use Rattle.dv_gen.specs.ModelCode.{IsCompilable, IsCompilableModel}
 
-model_at : (models : List Model) → All IsCompilableModel (map model_of models) → (place : ℕ) (m : Model)
-    → slice_get models place ≡ Some m → IsCompilableModel (model_of m)
-model_at [] all place m is = absurd (cc)
+model_at : (models : List Model) → All IsCompilableModel (map model_of models) → (index : ℕ) (m : Model)
+    → slice_get models index ≡ Some m → IsCompilableModel (model_of m)
+model_at [] all index m is = absurd (cc)
 model_at (x ∷ models) all zero m is =
     let same : x ≡ m = cc in
     subst (λ y. IsCompilableModel (model_of y)) same (All-head IsCompilableModel (model_of x) (map model_of models) all)
-model_at (x ∷ models) all (suc place) m is =
-    model_at models (All-tail IsCompilableModel (model_of x) (map model_of models) all) place m is
+model_at (x ∷ models) all (suc index) m is =
+    model_at models (All-tail IsCompilableModel (model_of x) (map model_of models) all) index m is
 
-pub compilable_at : (models : List Model) (place : ℕ) (m : DeclaredAtomic) → All IsCompilableModel (map model_of models)
-    → slice_get models place ≡ Some (model.Atomic m) → IsCompilable (atomic_of m)
-compilable_at models place m all is = model_at models all place (model.Atomic m) is
+pub compilable_at : (models : List Model) (index : ℕ) (m : DeclaredAtomic) → All IsCompilableModel (map model_of models)
+    → slice_get models index ≡ Some (model.Atomic m) → IsCompilable (atomic_of m)
+compilable_at models index m all is = model_at models all index (model.Atomic m) is
 
 pub all_compilable : (names : List (List ℕ)) (f : File) (found : Result Checked LoadError)
     → ((texts : List (List ℕ)) (tree : FileTree) → AreOfOneText texts tree → refusal_of tree ≡ None

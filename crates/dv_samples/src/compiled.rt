@@ -35,32 +35,40 @@ pub fn checked(alloc: Global, text: &str) -> Result<Checked, LoadError>
 /// An atomic model with its scope, its start and its programs.
 #[derive(Drop)]
 pub struct Compiled<'a> {
+    /// The tree of the model.
     pub model: &'a Atomic,
+    /// What its names stand for.
     pub scope: Scope,
+    /// The state at the start.
     pub start: State,
+    /// The programs.
     pub code: ModelCode,
 }
 
 /// What a program was made from.
 #[derive(Clone, Copy)]
 pub enum Tree<'a> {
+    /// The statements of a rule.
     Rule(&'a [Stmt]),
+    /// The expression of a hold.
     Hold(&'a Expr),
 }
 
 /// A program and what it was made from.
 #[derive(Drop)]
 pub struct Pair<'a> {
+    /// What the program was made from.
     pub tree: Tree<'a>,
+    /// The program.
     pub program: &'a Valid,
 }
 
-/// The model at a place of a file, if there is an atomic one.
-pub fn atomic_at(checked: &Checked, place: usize) -> Option<&Atomic>
+/// The model at an index of a file, if there is an atomic one.
+pub fn atomic_at(checked: &Checked, index: usize) -> Option<&Atomic>
     requires { All (λ (m : ModelTree). IsCompilableModel m) (file_of checked.now.file).models }
     ensures { IfSome result (λ model. IsCompilable (atomic_of model.now)) }
 {
-    match checked.file.models.get(place) {
+    match checked.file.models.get(index) {
         Some(Model::Atomic(model)) => Some(model),
         _ => None,
     }

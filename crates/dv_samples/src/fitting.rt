@@ -24,8 +24,8 @@ pub fn fits(slots: &[Slot], variables: &Variables) -> bool
     if slots.len() != variables.len() {
         return false;
     }
-    for (place, slot) in slots.iter().enumerate() {
-        if !fits_slot(*slot, variables.get(place)) {
+    for (index, slot) in slots.iter().enumerate() {
+        if !fits_slot(*slot, variables.get(index)) {
             return false;
         }
     }

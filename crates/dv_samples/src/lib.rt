@@ -1,5 +1,11 @@
-//! What tests of programs share: the texts of models, their programs beside the trees that they were made from, states
-//! that fit a program, values that arrive, and runs.
+//! What the tests of programs share.
+//!
+//! `model_texts` are the texts of models, `compile` their programs beside the trees that they were made from,
+//! `state_at` and `deliveries` states that fit a program and values that arrive, and `Runs` runs a program on the
+//! machine. `Random` gives numbers that look random and are the same in each run.
+//!
+//! `dv_lists`, `dv_programs`, `dv_reactions` and `dv_steps` stand on it. No test stands here, and no program of a
+//! user does.
 #![tactic(auto)]
 
 /// From a text to the programs of its atomic models.

@@ -149,7 +149,7 @@ root Top;
 ";
 
 const STORE: &str =
-    "atomic Place { in box; out next; var weight: 0..100 = 0; phases empty, moving; start empty;
+    "atomic Offset { in box; out next; var weight: 0..100 = 0; phases empty, moving; start empty;
     hold empty: forever; hold moving: 4; external empty { weight := most(box); goto moving; }
     external moving { } output moving { send next weight; } internal moving { goto empty; }
     confluent moving { weight := most(box); } }
@@ -158,7 +158,7 @@ atomic Store { in box; out load; bag boxes 20; phases filling, loading; start fi
     if sum(boxes) >= 50 { goto loading; } } external loading { for b in box { add b to boxes; } }
     output loading { for b in boxes { send load b; } } internal loading { for b in boxes {
     drop b from boxes; } goto filling; } }
-coupled Top { part p: Place; part s: Store; }
+coupled Top { part p: Offset; part s: Store; }
 root Top;
 ";
 

@@ -1,4 +1,4 @@
--- What the output functions at the due places give is what all components send.
+-- What the output functions at the due indices give is what all components send.
 use Rattle.std.proofs.Common.{◌≡◌, inl, inr, ℕ, zero, suc, ◌+◌, ◌<◌, true, false, List, [], ◌∷◌, length, get_or, map, take}
 use Rattle.std.proofs.Common.{Option, Some, Result, Ok, Err, IsTrue, refl, sym, ap, ◌∙◌, subst, arith}
 use Rattle.std.specs.List.{All, slice_get}
@@ -14,14 +14,14 @@ use Rattle.dv_react.specs.declared.running.Running.{Running}
 use Rattle.dv_react.specs.declared.wait.Wait.{Wait}
 use Rattle.dv_react.specs.declared.wait.Wait.TheVariants.{Until, Forever, Quiet}
 use Rattle.dv_conservative.specs.Flat.{behaviours}
-use Rattle.dv_share.specs.Places.{AreRising, RiseFrom, found, is_in, places_of}
-use Rattle.dv_share.specs.Share.{AreDue, AreEmitted, StandByPlace, behaviour_of, given_at, member_by, sents_by}
-use Rattle.dv_share.specs.declared.place.Placed.{Placed}
+use Rattle.dv_share.specs.Indices.{AreRising, RiseFrom, found, is_in, indices_of}
+use Rattle.dv_share.specs.Share.{AreDue, AreEmitted, StandByIndex, behaviour_of, given_at, member_by, sents_by}
+use Rattle.dv_share.specs.declared.index.Indexed.{Indexed}
 use Rattle.dv_share.specs.declared.tables.Member.{Member}
 use Rattle.dv_share.specs.declared.tables.Tables.{Tables}
-use Rattle.dv_share.proofs.Places.{all_first, all_rest, found_all, found_none, some_or_none, yes_or_no}
+use Rattle.dv_share.proofs.Indices.{all_first, all_rest, found_all, found_none, some_or_none, yes_or_no}
 
--- what a component's output function gave, at its place
+-- what a component's output function gave, at its index
 abbrev pub IsGiven : {S : Type 0} → (S → Behaviour) → Tables S → ℕ → List Running → ℕ → Result (List Counts) Fault → Type 0
 IsGiven behaviour t now rs p w =
     (m : Member) (r : Running) → slice_get t.members.items p ≡ Some m → slice_get rs p ≡ Some r
@@ -75,7 +75,7 @@ map_all {X} {Y} f P (x ∷ xs) h = λ k d lt. by_index (map_all f P xs (all_rest
     by_index rest zero d lt = all_first (λ x. P (f x)) x xs h
     by_index rest (suc k) d lt = rest k d (omega (arith, lt))
 
-module _ {S : Type 0} (behaviour : S → Behaviour) (limit now : ℕ) (models : List S) (es : List (Placed (Result (List Counts) Fault))) where
+module _ {S : Type 0} (behaviour : S → Behaviour) (limit now : ℕ) (models : List S) (es : List (Indexed (Result (List Counts) Fault))) where
   emissions_are : (q : ℕ) (ms : List Member) (rs : List Running) → length rs ≡ length ms →
       ((p : ℕ) (m : Member) (r : Running) → slice_get ms p ≡ Some m → slice_get rs p ≡ Some r →
       given_at (q + p) es ≡ emission (behaviour_of behaviour (slice_get models m.model)) now (component_of limit r)) →
@@ -93,25 +93,25 @@ module _ {S : Type 0} (behaviour : S → Behaviour) (limit now : ℕ) (models : 
       ∙ ap (λ (xs : List (List Counts)). sent_of (given_at q es) ∷ xs) rest
 
 module _ {S : Type 0} (behaviour : S → Behaviour) (t : Tables S) (now : ℕ) (rs : List Running)
-    (es : List (Placed (Result (List Counts) Fault))) (due : List ℕ) where
-  pub emitted_all : length rs ≡ length t.members.items → AreDue t.limit now rs due → places_of es ≡ due →
-      All (λ (e : Placed (Result (List Counts) Fault)). IsGiven behaviour t now rs e.place e.what) es → AreEmitted behaviour t now rs es
+    (es : List (Indexed (Result (List Counts) Fault))) (due : List ℕ) where
+  pub emitted_all : length rs ≡ length t.members.items → AreDue t.limit now rs due → indices_of es ≡ due →
+      All (λ (e : Indexed (Result (List Counts) Fault)). IsGiven behaviour t now rs e.index e.what) es → AreEmitted behaviour t now rs es
   emitted_all count are_due same given = record {
-    places = record {
+    indices = record {
       rise = subst AreRising (sym same) are_due.rise;
-      within = all_map (λ (e : Placed (Result (List Counts) Fault)). e.place) (λ p. p < length rs) es
+      within = all_map (λ (e : Indexed (Result (List Counts) Fault)). e.index) (λ p. p < length rs) es
           (subst (λ (ps : List ℕ). All (λ p. p < length rs) ps) (sym same) are_due.within);
     };
     imminent = λ p r at soon. subst (λ (ps : List ℕ). IsTrue (is_in p ps)) (sym same) (are_due.imminent p r at soon);
-    given = at_place;
+    given = at_index;
     sent =
         emissions_are behaviour t.limit now t.models.items es 0 t.members.items rs count
-        (λ p m r at-m at-r. (let start : 0 + p ≡ p = omega arith in ap (λ (i : ℕ). given_at i es) start) ∙ at_place p m r at-m at-r);
+        (λ p m r at-m at-r. (let start : 0 + p ≡ p = omega arith in ap (λ (i : ℕ). given_at i es) start) ∙ at_index p m r at-m at-r);
   }
     where
-      at_place : (p : ℕ) (m : Member) (r : Running) → slice_get t.members.items p ≡ Some m → slice_get rs p ≡ Some r →
+      at_index : (p : ℕ) (m : Member) (r : Running) → slice_get t.members.items p ≡ Some m → slice_get rs p ≡ Some r →
           given_at p es ≡ emission (behaviour_of behaviour (slice_get t.models.items m.model)) now (component_of t.limit r)
-      at_place p m r at-m at-r = elim (some_or_none (found p es)) [
+      at_index p m r at-m at-r = elim (some_or_none (found p es)) [
         | inl w ↦
             ap (λ (o : Option (Result (List Counts) Fault)). unwrap_or o (Ok [])) w.1
             ∙ found_all (IsGiven behaviour t now rs) p w.0 es given w.1 m r at-m at-r
@@ -144,12 +144,12 @@ all_take {X} P (suc i) (x ∷ xs) h = by_index (all_take P i xs (all_rest P x xs
     by_index rest zero d lt = all_first P x xs h
     by_index rest (suc k) d lt = rest k d (omega (arith, lt))
 
--- what stands at the first of the places that are due stands by place
-pub first_stand : {X : Type 0} (count i : ℕ) (due : List ℕ) (es : List (Placed X)) → AreRising due → All (λ p. p < count) due →
-    places_of es ≡ take i due → StandByPlace count es
+-- what stands at the first of the indices that are due stands by index
+pub first_stand : {X : Type 0} (count i : ℕ) (due : List ℕ) (es : List (Indexed X)) → AreRising due → All (λ p. p < count) due →
+    indices_of es ≡ take i due → StandByIndex count es
 first_stand {X} count i due es rise within same = record {
   rise = subst AreRising (sym same) (rise_take 0 i due rise);
   within =
-      all_map (λ (e : Placed X). e.place) (λ p. p < count) es
+      all_map (λ (e : Indexed X). e.index) (λ p. p < count) es
       (subst (λ (ps : List ℕ). All (λ p. p < count) ps) (sym same) (all_take (λ p. p < count) i due within));
 }

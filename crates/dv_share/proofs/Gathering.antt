@@ -1,4 +1,4 @@
--- What is gathered of deliveries by place, one after the other.
+-- What is gathered of deliveries by index, one after the other.
 use Rattle.std.proofs.Common.{◌≡◌, ◌⊎◌, inl, inr, ℕ, zero, suc, ◌+◌, ◌<◌, ◌≤◌, Bool, true, false, ◌||◌, cond, nat_eq, List, [], ◌∷◌}
 use Rattle.std.proofs.Common.{◌++◌, length, get_or, set, map, replicate, IsPermutation, IsTrue, Some, refl, sym, ap, ◌∙◌, subst, arith}
 use Rattle.std.specs.List.{All, slice_get}
@@ -11,22 +11,22 @@ use Rattle.std.proofs.lemmas.Option.{same_Some, slice_get-get_or, slice_get_with
 use Rattle.dv_bag.specs.Bag.{Counts, bag_at, with_copies}
 use Rattle.dv_devs.specs.Behaviour.{all_empty}
 use Rattle.dv_conservative.specs.Links.{Delivery as Meant}
-use Rattle.dv_share.specs.Places.{AreRising, RiseFrom, is_in, places_of}
-use Rattle.dv_share.specs.Received.{AreGathered, count_in, with_delivery_at, with_place}
+use Rattle.dv_share.specs.Indices.{AreRising, RiseFrom, is_in, indices_of}
+use Rattle.dv_share.specs.Received.{AreGathered, count_in, with_delivery_at, with_index}
 use Rattle.dv_share.specs.Share.{AreAmong, AreReceived, inbox_of, numbers_of}
-use Rattle.dv_share.specs.declared.place.Placed.{Placed}
+use Rattle.dv_share.specs.declared.index.Indexed.{Indexed}
 use Rattle.dv_share.specs.declared.tables.Member.{Member}
 use Rattle.dv_share.proofs.Inboxes.{inbox_length, inbox_missed, inbox_nothing, inbox_step}
 use Rattle.dv_share.proofs.Order.{rise_at}
-use Rattle.dv_share.proofs.Places.{in_push, yes_or_no}
+use Rattle.dv_share.proofs.Indices.{in_push, yes_or_no}
 
 false_true : false ≡ true → ⊥
 false_true h = cc
 
--- components of the same number stand at the same place
-pub same_place : (ms : List Member) (p q : ℕ) (m n : Member) → AreRising (numbers_of ms) → slice_get ms p ≡ Some m → slice_get ms q ≡ Some n
+-- components of the same number stand at the same index
+pub same_index : (ms : List Member) (p q : ℕ) (m n : Member) → AreRising (numbers_of ms) → slice_get ms p ≡ Some m → slice_get ms q ≡ Some n
     → m.number ≡ n.number → p ≡ q
-same_place ms p q m n up at-m at-n same =
+same_index ms p q m n up at-m at-n same =
     let number = λ (m : Member). m.number in
     let here = ap number (same_Some _ m (sym (slice_get-get_or ms p m (slice_get_within ms p m at-m)) ∙ at-m)) in
     let there = ap number (same_Some _ n (sym (slice_get-get_or ms q m (slice_get_within ms q n at-n)) ∙ at-n)) in
@@ -108,31 +108,31 @@ gathered_new ms = record {
   rest = λ p m at out. inbox_nothing m.number 0 m.inputs;
 }
 
-places_push : (p : ℕ) (what : List Counts) (xs : List (Placed (List Counts)))
-    → places_of (xs ++ record { place = p; what = what } ∷ []) ≡ places_of xs ++ p ∷ []
-places_push p what xs = map-append (λ (x : Placed (List Counts)). x.place) xs (record { place = p; what = what } ∷ [])
+indices_push : (p : ℕ) (what : List Counts) (xs : List (Indexed (List Counts)))
+    → indices_of (xs ++ record { index = p; what = what } ∷ []) ≡ indices_of xs ++ p ∷ []
+indices_push p what xs = map-append (λ (x : Indexed (List Counts)). x.index) xs (record { index = p; what = what } ∷ [])
 
 neither : (t u : Bool) → (t || u) ≡ false → (t ≡ false) × (u ≡ false)
 neither true u h = absurd (false_true (sym h))
 neither false u h = (refl, h)
 
--- what stands at one place more
-pub gathered_met : (ms : List Member) (ds : List Meant) (p : ℕ) (m : Member) (xs : List (Placed (List Counts))) → slice_get ms p ≡ Some m →
-    AreGathered ms ds xs → AreGathered ms ds (with_place p m.inputs xs)
-gathered_met ms ds p m xs at h = elim (yes_or_no (is_in p (places_of xs))) [
+-- what stands at one index more
+pub gathered_met : (ms : List Member) (ds : List Meant) (p : ℕ) (m : Member) (xs : List (Indexed (List Counts))) → slice_get ms p ≡ Some m →
+    AreGathered ms ds xs → AreGathered ms ds (with_index p m.inputs xs)
+gathered_met ms ds p m xs at h = elim (yes_or_no (is_in p (indices_of xs))) [
   | inl e ↦ rw e h
   | inr e ↦ rw e (record {
-    within = All-push (λ (x : Placed (List Counts)). x.place < length ms) xs (record { place = p; what = replicate m.inputs [] }) h.within
+    within = All-push (λ (x : Indexed (List Counts)). x.index < length ms) xs (record { index = p; what = replicate m.inputs [] }) h.within
         (slice_get_within ms p m at);
     bags =
-        All-push (λ (x : Placed (List Counts)). (n : Member) → slice_get ms x.place ≡ Some n → x.what ≡ inbox_of n ds) xs
-        (record { place = p; what = replicate m.inputs [] }) h.bags
+        All-push (λ (x : Indexed (List Counts)). (n : Member) → slice_get ms x.index ≡ Some n → x.what ≡ inbox_of n ds) xs
+        (record { index = p; what = replicate m.inputs [] }) h.bags
         (λ n at-n.
         let same : m ≡ n = same_Some m n (sym at ∙ at-n) in
         sym (h.rest p n at-n e ∙ ap (λ (m : Member). replicate m.inputs []) (sym same)));
     rest = λ q n at-n out.
-        h.rest q n at-n (neither (is_in q (places_of xs)) (nat_eq p q)
-        (sym (ap (is_in q) (places_push p (replicate m.inputs []) xs) ∙ in_push q p (places_of xs)) ∙ out)).0;
+        h.rest q n at-n (neither (is_in q (indices_of xs)) (nat_eq p q)
+        (sym (ap (is_in q) (indices_push p (replicate m.inputs []) xs) ∙ in_push q p (indices_of xs)) ∙ out)).0;
   })
 ]
 
@@ -140,27 +140,27 @@ either_or : (t : Bool) → (t || true) ≡ true
 either_or true = refl
 either_or false = refl
 
--- the places are those that were there, and the one
-pub among_met : (p n : ℕ) (xs : List (Placed (List Counts))) → AreAmong (places_of xs) (places_of (with_place p n xs))
-among_met p n xs q here = elim (yes_or_no (is_in p (places_of xs))) [
+-- the indices are those that were there, and the one
+pub among_met : (p n : ℕ) (xs : List (Indexed (List Counts))) → AreAmong (indices_of xs) (indices_of (with_index p n xs))
+among_met p n xs q here = elim (yes_or_no (is_in p (indices_of xs))) [
   | inl e ↦ rw e here
-  | inr e ↦ rw e (ap (is_in q) (places_push p (replicate n []) xs) ∙ in_push q p (places_of xs) ∙ rw here refl)
+  | inr e ↦ rw e (ap (is_in q) (indices_push p (replicate n []) xs) ∙ in_push q p (indices_of xs) ∙ rw here refl)
 ]
 
-pub is_met : (p n : ℕ) (xs : List (Placed (List Counts))) → IsTrue (is_in p (places_of (with_place p n xs)))
-is_met p n xs = elim (yes_or_no (is_in p (places_of xs))) [
+pub is_met : (p n : ℕ) (xs : List (Indexed (List Counts))) → IsTrue (is_in p (indices_of (with_index p n xs)))
+is_met p n xs = elim (yes_or_no (is_in p (indices_of xs))) [
   | inl e ↦ rw e e
-  | inr e ↦ rw e (ap (is_in p) (places_push p (replicate n []) xs) ∙ in_push p p (places_of xs)
-      ∙ rw (eq-eqb p p refl) (either_or (is_in p (places_of xs))))
+  | inr e ↦ rw e (ap (is_in p) (indices_push p (replicate n []) xs) ∙ in_push p p (indices_of xs)
+      ∙ rw (eq-eqb p p refl) (either_or (is_in p (indices_of xs))))
 ]
 
 -- a delivery that is for no port of these components
-pub gathered_missed : (ms : List Member) (ds : List Meant) (d : Meant) (xs : List (Placed (List Counts))) →
+pub gathered_missed : (ms : List Member) (ds : List Meant) (d : Meant) (xs : List (Indexed (List Counts))) →
     ((p : ℕ) (m : Member) → slice_get ms p ≡ Some m → m.number ≡ d.component → d.port < m.inputs → ⊥) → AreGathered ms ds xs
     → AreGathered ms (ds ++ d ∷ []) xs
 gathered_missed ms ds d xs none h = record {
   within = h.within;
-  bags = λ i x lt m at. h.bags i x lt m at ∙ sym (same (get_or xs i x).place m at);
+  bags = λ i x lt m at. h.bags i x lt m at ∙ sym (same (get_or xs i x).index m at);
   rest = λ p m at out. same p m at ∙ h.rest p m at out;
 }
   where
@@ -168,111 +168,111 @@ gathered_missed ms ds d xs none h = record {
     same p m at = inbox_missed m.number ds d 0 m.inputs
         (λ port le lt own e. none p m at (sym own) (omega (arith, lt, e)))
 
-places_kept : (p : ℕ) (d : Meant) (xs : List (Placed (List Counts))) → places_of (map (with_delivery_at p d) xs) ≡ places_of xs
-places_kept p d [] = refl
-places_kept p d (x ∷ xs) =
-    ap (λ (q : ℕ). q ∷ places_of (map (with_delivery_at p d) xs)) (kept (nat_eq x.place p))
-    ∙ ap (λ (qs : List ℕ). x.place ∷ qs) (places_kept p d xs)
+indices_kept : (p : ℕ) (d : Meant) (xs : List (Indexed (List Counts))) → indices_of (map (with_delivery_at p d) xs) ≡ indices_of xs
+indices_kept p d [] = refl
+indices_kept p d (x ∷ xs) =
+    ap (λ (q : ℕ). q ∷ indices_of (map (with_delivery_at p d) xs)) (kept (nat_eq x.index p))
+    ∙ ap (λ (qs : List ℕ). x.index ∷ qs) (indices_kept p d xs)
   where
-    kept : (t : Bool) → (cond t (record { place = x.place; what = set x.what d.port (with_copies d.value d.copies (bag_at x.what d.port)) }) x).place
-        ≡ x.place
+    kept : (t : Bool) → (cond t (record { index = x.index; what = set x.what d.port (with_copies d.value d.copies (bag_at x.what d.port)) }) x).index
+        ≡ x.index
     kept true = refl
     kept false = refl
 
-pub among_put : (p : ℕ) (d : Meant) (xs : List (Placed (List Counts))) → AreAmong (places_of xs) (places_of (map (with_delivery_at p d) xs))
-among_put p d xs q here = ap (is_in q) (places_kept p d xs) ∙ here
+pub among_put : (p : ℕ) (d : Meant) (xs : List (Indexed (List Counts))) → AreAmong (indices_of xs) (indices_of (map (with_delivery_at p d) xs))
+among_put p d xs q here = ap (is_in q) (indices_kept p d xs) ∙ here
 
--- a delivery for a port of a component whose place is there
-pub gathered_put : (ms : List Member) (ds : List Meant) (d : Meant) (p : ℕ) (m : Member) (xs : List (Placed (List Counts))) →
+-- a delivery for a port of a component whose index is there
+pub gathered_put : (ms : List Member) (ds : List Meant) (d : Meant) (p : ℕ) (m : Member) (xs : List (Indexed (List Counts))) →
     AreRising (numbers_of ms) → slice_get ms p ≡ Some m → m.number ≡ d.component → d.port < m.inputs
-    → IsTrue (is_in p (places_of xs)) → AreGathered ms ds xs
+    → IsTrue (is_in p (indices_of xs)) → AreGathered ms ds xs
     → AreGathered ms (ds ++ d ∷ []) (map (with_delivery_at p d) xs)
 gathered_put ms ds d p m xs up at number lt here h = record {
   within = λ i x less.
       let early : i < length xs = subst (λ n. i < n) (length-map xs (with_delivery_at p d)) less in
-      subst (λ (y : Placed (List Counts)). y.place < length ms) (sym (get_or-map (with_delivery_at p d) xs i x x early))
-      (subst (λ q. q < length ms) (sym (place_kept (get_or xs i x))) (h.within i x early));
+      subst (λ (y : Indexed (List Counts)). y.index < length ms) (sym (get_or-map (with_delivery_at p d) xs i x x early))
+      (subst (λ q. q < length ms) (sym (index_kept (get_or xs i x))) (h.within i x early));
   bags = λ i x less n at-n.
       let early : i < length xs = subst (λ n. i < n) (length-map xs (with_delivery_at p d)) less in
       let is = get_or-map (with_delivery_at p d) xs i x x early in
-      ap (λ (y : Placed (List Counts)). y.what) is
+      ap (λ (y : Indexed (List Counts)). y.what) is
       ∙ put_here (get_or xs i x) n
-      (sym (ap (slice_get ms) (ap (λ (y : Placed (List Counts)). y.place) is ∙ place_kept (get_or xs i x))) ∙ at-n)
+      (sym (ap (slice_get ms) (ap (λ (y : Indexed (List Counts)). y.index) is ∙ index_kept (get_or xs i x))) ∙ at-n)
       (h.bags i x early n);
   rest = λ q n at-n out.
-      let before : is_in q (places_of xs) ≡ false = sym (ap (is_in q) (places_kept p d xs)) ∙ out in
-      missed q n at-n (λ same. false_true (sym before ∙ subst (λ r. is_in r (places_of xs) ≡ true) (sym same) here))
+      let before : is_in q (indices_of xs) ≡ false = sym (ap (is_in q) (indices_kept p d xs)) ∙ out in
+      missed q n at-n (λ same. false_true (sym before ∙ subst (λ r. is_in r (indices_of xs) ≡ true) (sym same) here))
       ∙ h.rest q n at-n before;
 }
   where
-    place_kept : (x : Placed (List Counts)) → (with_delivery_at p d x).place ≡ x.place
-    place_kept x = kept (nat_eq x.place p)
+    index_kept : (x : Indexed (List Counts)) → (with_delivery_at p d x).index ≡ x.index
+    index_kept x = kept (nat_eq x.index p)
       where
         kept : (t : Bool)
-            → (cond t (record { place = x.place; what = set x.what d.port (with_copies d.value d.copies (bag_at x.what d.port)) }) x).place
-            ≡ x.place
+            → (cond t (record { index = x.index; what = set x.what d.port (with_copies d.value d.copies (bag_at x.what d.port)) }) x).index
+            ≡ x.index
         kept true = refl
         kept false = refl
 
     -- the delivery is for no other component
     missed : (q : ℕ) (n : Member) → slice_get ms q ≡ Some n → (q ≡ p → ⊥) → inbox_of n (ds ++ d ∷ []) ≡ inbox_of n ds
     missed q n at-n apart = inbox_missed n.number ds d 0 n.inputs
-        (λ port le less own e. apart (same_place ms q p n m up at-n at (sym own ∙ sym number)))
+        (λ port le less own e. apart (same_index ms q p n m up at-n at (sym own ∙ sym number)))
 
-    put_here : (x : Placed (List Counts)) (n : Member) → slice_get ms x.place ≡ Some n
-        → (slice_get ms x.place ≡ Some n → x.what ≡ inbox_of n ds) →
+    put_here : (x : Indexed (List Counts)) (n : Member) → slice_get ms x.index ≡ Some n
+        → (slice_get ms x.index ≡ Some n → x.what ≡ inbox_of n ds) →
         (with_delivery_at p d x).what ≡ inbox_of n (ds ++ d ∷ [])
-    put_here x n at-n is = elim (yes_or_no (nat_eq x.place p)) [
+    put_here x n at-n is = elim (yes_or_no (nat_eq x.index p)) [
       | inl e ↦
-          let same : m ≡ n = same_Some m n (sym at ∙ ap (slice_get ms) (sym (eqb-true x.place p e)) ∙ at-n) in
+          let same : m ≡ n = same_Some m n (sym at ∙ ap (slice_get ms) (sym (eqb-true x.index p e)) ∙ at-n) in
           let own : d.component ≡ n.number = sym number ∙ ap (λ (m : Member). m.number) same in
           rw e (ap (λ (bags : List Counts). set bags d.port (with_copies d.value d.copies (get_or bags d.port []))) (is at-n)
           ∙ sym (inbox_step n.number ds d 0 n.inputs d.port own (omega arith)))
-      | inr e ↦ rw e (is at-n ∙ sym (missed x.place n at-n (λ same. false_true (sym e ∙ eq-eqb x.place p same))))
+      | inr e ↦ rw e (is at-n ∙ sym (missed x.index n at-n (λ same. false_true (sym e ∙ eq-eqb x.index p same))))
     ]
 
--- the bags of a component at whose place something stands have its ports
-pub ports_there : (ms : List Member) (ds : List Meant) (p : ℕ) (m : Member) (port : ℕ) (xs : List (Placed (List Counts))) →
+-- the bags of a component at whose index something stands have its ports
+pub ports_there : (ms : List Member) (ds : List Meant) (p : ℕ) (m : Member) (port : ℕ) (xs : List (Indexed (List Counts))) →
     slice_get ms p ≡ Some m → port < m.inputs → AreGathered ms ds xs
-    → All (λ (x : Placed (List Counts)). x.place ≡ p → port < length x.what) xs
+    → All (λ (x : Indexed (List Counts)). x.index ≡ p → port < length x.what) xs
 ports_there ms ds p m port xs at lt h i x early same =
     let is = h.bags i x early m (ap (slice_get ms) same ∙ at) in
     omega (arith, lt, ap length is, inbox_length m.number ds 0 m.inputs)
 
--- what is gathered, in the order of places, is received
-pub gathered_all : (ms : List Member) (ds : List Meant) (xs ys : List (Placed (List Counts))) → AreRising (places_of ys) → IsPermutation xs ys
+-- what is gathered, in the order of indices, is received
+pub gathered_all : (ms : List Member) (ds : List Meant) (xs ys : List (Indexed (List Counts))) → AreRising (indices_of ys) → IsPermutation xs ys
     → AreGathered ms ds xs → AreReceived ms ds ys
 gathered_all ms ds xs ys up same h = record {
-  places = record {
+  indices = record {
     rise = up;
-    within = All-permutation (λ (x : Placed (List Counts)). x.place < length ms) xs ys same h.within;
+    within = All-permutation (λ (x : Indexed (List Counts)). x.index < length ms) xs ys same h.within;
   };
-  bags = All-permutation (λ (x : Placed (List Counts)). (m : Member) → slice_get ms x.place ≡ Some m → x.what ≡ inbox_of m ds) xs ys same h.bags;
+  bags = All-permutation (λ (x : Indexed (List Counts)). (m : Member) → slice_get ms x.index ≡ Some m → x.what ≡ inbox_of m ds) xs ys same h.bags;
   rest = λ p m at out. subst (λ (bags : List Counts). IsTrue (all_empty bags))
-      (sym (h.rest p m at (moved_out p (yes_or_no (is_in p (places_of xs))) out))) (empty m.inputs);
+      (sym (h.rest p m at (moved_out p (yes_or_no (is_in p (indices_of xs))) out))) (empty m.inputs);
 }
   where
     empty : (n : ℕ) → IsTrue (all_empty (replicate n []))
     empty zero = refl
     empty (suc n) = empty n
 
-    moved : (p : ℕ) → count_in p (places_of ys) ≡ count_in p (places_of xs)
-    moved p = sum_by-IsPermutation (λ (q : ℕ). one_if (nat_eq q p)) (places_of xs) (places_of ys)
-        (IsPermutation-map (λ (x : Placed (List Counts)). x.place) xs ys same)
+    moved : (p : ℕ) → count_in p (indices_of ys) ≡ count_in p (indices_of xs)
+    moved p = sum_by-IsPermutation (λ (q : ℕ). one_if (nat_eq q p)) (indices_of xs) (indices_of ys)
+        (IsPermutation-map (λ (x : Indexed (List Counts)). x.index) xs ys same)
 
-    moved_out : (p : ℕ) → (is_in p (places_of xs) ≡ true) ⊎ (is_in p (places_of xs) ≡ false) → is_in p (places_of ys) ≡ false
-        → is_in p (places_of xs) ≡ false
+    moved_out : (p : ℕ) → (is_in p (indices_of xs) ≡ true) ⊎ (is_in p (indices_of xs) ≡ false) → is_in p (indices_of ys) ≡ false
+        → is_in p (indices_of xs) ≡ false
     moved_out p (inr e) out = e
     moved_out p (inl e) out =
-        absurd (omega (arith, counted_some p (places_of xs) e, counted_none p (places_of ys) out, moved p))
+        absurd (omega (arith, counted_some p (indices_of xs) e, counted_none p (indices_of ys) out, moved p))
 
-pub among_moved : (xs ys : List (Placed (List Counts))) → IsPermutation xs ys → AreAmong (places_of xs) (places_of ys)
-among_moved xs ys same p here = elim (yes_or_no (is_in p (places_of ys))) [
+pub among_moved : (xs ys : List (Indexed (List Counts))) → IsPermutation xs ys → AreAmong (indices_of xs) (indices_of ys)
+among_moved xs ys same p here = elim (yes_or_no (is_in p (indices_of ys))) [
   | inl e ↦ e
   | inr out ↦
-      let moved = sum_by-IsPermutation (λ (q : ℕ). one_if (nat_eq q p)) (places_of xs) (places_of ys)
-      (IsPermutation-map (λ (x : Placed (List Counts)). x.place) xs ys same) in
-      absurd (omega (arith, counted_some p (places_of xs) here, counted_none p (places_of ys) out, moved))
+      let moved = sum_by-IsPermutation (λ (q : ℕ). one_if (nat_eq q p)) (indices_of xs) (indices_of ys)
+      (IsPermutation-map (λ (x : Indexed (List Counts)). x.index) xs ys same) in
+      absurd (omega (arith, counted_some p (indices_of xs) here, counted_none p (indices_of ys) out, moved))
 ]
 
 pub among_all : (ps qs rs : List ℕ) → AreAmong ps qs → AreAmong qs rs → AreAmong ps rs

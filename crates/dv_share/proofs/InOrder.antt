@@ -1,20 +1,20 @@
--- The places of the receipts that are met, in their order.
+-- The indices of the receipts that are met, in their order.
 use Rattle.std.proofs.Common.{◌≡◌, inl, inr, ℕ, zero, suc, ◌+◌, ◌<◌, ◌≤◌, true, false, nat_eq, List, [], ◌∷◌, ◌++◌}
 use Rattle.std.proofs.Common.{length, IsPermutation, refl, sym, ap, ◌∙◌, subst, arith}
 use Rattle.std.proofs.lemmas.Bool.{cases_lt, eqb-true}
 use Rattle.std.proofs.lemmas.List.Sorted.{IsPermutation-cons, IsPermutation-middle, IsPermutation-refl, IsPermutation-sym, IsPermutation-trans}
 use Rattle.std.proofs.lemmas.List.Sorted.{sum_by-IsPermutation}
-use Rattle.dv_share.specs.Places.{AreRising, RiseFrom, is_in, places_of}
-use Rattle.dv_share.specs.Received.{AreMet, count_in, met_of, placed_at, receipt_at}
+use Rattle.dv_share.specs.Indices.{AreRising, RiseFrom, is_in, indices_of}
+use Rattle.dv_share.specs.Received.{AreMet, count_in, met_of, indexed_at, receipt_at}
 use Rattle.dv_share.specs.declared.received.Receipt.{Receipt}
 use Rattle.dv_share.proofs.Gathering.{count_cons, counted_none, one_if}
-use Rattle.dv_share.proofs.MetPlaces.{count_past, met_moved, places_met}
-use Rattle.dv_share.proofs.Places.{differ, itself, not_below, weaken, yes_or_no}
+use Rattle.dv_share.proofs.MetIndices.{count_past, met_moved, indices_met}
+use Rattle.dv_share.proofs.Indices.{differ, itself, not_below, weaken, yes_or_no}
 
 false_true : false ≡ true → ⊥
 false_true h = cc
 
--- a list with a number in it, at the first place where it stands
+-- a list with a number in it, at the first index where it stands
 record Parted (p : ℕ) (ps : List ℕ) : Type 0 where
   before : List ℕ
   behind : List ℕ
@@ -52,14 +52,14 @@ same_counts (p ∷ ps) qs h = elim (yes_or_no (is_in p qs)) [
       (IsPermutation-sym qs (p ∷ rest) middle)
 ]
 
--- each receipt stands at its own place, from a place on
+-- each receipt stands at its own index, from an index on
 abbrev OwnFrom : ℕ → List Receipt → Type 0
-OwnFrom low rs = (i : ℕ) → i < length rs → (receipt_at rs i).placed.place ≡ low + i
+OwnFrom low rs = (i : ℕ) → i < length rs → (receipt_at rs i).indexed.index ≡ low + i
 
 own_rest : (low : ℕ) (r : Receipt) (rs : List Receipt) → OwnFrom low (r ∷ rs) → OwnFrom (suc low) rs
 own_rest low r rs own i lt = omega (arith, own (suc i) (omega (arith, lt)))
 
-own_first : (low : ℕ) (r : Receipt) (rs : List Receipt) → OwnFrom low (r ∷ rs) → r.placed.place ≡ low
+own_first : (low : ℕ) (r : Receipt) (rs : List Receipt) → OwnFrom low (r ∷ rs) → r.indexed.index ≡ low
 own_first low r rs own = omega (arith, own 0 (omega arith))
 
 rise_from : (low : ℕ) (rs : List Receipt) → OwnFrom low rs → RiseFrom low (met_of rs)
@@ -72,13 +72,13 @@ rise_from low (r ∷ rs) own =
       | inr e ↦ rw e (weaken (suc low) low (met_of rs) (omega arith) rest)
     ]
 
--- no place past the receipts is among them
+-- no index past the receipts is among them
 out_past : (low : ℕ) (rs : List Receipt) → OwnFrom low rs → (p : ℕ) → low + length rs ≤ p → is_in p (met_of rs) ≡ false
 out_past low [] own p past = refl
 out_past low (r ∷ rs) own p past =
     let first = own_first low r rs own in
     let rest = out_past (suc low) rs (own_rest low r rs own) p (omega (arith, past)) in
-    let apart : nat_eq r.placed.place p ≡ false = differ r.placed.place p (λ e. absurd (omega (arith, e, first, past))) in
+    let apart : nat_eq r.indexed.index p ≡ false = differ r.indexed.index p (λ e. absurd (omega (arith, e, first, past))) in
     elim (yes_or_no r.is_met) [
       | inl e ↦ rw e (rw apart rest)
       | inr e ↦ rw e rest
@@ -93,9 +93,9 @@ counted low (r ∷ rs) own zero lt =
     counted_none (low + 0) (met_of rs) (not_below (suc low) (low + 0) (met_of rs) (rise_from (suc low) rs (own_rest low r rs own)) (omega arith)) in
     elim (yes_or_no r.is_met) [
       | inl e ↦
-          let here : nat_eq r.placed.place (low + 0) ≡ true =
+          let here : nat_eq r.indexed.index (low + 0) ≡ true =
           ap (λ (k : ℕ). nat_eq k (low + 0)) (own 0 (omega arith)) ∙ itself (low + 0) in
-          rw e (count_cons (low + 0) r.placed.place (met_of rs) ∙ omega (arith, none, ap one_if here))
+          rw e (count_cons (low + 0) r.indexed.index (met_of rs) ∙ omega (arith, none, ap one_if here))
       | inr e ↦ rw e none
     ]
 counted low (r ∷ rs) own (suc i) lt =
@@ -103,10 +103,10 @@ counted low (r ∷ rs) own (suc i) lt =
     let next : low + suc i ≡ suc low + i = omega arith in
     let rest : count_in (low + suc i) (met_of rs) ≡ one_if (receipt_at rs i).is_met =
     ap (λ (p : ℕ). count_in p (met_of rs)) next ∙ counted (suc low) rs (own_rest low r rs own) i (omega (arith, lt)) in
-    let apart : nat_eq r.placed.place (low + suc i) ≡ false =
-    differ r.placed.place (low + suc i) (λ e. absurd (omega (arith, e, first))) in
+    let apart : nat_eq r.indexed.index (low + suc i) ≡ false =
+    differ r.indexed.index (low + suc i) (λ e. absurd (omega (arith, e, first))) in
     elim (yes_or_no r.is_met) [
-      | inl e ↦ rw e (count_cons (low + suc i) r.placed.place (met_of rs) ∙ omega (arith, rest, ap one_if apart))
+      | inl e ↦ rw e (count_cons (low + suc i) r.indexed.index (met_of rs) ∙ omega (arith, rest, ap one_if apart))
       | inr e ↦ rw e rest
     ]
 
@@ -114,7 +114,7 @@ module _ (receipts : List Receipt) (ps : List ℕ) (h : AreMet receipts ps) wher
   own : OwnFrom 0 receipts
   own i lt = omega (arith, h.own i lt)
 
-  -- the places that are met, in another order
+  -- the indices that are met, in another order
   pub met_same : IsPermutation ps (met_of receipts)
   met_same = same_counts ps (met_of receipts) (λ p. elim (cases_lt p (length receipts)) [
     | inl lt ↦
@@ -128,5 +128,5 @@ module _ (receipts : List Receipt) (ps : List ℕ) (h : AreMet receipts ps) wher
   pub met_in_order : AreMet receipts (met_of receipts)
   met_in_order = met_moved receipts ps (met_of receipts) h met_same
 
-  pub met_of_rise : AreRising (places_of (placed_at receipts (met_of receipts)))
-  met_of_rise = subst AreRising (sym (places_met receipts (met_of receipts) met_in_order)) (rise_from 0 receipts own)
+  pub met_of_rise : AreRising (indices_of (indexed_at receipts (met_of receipts)))
+  met_of_rise = subst AreRising (sym (indices_met receipts (met_of receipts) met_in_order)) (rise_from 0 receipts own)

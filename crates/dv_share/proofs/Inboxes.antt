@@ -7,7 +7,7 @@ use Rattle.dv_bag.proofs.Monoid.{copies_capped}
 use Rattle.dv_devs.specs.Network.{outer_from}
 use Rattle.dv_conservative.specs.Links.{Delivery, delivered, inbox, taken}
 use Rattle.dv_conservative.proofs.Delivered.{delivered-append, delivered_either}
-use Rattle.dv_share.proofs.Places.{differ, yes_or_no}
+use Rattle.dv_share.proofs.Indices.{differ, yes_or_no}
 
 pub union_one : (v : ℤ) (n : ℕ) (b : Counts) → union b (with_copies v n []) ≡ with_copies v n b
 union_one v zero b = refl

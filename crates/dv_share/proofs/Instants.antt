@@ -17,15 +17,15 @@ use Rattle.dv_react.specs.declared.running.Running.{Running}
 use Rattle.dv_conservative.specs.Flat.{behaviours, network, numbers, received as received_by}
 use Rattle.dv_conservative.specs.Links.{Delivery, carried, sent_of as sent_from}
 use Rattle.dv_share.specs.Outcomes.{IsOutcome, IsOutcomeOf, behaviour_in}
-use Rattle.dv_share.specs.Places.{AreRising, found, is_in, places_of}
+use Rattle.dv_share.specs.Indices.{AreRising, found, is_in, indices_of}
 use Rattle.dv_share.specs.Share.{AreAmong, AreComponents, AreEmitted, AreOutcomes, AreReceived, FitsAt, behaviour_of, coming}
 use Rattle.dv_share.specs.Share.{flat_by, given_at}
 use Rattle.dv_share.specs.Share.{inbox_of, left_from, member_by, numbers_of, outcome_at, reactions_by, sents_by}
-use Rattle.dv_share.specs.declared.place.Placed.{Placed}
+use Rattle.dv_share.specs.declared.index.Indexed.{Indexed}
 use Rattle.dv_share.specs.declared.tables.Member.{Member}
 use Rattle.dv_share.specs.declared.tables.Tables.{Tables}
 use Rattle.dv_share.proofs.Emissions.{all_map, map_all}
-use Rattle.dv_share.proofs.Places.{found_absent, found_all, found_none, some_or_none, yes_or_no}
+use Rattle.dv_share.proofs.Indices.{found_absent, found_all, found_none, some_or_none, yes_or_no}
 
 false_true : false ≡ true → ⊥
 false_true h = cc
@@ -42,16 +42,16 @@ at_rest limit now b c bags late none =
     ap (λ (t : Bool). cond t (reaction_after_output limit b now c bags (emission b now c)) rests)
     (off c.quiet (is_imminent now c) (all_empty bags) late none)
 
--- what came of a component is the outcome at its place
+-- what came of a component is the outcome at its index
 pub outcome_one : {S : Type 0} (behaviour : S → Behaviour) (fits : S → State → Type 0) (t : Tables S) (now : ℕ) (rs : List Running)
-    (es : List (Placed (Result (List Counts) Fault))) (xs : List (Placed (List Counts))) (x : Placed (List Counts)) (r : Running)
+    (es : List (Indexed (Result (List Counts) Fault))) (xs : List (Indexed (List Counts))) (x : Indexed (List Counts)) (r : Running)
     (o : Outcome) →
-    slice_get rs x.place ≡ Some r → found x.place xs ≡ Some x.what → IsOutcomeOf behaviour fits t now r (given_at x.place es) x o →
-    IsOutcome behaviour fits t now rs es xs x.place o
+    slice_get rs x.index ≡ Some r → found x.index xs ≡ Some x.what → IsOutcomeOf behaviour fits t now r (given_at x.index es) x o →
+    IsOutcome behaviour fits t now rs es xs x.index o
 outcome_one behaviour fits t now rs es xs x r o at-r here is =
     let Reacts : Running → Member → List Counts → Type 0 = λ s m bags.
     reaction t.limit (behaviour_in behaviour t m) now (component_of t.limit s) bags
-    ≡ reaction_by t.limit s (sent_of (given_at x.place es)) o in
+    ≡ reaction_by t.limit s (sent_of (given_at x.index es)) o in
     record {
       reacts = λ m s bags at-m at-s at-b.
           let same-r : r ≡ s = same_Some r s (sym at-r ∙ at-s) in
@@ -62,8 +62,8 @@ outcome_one behaviour fits t now rs es xs x r o at-r here is =
           subst (λ (s : Running). FitsAt fits t.models.items m.model (left_by s o).state) (same_Some r s (sym at-r ∙ at-s)) (is.fit m at-m);
     }
 
-module _ {S : Type 0} (behaviour : S → Behaviour) (limit now : ℕ) (models : List S) (es : List (Placed (Result (List Counts) Fault)))
-    (os : List (Placed Outcome))
+module _ {S : Type 0} (behaviour : S → Behaviour) (limit now : ℕ) (models : List S) (es : List (Indexed (Result (List Counts) Fault)))
+    (os : List (Indexed Outcome))
     (ds : List Delivery) where
   reactions_are : (q : ℕ) (ms : List Member) (rs : List Running) → length rs ≡ length ms →
       ((p : ℕ) (m : Member) (r : Running) → slice_get ms p ≡ Some m → slice_get rs p ≡ Some r →
@@ -95,7 +95,7 @@ same_numbers behaviour limit models [] = refl
 same_numbers behaviour limit models (m ∷ ms) = ap (λ (ks : List ℕ). m.number ∷ ks) (same_numbers behaviour limit models ms)
 
 module _ {S : Type 0} (behaviour : S → Behaviour) (fits : S → State → Type 0) (t : Tables S) (now : ℕ) (rs : List Running)
-    (es : List (Placed (Result (List Counts) Fault))) (xs : List (Placed (List Counts))) (os : List (Placed Outcome)) where
+    (es : List (Indexed (Result (List Counts) Fault))) (xs : List (Indexed (List Counts))) (os : List (Indexed Outcome)) where
   -- what all components receive of what is sent and comes, by the tables
   pub received_of : (outside : List Counts) (ds : List Delivery) → AreEmitted behaviour t now rs es →
       (network (flat_by behaviour t)).arrives (emissions (network (flat_by behaviour t)).behaviours now (components_of t.limit rs))
@@ -110,20 +110,20 @@ module _ {S : Type 0} (behaviour : S → Behaviour) (fits : S → State → Type
       (same_numbers behaviour t.limit t.models.items t.members.items)
 
   pub instant_is : (outside : List Counts) (ds : List Delivery) → length rs ≡ length t.members.items → AreEmitted behaviour t now rs es →
-      AreAmong (places_of es) (places_of xs) → AreReceived t.members.items (coming t es outside ds) xs → places_of os ≡ places_of xs →
-      All (λ (o : Placed Outcome). IsOutcome behaviour fits t now rs es xs o.place o.what) os →
+      AreAmong (indices_of es) (indices_of xs) → AreReceived t.members.items (coming t es outside ds) xs → indices_of os ≡ indices_of xs →
+      All (λ (o : Indexed Outcome). IsOutcome behaviour fits t now rs es xs o.index o.what) os →
       instant t.limit (network (flat_by behaviour t)) now (outside, ds) (components_of t.limit rs) ≡ reactions_by t.limit 0 rs es os
   instant_is outside ds count given among received same right =
       ap (reactions t.limit (behaviours (flat_by behaviour t).members) now (components_of t.limit rs)) (received_of outside ds given)
       ∙ reactions_are behaviour t.limit now t.models.items es os (coming t es outside ds) 0 t.members.items rs count
       (λ p m r at-m at-r.
       let start : p ≡ 0 + p = omega arith in
-      at_place p m r at-m at-r ∙ ap (λ (i : ℕ). reaction_by t.limit r (sent_of (given_at i es)) (outcome_at i os)) start)
+      at_index p m r at-m at-r ∙ ap (λ (i : ℕ). reaction_by t.limit r (sent_of (given_at i es)) (outcome_at i os)) start)
     where
-      at_place : (p : ℕ) (m : Member) (r : Running) → slice_get t.members.items p ≡ Some m → slice_get rs p ≡ Some r →
+      at_index : (p : ℕ) (m : Member) (r : Running) → slice_get t.members.items p ≡ Some m → slice_get rs p ≡ Some r →
           reaction t.limit (behaviour_in behaviour t m) now (component_of t.limit r) (inbox_of m (coming t es outside ds))
           ≡ reaction_by t.limit r (sent_of (given_at p es)) (outcome_at p os)
-      at_place p m r at-m at-r = elim (some_or_none (found p os)) [
+      at_index p m r at-m at-r = elim (some_or_none (found p os)) [
         | inl o ↦ elim (some_or_none (found p xs)) [
           | inl bags ↦
               let here : bags.0 ≡ inbox_of m (coming t es outside ds) =
@@ -134,11 +134,11 @@ module _ {S : Type 0} (behaviour : S → Behaviour) (fits : S → State → Type
               ∙ is.reacts m r bags.0 at-m at-r bags.1
               ∙ sym (ap (λ (x : Option Outcome). reaction_by t.limit r (sent_of (given_at p es)) (unwrap_or x Nothing)) o.1)
           | inr none ↦
-              let out : is_in p (places_of os) ≡ false = subst (λ (ps : List ℕ). is_in p ps ≡ false) (sym same) (found_none p xs none) in
+              let out : is_in p (indices_of os) ≡ false = subst (λ (ps : List ℕ). is_in p ps ≡ false) (sym same) (found_none p xs none) in
               absurd (some_none o.0 (sym o.1 ∙ found_absent p os out))
         ]
         | inr none ↦
-            let out : is_in p (places_of xs) ≡ false = subst (λ (ps : List ℕ). is_in p ps ≡ false) same (found_none p os none) in
+            let out : is_in p (indices_of xs) ≡ false = subst (λ (ps : List ℕ). is_in p ps ≡ false) same (found_none p os none) in
             let late : is_imminent now (component_of t.limit r) ≡ false = elim (yes_or_no (is_imminent now (component_of t.limit r))) [
               | inl soon ↦ absurd (false_true (sym out ∙ among p (given.imminent p r at-r soon)))
               | inr late ↦ late
@@ -151,7 +151,7 @@ module _ {S : Type 0} (behaviour : S → Behaviour) (fits : S → State → Type
           some_none : (w : Outcome) → Some w ≡ None → ⊥
           some_none w h = cc
 
-left_at : (q : ℕ) (rs : List Running) (os : List (Placed Outcome)) (p : ℕ) (s : Running) → slice_get (left_from q rs os) p ≡ Some s →
+left_at : (q : ℕ) (rs : List Running) (os : List (Indexed Outcome)) (p : ℕ) (s : Running) → slice_get (left_from q rs os) p ≡ Some s →
     (r : Running) × (slice_get rs p ≡ Some r) × (left_by r (outcome_at (q + p) os) ≡ s)
 left_at q [] os p s e = absurd (cc)
 left_at q (r ∷ rs) os zero s e =
@@ -162,14 +162,14 @@ left_at q (r ∷ rs) os (suc p) s e =
     let next : q + suc p ≡ suc q + p = omega arith in
     (rest.0, rest.1, ap (λ (i : ℕ). left_by rest.0 (outcome_at i os)) next ∙ rest.2)
 
-left_length : (q : ℕ) (rs : List Running) (os : List (Placed Outcome)) → length (left_from q rs os) ≡ length rs
+left_length : (q : ℕ) (rs : List Running) (os : List (Indexed Outcome)) → length (left_from q rs os) ≡ length rs
 left_length q [] os = refl
 left_length q (r ∷ rs) os = ap suc (left_length (suc q) rs os)
 
 module _ {S : Type 0} (behaviour : S → Behaviour) (fits : S → State → Type 0) (t : Tables S) (now : ℕ) (rs : List Running)
-    (es : List (Placed (Result (List Counts) Fault))) (xs : List (Placed (List Counts))) (os : List (Placed Outcome)) where
+    (es : List (Indexed (Result (List Counts) Fault))) (xs : List (Indexed (List Counts))) (os : List (Indexed Outcome)) where
   outcome_keeps : (p : ℕ) (r : Running) → AreComponents fits t rs
-      → All (λ (o : Placed Outcome). IsOutcome behaviour fits t now rs es xs o.place o.what) os →
+      → All (λ (o : Indexed Outcome). IsOutcome behaviour fits t now rs es xs o.index o.what) os →
       slice_get rs p ≡ Some r → IsWaitOfRun t.limit (left_by r (outcome_at p os)).wait
       × ((m : Member) → slice_get t.members.items p ≡ Some m → FitsAt fits t.models.items m.model (left_by r (outcome_at p os)).state)
   outcome_keeps p r are right at = elim (some_or_none (found p os)) [
@@ -189,7 +189,7 @@ module _ {S : Type 0} (behaviour : S → Behaviour) (fits : S → State → Type
         )
   ]
 
-  pub components_stay : AreComponents fits t rs → All (λ (o : Placed Outcome). IsOutcome behaviour fits t now rs es xs o.place o.what) os →
+  pub components_stay : AreComponents fits t rs → All (λ (o : Indexed Outcome). IsOutcome behaviour fits t now rs es xs o.index o.what) os →
       AreComponents fits t (left_from 0 rs os)
   components_stay are right = record {
     count = left_length 0 rs os ∙ are.count;
@@ -205,32 +205,32 @@ module _ {S : Type 0} (behaviour : S → Behaviour) (fits : S → State → Type
   }
 
 -- what reactions leave are the components that outcomes leave
-pub components_left : (limit q : ℕ) (rs : List Running) (es : List (Placed (Result (List Counts) Fault))) (os : List (Placed Outcome)) →
+pub components_left : (limit q : ℕ) (rs : List Running) (es : List (Indexed (Result (List Counts) Fault))) (os : List (Indexed Outcome)) →
     map (λ (r : Reaction). r.component) (reactions_by limit q rs es os) ≡ components_of limit (left_from q rs os)
 components_left limit q [] es os = refl
 components_left limit q (r ∷ rs) es os = ap (λ (cs : List Component). component_of limit (left_by r (outcome_at q os)) ∷ cs)
     (components_left limit (suc q) rs es os)
 
--- outcomes at the places where something comes or was emitted are the instant, and leave components
+-- outcomes at the indices where something comes or was emitted are the instant, and leave components
 pub outcomes_are : {S : Type 0} (behaviour : S → Behaviour) (fits : S → State → Type 0) (t : Tables S) (now : ℕ) (rs : List Running)
-    (es : List (Placed (Result (List Counts) Fault))) (xs : List (Placed (List Counts))) (os : List (Placed Outcome))
+    (es : List (Indexed (Result (List Counts) Fault))) (xs : List (Indexed (List Counts))) (os : List (Indexed Outcome))
     (outside : List Counts) (ds : List Delivery) → AreComponents fits t rs → AreEmitted behaviour t now rs es →
-    AreAmong (places_of es) (places_of xs) → AreReceived t.members.items (coming t es outside ds) xs → places_of os ≡ places_of xs →
-    All (λ (o : Placed Outcome). IsOutcome behaviour fits t now rs es xs o.place o.what) os
+    AreAmong (indices_of es) (indices_of xs) → AreReceived t.members.items (coming t es outside ds) xs → indices_of os ≡ indices_of xs →
+    All (λ (o : Indexed Outcome). IsOutcome behaviour fits t now rs es xs o.index o.what) os
     → AreOutcomes behaviour t now rs outside ds es os
 outcomes_are behaviour fits t now rs es xs os outside ds are emitted among received same right =
-    let below : All (λ p. p < length t.members.items) (places_of os) =
+    let below : All (λ p. p < length t.members.items) (indices_of os) =
     subst (λ (ps : List ℕ). All (λ p. p < length t.members.items) ps) (sym same)
-    (map_all (λ (x : Placed (List Counts)). x.place) (λ p. p < length t.members.items) xs received.places.within) in
+    (map_all (λ (x : Indexed (List Counts)). x.index) (λ p. p < length t.members.items) xs received.indices.within) in
     let net = network (flat_by behaviour t) in
     let reacts : instant t.limit net now (outside, ds) (components_of t.limit rs) ≡ reactions_by t.limit 0 rs es os =
     instant_is behaviour fits t now rs es xs os outside ds are.count emitted among received same right in
     record {
-      places = record {
-        rise = subst AreRising (sym same) received.places.rise;
+      indices = record {
+        rise = subst AreRising (sym same) received.indices.rise;
         within =
-            subst (λ (n : ℕ). All (λ (o : Placed Outcome). o.place < n) os) (sym are.count)
-            (all_map (λ (o : Placed Outcome). o.place) (λ p. p < length t.members.items) os below);
+            subst (λ (n : ℕ). All (λ (o : Indexed Outcome). o.index < n) os) (sym are.count)
+            (all_map (λ (o : Indexed Outcome). o.index) (λ p. p < length t.members.items) os below);
       };
       reactions = reacts;
       after = ap (map (λ (r : Reaction). r.component)) reacts ∙ components_left t.limit 0 rs es os;

@@ -16,7 +16,7 @@ use Rattle.dv_bag.proofs.PortBags.{bag_of_port, ports_rise, standing_bag}
 use Rattle.dv_conservative.specs.Links.{Delivery, Link, carried, carried_by}
 use Rattle.dv_share.specs.Links.{RiseByPort, pairs_of}
 use Rattle.dv_share.specs.Rows.{carried_each}
-use Rattle.dv_share.proofs.Places.{differ}
+use Rattle.dv_share.proofs.Indices.{differ}
 use Rattle.dv_share.proofs.Ranges.{part_is_filter}
 use Rattle.dv_share.proofs.Rising.{Rise, rise_of}
 use Rattle.dv_share.proofs.Sends.{pairs_are}
@@ -118,7 +118,7 @@ module _ {X : Type 0} (port : X → ℕ) (xs : List X) where
   abbrev pub NoneAt : ℕ → Type 0
   NoneAt x = (i : ℕ) (d : X) → i < length xs → port (get_or xs i d) ≡ x → ⊥
 
-  -- all ports before a place are below the one there
+  -- all ports before an index are below the one there
   abbrev pub ArePartedAt : ℕ → Type 0
   ArePartedAt i = (k : ℕ) (d : X) → k < i → i < length xs → port (get_or xs k d) < port (get_or xs i d)
 

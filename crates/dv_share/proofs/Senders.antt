@@ -12,13 +12,13 @@ use Rattle.dv_react.specs.Outcomes.{sent_of}
 use Rattle.dv_conservative.specs.Links.{Link, Delivery, carried, carried_by, sent_of as sent_from}
 use Rattle.dv_conservative.proofs.Cut.{carried_same}
 use Rattle.dv_share.specs.Links.{leads_from}
-use Rattle.dv_share.specs.Places.{AreRising, RiseFrom, found, is_in, places_of}
+use Rattle.dv_share.specs.Indices.{AreRising, RiseFrom, found, is_in, indices_of}
 use Rattle.dv_share.specs.Rows.{number_of, rows}
-use Rattle.dv_share.specs.Share.{StandByPlace, given_at, numbers_of, sent_in, sents_by}
-use Rattle.dv_share.specs.declared.place.Placed.{Placed}
+use Rattle.dv_share.specs.Share.{StandByIndex, given_at, numbers_of, sent_in, sents_by}
+use Rattle.dv_share.specs.declared.index.Indexed.{Indexed}
 use Rattle.dv_share.specs.declared.tables.Member.{Member}
 use Rattle.dv_share.proofs.Rising.{Rise as RiseBy}
-use Rattle.dv_share.proofs.Places.{all_first, all_rest, there, differ, found_absent, found_at, itself, not_below, turned, yes_or_no}
+use Rattle.dv_share.proofs.Indices.{all_first, all_rest, there, differ, found_absent, found_at, itself, not_below, turned, yes_or_no}
 
 false_true : false ≡ true → ⊥
 false_true h = cc
@@ -103,7 +103,7 @@ module _ (S : ℕ → List Counts) where
       (λ j le lt. none j le (not_below k j (k ∷ ks) (omega arith, up.1) lt))
       low ls (omega arith) h
 
--- the number at a place
+-- the number at an index
 abbrev pub number_at : List Member → ℕ → ℕ
 number_at ms p = number_of (slice_get ms p)
 
@@ -119,22 +119,22 @@ numbers_rise low (m ∷ ms) p zero h lt within = absurd (omega arith)
 numbers_rise low (m ∷ ms) zero (suc q) h lt within = let rest = number_from (suc m.number) ms q h.1 (omega arith) in omega (arith, rest)
 numbers_rise low (m ∷ ms) (suc p) (suc q) h lt within = numbers_rise (suc m.number) ms p q h.1 (omega arith) (omega arith)
 
-module _ (es : List (Placed (Result (List Counts) Fault))) where
-  -- what the component of a number sends, by its place
-  pub sent_at_place : (low p q : ℕ) (ms : List Member) (m : Member) → RiseFrom low (numbers_of ms) → slice_get ms p ≡ Some m →
+module _ (es : List (Indexed (Result (List Counts) Fault))) where
+  -- what the component of a number sends, by its index
+  pub sent_at_index : (low p q : ℕ) (ms : List Member) (m : Member) → RiseFrom low (numbers_of ms) → slice_get ms p ≡ Some m →
       sent_from (numbers_of ms) (sents_by q ms es) m.number ≡ sent_of (given_at (q + p) es)
-  sent_at_place low p q [] m h e = absurd (cc)
-  sent_at_place low zero q (n ∷ ms) m h e =
+  sent_at_index low p q [] m h e = absurd (cc)
+  sent_at_index low zero q (n ∷ ms) m h e =
       let same : n ≡ m = cc in
       let start : q ≡ q + 0 = omega arith in
       rw same (rw (itself m.number) (ap (λ (i : ℕ). sent_of (given_at i es)) start))
-  sent_at_place low (suc p) q (n ∷ ms) m h e =
+  sent_at_index low (suc p) q (n ∷ ms) m h e =
       let within : p < length ms = slice_get_within ms p m e in
       let above = number_from (suc n.number) ms p h.1 within in
       let is : number_at ms p ≡ m.number = ap number_of e in
       let apart : nat_eq n.number m.number ≡ false = differ n.number m.number (λ d. absurd (omega (arith, above, is, d))) in
       let next : suc q + p ≡ q + suc p = omega arith in
-      rw apart (sent_at_place (suc n.number) p (suc q) ms m h.1 e ∙ ap (λ (i : ℕ). sent_of (given_at i es)) next)
+      rw apart (sent_at_index (suc n.number) p (suc q) ms m h.1 e ∙ ap (λ (i : ℕ). sent_of (given_at i es)) next)
 
   pub nothing_sent : (j q : ℕ) (ms : List Member)
       → ((p : ℕ) (m : Member) → slice_get ms p ≡ Some m → m.number ≡ j → sent_of (given_at (q + p) es) ≡ []) →
@@ -151,74 +151,74 @@ module _ (es : List (Placed (Result (List Counts) Fault))) where
         (h (suc p) m at d)))
   ]
 
-abbrev pub keys : List Member → List (Placed (Result (List Counts) Fault)) → List ℕ
-keys ms es = map (λ (e : Placed (Result (List Counts) Fault)). number_at ms e.place) es
+abbrev pub keys : List Member → List (Indexed (Result (List Counts) Fault)) → List ℕ
+keys ms es = map (λ (e : Indexed (Result (List Counts) Fault)). number_at ms e.index) es
 
-keys_rise : (low lowest : ℕ) (ms : List Member) (es : List (Placed (Result (List Counts) Fault))) → AreRising (numbers_of ms)
-    → RiseFrom low (places_of es) →
-    All (λ (e : Placed (Result (List Counts) Fault)). e.place < length ms) es
+keys_rise : (low lowest : ℕ) (ms : List Member) (es : List (Indexed (Result (List Counts) Fault))) → AreRising (numbers_of ms)
+    → RiseFrom low (indices_of es) →
+    All (λ (e : Indexed (Result (List Counts) Fault)). e.index < length ms) es
     → ((p : ℕ) → low ≤ p → p < length ms → lowest ≤ number_at ms p) → RiseFrom lowest (keys ms es)
 keys_rise low lowest ms [] up h within least = tt
 keys_rise low lowest ms (e ∷ es) up h within least = (
-  least e.place h.0 (all_first (λ (e : Placed (Result (List Counts) Fault)). e.place < length ms) e es within),
-  keys_rise (suc e.place) (suc (number_at ms e.place)) ms es up h.1
-      (all_rest (λ (e : Placed (Result (List Counts) Fault)). e.place < length ms) e es within)
-      (λ p le lt. numbers_rise 0 ms e.place p up (omega arith) lt),
+  least e.index h.0 (all_first (λ (e : Indexed (Result (List Counts) Fault)). e.index < length ms) e es within),
+  keys_rise (suc e.index) (suc (number_at ms e.index)) ms es up h.1
+      (all_rest (λ (e : Indexed (Result (List Counts) Fault)). e.index < length ms) e es within)
+      (λ p le lt. numbers_rise 0 ms e.index p up (omega arith) lt),
 )
 
--- the number of a place that is there is among the keys
-key_in : (p : ℕ) (m : Member) (ms : List Member) (es : List (Placed (Result (List Counts) Fault))) → slice_get ms p ≡ Some m
+-- the number of an index that is there is among the keys
+key_in : (p : ℕ) (m : Member) (ms : List Member) (es : List (Indexed (Result (List Counts) Fault))) → slice_get ms p ≡ Some m
     → is_in m.number (keys ms es) ≡ false →
-    is_in p (places_of es) ≡ false
+    is_in p (indices_of es) ≡ false
 key_in p m ms [] at h = refl
-key_in p m ms (e ∷ es) at h = elim (yes_or_no (nat_eq (number_at ms e.place) m.number)) [
+key_in p m ms (e ∷ es) at h = elim (yes_or_no (nat_eq (number_at ms e.index) m.number)) [
   | inl k ↦ absurd (false_true (sym (rw k at h)))
-  | inr k ↦ elim (yes_or_no (nat_eq e.place p)) [
+  | inr k ↦ elim (yes_or_no (nat_eq e.index p)) [
     | inl t ↦
-        let same : number_at ms e.place ≡ m.number = ap (number_at ms) (eqb-true e.place p t) ∙ ap number_of at in
-        absurd (false_true (sym k ∙ eq-eqb (number_at ms e.place) m.number same))
+        let same : number_at ms e.index ≡ m.number = ap (number_at ms) (eqb-true e.index p t) ∙ ap number_of at in
+        absurd (false_true (sym k ∙ eq-eqb (number_at ms e.index) m.number same))
     | inr t ↦ rw t (key_in p m ms es at (rw k at h))
   ]
 ]
 
 module _ (ms : List Member) (links : List Link) where
-  rows_are_groups : (S : ℕ → List Counts) (es : List (Placed (Result (List Counts) Fault))) →
-      All (λ (e : Placed (Result (List Counts) Fault)). S (number_at ms e.place) ≡ sent_of e.what) es
+  rows_are_groups : (S : ℕ → List Counts) (es : List (Indexed (Result (List Counts) Fault))) →
+      All (λ (e : Indexed (Result (List Counts) Fault)). S (number_at ms e.index) ≡ sent_of e.what) es
       → rows ms links es ≡ groups S (keys ms es) links
   rows_are_groups S [] h = refl
   rows_are_groups S (e ∷ es) h =
-      let this = all_first (λ (e : Placed (Result (List Counts) Fault)). S (number_at ms e.place) ≡ sent_of e.what) e es h in
+      let this = all_first (λ (e : Indexed (Result (List Counts) Fault)). S (number_at ms e.index) ≡ sent_of e.what) e es h in
       ap (λ (ds : List Delivery). ds ++ rows ms links es)
       (sym
-      (carried_same (leads_from (number_at ms e.place)) S (λ k. sent_of e.what) links
-      (λ l from. ap S (eqb-true l.from (number_at ms e.place) from) ∙ this)))
-      ∙ ap (λ (ds : List Delivery). carried (filter (leads_from (number_at ms e.place)) links) S ++ ds)
-      (rows_are_groups S es (all_rest (λ (e : Placed (Result (List Counts) Fault)). S (number_at ms e.place) ≡ sent_of e.what) e es h))
+      (carried_same (leads_from (number_at ms e.index)) S (λ k. sent_of e.what) links
+      (λ l from. ap S (eqb-true l.from (number_at ms e.index) from) ∙ this)))
+      ∙ ap (λ (ds : List Delivery). carried (filter (leads_from (number_at ms e.index)) links) S ++ ds)
+      (rows_are_groups S es (all_rest (λ (e : Indexed (Result (List Counts) Fault)). S (number_at ms e.index) ≡ sent_of e.what) e es h))
 
 -- what links carry of what was emitted, sender by sender
-pub rows_are_carried : (ms : List Member) (links : List Link) (es : List (Placed (Result (List Counts) Fault)))
+pub rows_are_carried : (ms : List Member) (links : List Link) (es : List (Indexed (Result (List Counts) Fault)))
     → AreRising (numbers_of ms) → Rise 0 links →
-    StandByPlace (length ms) es → rows ms links es ≡ carried links (sent_in ms es)
-rows_are_carried ms links es up h places =
+    StandByIndex (length ms) es → rows ms links es ≡ carried links (sent_in ms es)
+rows_are_carried ms links es up h indices =
     let S : ℕ → List Counts = sent_in ms es in
     rows_are_groups ms links S es
     (λ i d lt.
     let e = get_or es i d in
     let at : slice_get es i ≡ Some e = slice_get-get_or es i d lt in
-    let at-member = there ms e.place (places.within i d lt) in
-    ap (λ (o : Option Member). S (number_of o)) at-member.1 ∙ sent_at_place es 0 e.place 0 ms at-member.0 up at-member.1 ∙ by_given i e at)
+    let at-member = there ms e.index (indices.within i d lt) in
+    ap (λ (o : Option Member). S (number_of o)) at-member.1 ∙ sent_at_index es 0 e.index 0 ms at-member.0 up at-member.1 ∙ by_given i e at)
     ∙ sym
-    (grouped S (keys ms es) 0 links (keys_rise 0 0 ms es up places.rise places.within (λ p le lt. omega arith)) h
+    (grouped S (keys ms es) 0 links (keys_rise 0 0 ms es up indices.rise indices.within (λ p le lt. omega arith)) h
     (λ j le out.
     nothing_sent es j 0 ms
     (λ p m is same.
-    let gone : found (0 + p) es ≡ None = found_absent (0 + p) es (subst (λ (q : ℕ). is_in q (places_of es) ≡ false) (omega arith)
+    let gone : found (0 + p) es ≡ None = found_absent (0 + p) es (subst (λ (q : ℕ). is_in q (indices_of es) ≡ false) (omega arith)
     (key_in p m ms es is (subst (λ (k : ℕ). is_in k (keys ms es) ≡ false) (sym same) out))) in
     ap (λ (o : Option (Result (List Counts) Fault)). sent_of (unwrap_or o (Ok []))) gone)))
   where
-    by_given : (i : ℕ) (e : Placed (Result (List Counts) Fault)) → slice_get es i ≡ Some e → sent_of (given_at (0 + e.place) es)
+    by_given : (i : ℕ) (e : Indexed (Result (List Counts) Fault)) → slice_get es i ≡ Some e → sent_of (given_at (0 + e.index) es)
         ≡ sent_of e.what
     by_given i e at =
-        let start : 0 + e.place ≡ e.place = omega arith in
+        let start : 0 + e.index ≡ e.index = omega arith in
         ap (λ (p : ℕ). sent_of (given_at p es)) start
-        ∙ ap (λ (o : Option (Result (List Counts) Fault)). sent_of (unwrap_or o (Ok []))) (found_at 0 i e es places.rise at)
+        ∙ ap (λ (o : Option (Result (List Counts) Fault)). sent_of (unwrap_or o (Ok []))) (found_at 0 i e es indices.rise at)

@@ -5,7 +5,7 @@ use Rattle.std.specs.List.Sorted.{IsNonDecreasingBy}
 use Rattle.dv_bag.specs.Sent.{RiseFrom, pairs_at}
 use Rattle.dv_bag.specs.declared.sent.Sending.{Sending}
 use Rattle.dv_share.specs.Links.{pairs_of}
-use Rattle.dv_share.proofs.Places.{yes_or_no}
+use Rattle.dv_share.proofs.Indices.{yes_or_no}
 
 -- the pairs of a port are those of the sendings that go there
 pub pairs_are : (p : ℕ) (ss : List Sending) → pairs_of (filter (λ (s : Sending). nat_eq s.port p) ss) ≡ pairs_at p ss

@@ -7,7 +7,7 @@ use Rattle.std.proofs.lemmas.Bool.{cases_lt, eq-eqb}
 use Rattle.std.proofs.lemmas.List.{get_or_append_left, get_or_default, get_or_push, length-append}
 use Rattle.dv_share.specs.Rows.{AreStarts}
 use Rattle.dv_share.specs.declared.link.Link.{Link}
-use Rattle.dv_share.proofs.Places.{differ}
+use Rattle.dv_share.proofs.Indices.{differ}
 use Rattle.dv_share.proofs.Ranges.{part_is_filter}
 
 abbrev pub source : Link → ℕ

@@ -19,7 +19,7 @@ use Rattle.std.specs.declared.cmp.Ordering.TheVariants.{Less, Equal, Greater}
 use Rattle.dv_conservative.specs.Events.{delivery_cmp}
 use Rattle.dv_share.specs.Rows.{AreSorted}
 use Rattle.dv_share.specs.Share.{AreReceived, inbox_of}
-use Rattle.dv_share.specs.declared.place.Placed.{Placed}
+use Rattle.dv_share.specs.declared.index.Indexed.{Indexed}
 use Rattle.dv_share.specs.declared.tables.Member.{Member}
 use Rattle.dv_share.proofs.Inboxes.{inbox_same}
 
@@ -101,10 +101,10 @@ moved_delivers sorted all same k port =
     (IsPermutation-map delivery_of all sorted same))
 
 -- what is received of deliveries is received of them in any order
-pub received_moved : (ms : List Member) (ds es : List Delivery) (xs : List (Placed (List Counts))) → IsPermutation es ds
+pub received_moved : (ms : List Member) (ds es : List Delivery) (xs : List (Indexed (List Counts))) → IsPermutation es ds
     → AreReceived ms (deliveries_of ds) xs → AreReceived ms (deliveries_of es) xs
 received_moved ms ds es xs moved h = record {
-  places = h.places;
+  indices = h.indices;
   bags = λ i x lt m at. h.bags i x lt m at ∙ same m;
   rest = λ p m at out. subst (λ (bags : List Counts). IsTrue (all_empty bags)) (same m) (h.rest p m at out);
 }

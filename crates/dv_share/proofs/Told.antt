@@ -22,7 +22,7 @@ use Rattle.std.proofs.lemmas.List.{get_or-drop, length-drop, map-append, reverse
 use Rattle.dv_share.specs.Links.{deliveries_of, delivery_of}
 use Rattle.dv_share.specs.Rows.{AreSorted, joined_before, same_key}
 use Rattle.dv_share.specs.declared.link.Delivery.{Delivery}
-use Rattle.dv_share.proofs.Places.{differ, yes_or_no}
+use Rattle.dv_share.proofs.Indices.{differ, yes_or_no}
 
 of_run : (ds : List Meant) → AllOfRun 0 (map (event_of (time_of 0 0)) ds ++ [])
 of_run [] = tt

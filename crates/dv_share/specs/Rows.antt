@@ -11,7 +11,7 @@ use Rattle.dv_conservative.specs.Links.{Link, Delivery, carried, carried_by}
 use Rattle.dv_share.specs.Links.{delivery_of, leads_from}
 use Rattle.dv_share.specs.declared.link.Delivery.{Delivery as DeliveryOfCode}
 use Rattle.dv_share.specs.declared.link.Link.{Link as LinkOfCode}
-use Rattle.dv_share.specs.declared.place.Placed.{Placed}
+use Rattle.dv_share.specs.declared.index.Indexed.{Indexed}
 use Rattle.dv_share.specs.declared.tables.Member.{Member}
 
 -- the number of a member, if it is there
@@ -25,10 +25,10 @@ carried_each [] b = []
 carried_each (l ∷ ls) b = carried_by l b ++ carried_each ls b
 
 -- what is carried of the emissions, one after the other
-abbrev pub rows : List Member → List Link → List (Placed (Result (List Counts) Fault)) → List Delivery
+abbrev pub rows : List Member → List Link → List (Indexed (Result (List Counts) Fault)) → List Delivery
 rows ms links [] = []
 rows ms links (e ∷ es) =
-    carried (filter (leads_from (number_of (slice_get ms e.place))) links) (λ k. sent_of e.what) ++ rows ms links es
+    carried (filter (leads_from (number_of (slice_get ms e.index))) links) (λ k. sent_of e.what) ++ rows ms links es
 
 -- no delivery comes before the one in front of it
 abbrev pub AreSorted : List DeliveryOfCode → Type 0

@@ -14,8 +14,8 @@ use Rattle.dv_react.specs.Outcomes.{Nothing}
 use Rattle.dv_react.specs.declared.running.Running.{Running}
 use Rattle.dv_conservative.specs.Flat.{Flat, Member, behaviours, network}
 use Rattle.dv_conservative.specs.Links.{Delivery, carried, inbox, sent_of as sent_from}
-use Rattle.dv_share.specs.Places.{AreRising, found, is_in, places_of}
-use Rattle.dv_share.specs.declared.place.Placed.{Placed}
+use Rattle.dv_share.specs.Indices.{AreRising, found, is_in, indices_of}
+use Rattle.dv_share.specs.declared.index.Indexed.{Indexed}
 use Rattle.dv_share.specs.declared.tables.Member.{Member as MemberOfTables}
 use Rattle.dv_share.specs.declared.tables.Tables.{Tables}
 
@@ -56,7 +56,7 @@ flat_by behaviour t = record {
 abbrev pub FitsAt : {S : Type 0} → (S → State → Type 0) → List S → ℕ → State → Type 0
 FitsAt {S} fits models k s = (a : S) → slice_get models k ≡ Some a → fits a s
 
--- components of the tables, place by place: as many as there are members, with waits of the run and states that fit
+-- components of the tables, index by index: as many as there are members, with waits of the run and states that fit
 pub record AreComponents {S : Type 0} (fits : S → State → Type 0) (t : Tables S) (rs : List Running) : Type 0 where
   pub count : length rs ≡ length t.members.items
   pub waits : AreWaitsOfRun t.limit rs
@@ -72,28 +72,28 @@ pub record AreTables {S : Type 0} (fits : S → State → Type 0) (t : Tables S)
   pub models : All (λ (m : MemberOfTables). m.model < length t.models.items) t.members.items
   pub starts : AreComponents fits t (starts_of t.members.items)
 
--- what stands by place: places that rise, below a count
-pub record StandByPlace {X : Type 0} (count : ℕ) (xs : List (Placed X)) : Type 0 where
-  pub rise : AreRising (places_of xs)
-  pub within : All (λ (x : Placed X). x.place < count) xs
+-- what stands by index: indices that rise, below a count
+pub record StandByIndex {X : Type 0} (count : ℕ) (xs : List (Indexed X)) : Type 0 where
+  pub rise : AreRising (indices_of xs)
+  pub within : All (λ (x : Indexed X). x.index < count) xs
 
--- a component that is imminent is at one of the places
+-- a component that is imminent is at one of the indices
 abbrev pub HasImminent : ℕ → ℕ → List Running → List ℕ → Type 0
 HasImminent limit now rs due =
     (p : ℕ) (r : Running) → slice_get rs p ≡ Some r → is_imminent now (component_of limit r) ≡ true → IsTrue (is_in p due)
 
--- places that rise, among them all that are imminent
+-- indices that rise, among them all that are imminent
 pub record AreDue (limit now : ℕ) (rs : List Running) (due : List ℕ) : Type 0 where
   pub rise : AreRising due
   pub within : All (λ p. p < length rs) due
   pub imminent : HasImminent limit now rs due
 
--- what the output function gave at a place; where none ran, nothing is sent
-abbrev pub given_at : ℕ → List (Placed (Result (List Counts) Fault)) → Result (List Counts) Fault
+-- what the output function gave at an index; where none ran, nothing is sent
+abbrev pub given_at : ℕ → List (Indexed (Result (List Counts) Fault)) → Result (List Counts) Fault
 given_at p es = unwrap_or (found p es) (Ok [])
 
--- what is sent at each place, from a place on
-abbrev pub sents_by : ℕ → List MemberOfTables → List (Placed (Result (List Counts) Fault)) → List (List Counts)
+-- what is sent at each index, from an index on
+abbrev pub sents_by : ℕ → List MemberOfTables → List (Indexed (Result (List Counts) Fault)) → List (List Counts)
 sents_by p [] es = []
 sents_by p (m ∷ ms) es = sent_of (given_at p es) ∷ sents_by (suc p) ms es
 
@@ -101,60 +101,60 @@ abbrev pub numbers_of : List MemberOfTables → List ℕ
 numbers_of ms = map (λ (m : MemberOfTables). m.number) ms
 
 -- what each component sends, by its number
-abbrev pub sent_in : List MemberOfTables → List (Placed (Result (List Counts) Fault)) → ℕ → List Counts
+abbrev pub sent_in : List MemberOfTables → List (Indexed (Result (List Counts) Fault)) → ℕ → List Counts
 sent_in ms es = sent_from (numbers_of ms) (sents_by 0 ms es)
 
--- At each place that is due stands what its output function gives; elsewhere nothing is sent.
+-- At each index that is due stands what its output function gives; elsewhere nothing is sent.
 pub record AreEmitted {S : Type 0} (behaviour : S → Behaviour) (t : Tables S) (now : ℕ) (rs : List Running)
-    (es : List (Placed (Result (List Counts) Fault))) : Type 0 where
-  pub places : StandByPlace (length rs) es
-  pub imminent : HasImminent t.limit now rs (places_of es)
+    (es : List (Indexed (Result (List Counts) Fault))) : Type 0 where
+  pub indices : StandByIndex (length rs) es
+  pub imminent : HasImminent t.limit now rs (indices_of es)
   pub given : (p : ℕ) (m : MemberOfTables) (r : Running) → slice_get t.members.items p ≡ Some m → slice_get rs p ≡ Some r
       → given_at p es ≡ emission (behaviour_of behaviour (slice_get t.models.items m.model)) now (component_of t.limit r)
   pub sent : emissions (behaviours (flat_by behaviour t).members) now (components_of t.limit rs) ≡ sents_by 0 t.members.items es
 
 -- all that comes to the components at an instant: from outside, from one another, and by deliveries
-abbrev pub coming : {S : Type 0} → Tables S → List (Placed (Result (List Counts) Fault)) → List Counts → List Delivery → List Delivery
+abbrev pub coming : {S : Type 0} → Tables S → List (Indexed (Result (List Counts) Fault)) → List Counts → List Delivery → List Delivery
 coming t es outside ds = carried t.entrances (λ k. outside) ++ (carried t.links (sent_in t.members.items es) ++ ds)
 
 -- what deliveries make at the ports of a component
 abbrev pub inbox_of : MemberOfTables → List Delivery → List Counts
 inbox_of m ds = inbox m.number ds 0 m.inputs
 
--- At each place stand the bags that deliveries make; where nothing stands, they bring no values.
-pub record AreReceived (ms : List MemberOfTables) (ds : List Delivery) (xs : List (Placed (List Counts))) : Type 0 where
-  pub places : StandByPlace (length ms) xs
-  pub bags : All (λ (x : Placed (List Counts)). (m : MemberOfTables) → slice_get ms x.place ≡ Some m → x.what ≡ inbox_of m ds) xs
-  pub rest : (p : ℕ) (m : MemberOfTables) → slice_get ms p ≡ Some m → is_in p (places_of xs) ≡ false
+-- At each index stand the bags that deliveries make; where nothing stands, they bring no values.
+pub record AreReceived (ms : List MemberOfTables) (ds : List Delivery) (xs : List (Indexed (List Counts))) : Type 0 where
+  pub indices : StandByIndex (length ms) xs
+  pub bags : All (λ (x : Indexed (List Counts)). (m : MemberOfTables) → slice_get ms x.index ≡ Some m → x.what ≡ inbox_of m ds) xs
+  pub rest : (p : ℕ) (m : MemberOfTables) → slice_get ms p ≡ Some m → is_in p (indices_of xs) ≡ false
       → IsTrue (all_empty (inbox_of m ds))
 
--- at each place something was emitted, or a value comes
-abbrev pub AreTouched : List ℕ → List (Placed (List Counts)) → Type 0
-AreTouched emitted xs = All (λ (x : Placed (List Counts)). IsTrue (is_in x.place emitted || not (all_empty x.what))) xs
+-- at each index something was emitted, or a value comes
+abbrev pub AreTouched : List ℕ → List (Indexed (List Counts)) → Type 0
+AreTouched emitted xs = All (λ (x : Indexed (List Counts)). IsTrue (is_in x.index emitted || not (all_empty x.what))) xs
 
--- each place of the first is one of the second
+-- each index of the first is one of the second
 abbrev pub AreAmong : List ℕ → List ℕ → Type 0
 AreAmong ps qs = (p : ℕ) → IsTrue (is_in p ps) → IsTrue (is_in p qs)
 
--- the outcome at a place; where none stands, nothing happens
-abbrev pub outcome_at : ℕ → List (Placed Outcome) → Outcome
+-- the outcome at an index; where none stands, nothing happens
+abbrev pub outcome_at : ℕ → List (Indexed Outcome) → Outcome
 outcome_at p os = unwrap_or (found p os) Nothing
 
--- the reactions that outcomes are, from a place on
-abbrev pub reactions_by : ℕ → ℕ → List Running → List (Placed (Result (List Counts) Fault)) → List (Placed Outcome) → List Reaction
+-- the reactions that outcomes are, from an index on
+abbrev pub reactions_by : ℕ → ℕ → List Running → List (Indexed (Result (List Counts) Fault)) → List (Indexed Outcome) → List Reaction
 reactions_by limit p [] es os = []
 reactions_by limit p (r ∷ rs) es os =
     reaction_by limit r (sent_of (given_at p es)) (outcome_at p os) ∷ reactions_by limit (suc p) rs es os
 
--- the components that outcomes leave, from a place on
-abbrev pub left_from : ℕ → List Running → List (Placed Outcome) → List Running
+-- the components that outcomes leave, from an index on
+abbrev pub left_from : ℕ → List Running → List (Indexed Outcome) → List Running
 left_from p [] os = []
 left_from p (r ∷ rs) os = left_by r (outcome_at p os) ∷ left_from (suc p) rs os
 
--- At each place stands the outcome of its component; where none stands, nothing happens. Together they are the instant.
+-- At each index stands the outcome of its component; where none stands, nothing happens. Together they are the instant.
 pub record AreOutcomes {S : Type 0} (behaviour : S → Behaviour) (t : Tables S) (now : ℕ) (rs : List Running) (outside : List Counts)
-    (ds : List Delivery) (es : List (Placed (Result (List Counts) Fault))) (os : List (Placed Outcome)) : Type 0 where
-  pub places : StandByPlace (length rs) os
+    (ds : List Delivery) (es : List (Indexed (Result (List Counts) Fault))) (os : List (Indexed Outcome)) : Type 0 where
+  pub indices : StandByIndex (length rs) os
   pub reactions : instant t.limit (network (flat_by behaviour t)) now (outside, ds) (components_of t.limit rs)
       ≡ reactions_by t.limit 0 rs es os
   pub after : components_after t.limit (network (flat_by behaviour t)) now (outside, ds) (components_of t.limit rs)

@@ -3,19 +3,19 @@
 ghost use Rattle.std.specs.Prelude.{◌≡◌, IfOk, OnOk, length};
 ghost use Rattle.dv_conservative.specs.Links.{inbox};
 ghost use Rattle.dv_share.specs.Links.{deliveries_of};
-ghost use Rattle.dv_share.specs.Places.{places_of};
-ghost use Rattle.dv_share.specs.Share.{AreAmong, AreReceived, AreTables, AreTouched, StandByPlace, coming};
+ghost use Rattle.dv_share.specs.Indices.{indices_of};
+ghost use Rattle.dv_share.specs.Share.{AreAmong, AreReceived, AreTables, AreTouched, StandByIndex, coming};
 
 use crate::carry::{carry_emitted, carry_outside};
+use crate::index::Indexed;
 use crate::link::Delivery;
-use crate::place::Placed;
 use crate::received::Received;
 use crate::tables::Tables;
 use dv_bag::{Bags, Fault, Sent};
 use dv_react::Atomic;
 use std::alloc::{AllocError, Global};
 
-/// The bags that come to the components: from outside, from one another by what was emitted, and by deliveries. A place
+/// The bags that come to the components: from outside, from one another by what was emitted, and by deliveries. An index
 /// stands where a value comes or something was emitted, and nowhere else. What leads to no component or port of the
 /// share is left out. What is there is that of the instant before, whose memory serves again.
 ///
@@ -24,20 +24,20 @@ use std::alloc::{AllocError, Global};
 /// No memory for them.
 pub fn arrivals<A: Atomic>(
     tables: &Tables<A>,
-    emitted: &[Placed<Result<Sent, Fault>>],
+    emitted: &[Indexed<Result<Sent, Fault>>],
     outside: &Bags,
     deliveries: &[Delivery],
     incoming: &mut Vec<Delivery>,
     received: &mut Received,
 ) -> Result<(), AllocError>
     requires tables { AreTables A.fits tables.now }
-    requires emitted { StandByPlace (length tables.now.members.items) emitted.now }
+    requires emitted { StandByIndex (length tables.now.members.items) emitted.now }
     ensures received { OnOk result (AreReceived tables.now.members.items
         (coming tables.now emitted.now outside.now (deliveries_of deliveries.now))
         received.new.items) }
-    ensures emitted { OnOk result (AreAmong (places_of emitted.now)
-        (places_of received.new.items)) }
-    ensures touched { OnOk result (AreTouched (places_of emitted.now) received.new.items) }
+    ensures emitted { OnOk result (AreAmong (indices_of emitted.now)
+        (indices_of received.new.items)) }
+    ensures touched { OnOk result (AreTouched (indices_of emitted.now) received.new.items) }
 {
     incoming.clear();
     carry_outside(incoming, &tables.entrances, outside)?;

@@ -4,12 +4,12 @@ ghost use Rattle.std.specs.Prelude.{◌≡◌, ◌++◌, IfOk, length, reverse};
 ghost use Rattle.dv_conservative.specs.Links.{carried, carried_by};
 ghost use Rattle.dv_conservative.specs.Events.{in_order};
 ghost use Rattle.dv_share.specs.Links.{RiseByPort, deliveries_of, delivery_of, link_of, links_of, pairs_of};
-ghost use Rattle.dv_share.specs.Places.{AreRising};
+ghost use Rattle.dv_share.specs.Indices.{AreRising};
 ghost use Rattle.dv_share.specs.Rows.{AreSorted, carried_each, joined_before, rows};
-ghost use Rattle.dv_share.specs.Share.{StandByPlace, numbers_of, sent_in};
+ghost use Rattle.dv_share.specs.Share.{StandByIndex, numbers_of, sent_in};
 
+use crate::index::Indexed;
 use crate::link::{Delivery, Link};
-use crate::place::Placed;
 use crate::routes::{Entrances, Routes, links_at};
 use crate::run::{ByPort, run_end};
 use crate::tables::Member;
@@ -26,10 +26,10 @@ pub fn carry_emitted(
     deliveries: &mut Vec<Delivery>,
     members: &[Member],
     links: &Routes,
-    emitted: &[Placed<Result<Sent, Fault>>],
+    emitted: &[Indexed<Result<Sent, Fault>>],
 ) -> Result<(), AllocError>
     requires numbers { AreRising (numbers_of members.now) }
-    requires emitted { StandByPlace (length members.now) emitted.now }
+    requires emitted { StandByIndex (length members.now) emitted.now }
     ensures { IfOk result (λ _. deliveries_of deliveries.new.items
         ≡ deliveries_of deliveries.old.items
         ++ carried links.now (sent_in members.now emitted.now)) }
@@ -43,15 +43,15 @@ fn carry_rows(
     deliveries: &mut Vec<Delivery>,
     members: &[Member],
     links: &Routes,
-    emitted: &[Placed<Result<Sent, Fault>>],
+    emitted: &[Indexed<Result<Sent, Fault>>],
 ) -> Result<(), AllocError>
-    requires emitted { StandByPlace (length members.now) emitted.now }
+    requires emitted { StandByIndex (length members.now) emitted.now }
     ensures { IfOk result (λ _. deliveries_of deliveries.new.items
         ≡ deliveries_of deliveries.old.items ++ rows members.now links.now emitted.now) }
 {
     for emission in emitted {
         if let Ok(sent) = &emission.what {
-            let number = members[emission.place as usize].number;
+            let number = members[emission.index as usize].number;
             carry_row(deliveries, links.of_component(number), sent)?;
         }
     }
@@ -163,10 +163,10 @@ pub fn away(
     alloc: Global,
     members: &[Member],
     links: &Routes,
-    emitted: &[Placed<Result<Sent, Fault>>],
+    emitted: &[Indexed<Result<Sent, Fault>>],
 ) -> Result<Vec<Delivery>, AllocError>
     requires numbers { AreRising (numbers_of members.now) }
-    requires emitted { StandByPlace (length members.now) emitted.now }
+    requires emitted { StandByIndex (length members.now) emitted.now }
     ensures { IfOk result (λ ds. deliveries_of ds.items
         ≡ in_order (carried links.now (sent_in members.now emitted.now))) }
 {

@@ -4,14 +4,14 @@ ghost use Rattle.std.specs.Prelude.{◌≡◌, OnOk, length};
 ghost use Rattle.dv_devs.specs.Network.{outer_from};
 ghost use Rattle.dv_react.specs.Components.{rank_of};
 ghost use Rattle.dv_record.specs.Told.{IsOpenAt, with_lines};
-ghost use Rattle.dv_share.specs.Places.{AreRising};
-ghost use Rattle.dv_share.specs.Share.{StandByPlace, numbers_of, sent_in};
+ghost use Rattle.dv_share.specs.Indices.{AreRising};
+ghost use Rattle.dv_share.specs.Share.{StandByIndex, numbers_of, sent_in};
 ghost use Rattle.dv_conservative.specs.Links.{carried, inbox};
 
 use crate::arrival::bags_of;
 use crate::carry::carry_emitted;
+use crate::index::Indexed;
 use crate::link::Delivery;
-use crate::place::Placed;
 use crate::tables::Tables;
 use dv_bag::{Fault, Sent};
 use dv_react::Instant;
@@ -28,12 +28,12 @@ pub fn outer<A, R: Record>(
     alloc: Global,
     tables: &Tables<A>,
     instant: &Instant,
-    emitted: &[Placed<Result<Sent, Fault>>],
+    emitted: &[Indexed<Result<Sent, Fault>>],
     leaving: &mut Vec<Delivery>,
     to: &mut R,
 ) -> Result<(), AllocError>
     requires numbers { AreRising (numbers_of tables.now.members.items) }
-    requires emitted { StandByPlace (length tables.now.members.items) emitted.now }
+    requires emitted { StandByIndex (length tables.now.members.items) emitted.now }
     requires is_open { IsOpenAt instant.now.time (R.told to.old) }
     ensures told { OnOk result (R.told to.new ≡ with_lines
         (outer_from instant.now.limit (rank_of instant.now) 0

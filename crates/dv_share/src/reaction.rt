@@ -6,17 +6,17 @@ ghost use Rattle.dv_devs.specs.Behaviour.{emission};
 ghost use Rattle.dv_react.specs.Components.{IsWaitOfRun, component_of, rank_of};
 ghost use Rattle.dv_react.specs.Outcomes.{fault_of, left_by, outcome_of};
 ghost use Rattle.dv_share.specs.Outcomes.{IsOutcomeOf, behaviour_in};
-ghost use Rattle.dv_share.specs.Places.{AreRising, IsNext, places_of};
+ghost use Rattle.dv_share.specs.Indices.{AreRising, IsNext, indices_of};
 ghost use Rattle.dv_share.specs.Share.{AreTables, FitsAt, given_at};
 ghost use Rattle.dv_share.specs.declared.tables.Member.{Member};
 
-use crate::place::{Placed, item_at};
+use crate::index::{Indexed, item_at};
 use crate::tables::Tables;
 use dv_bag::{Bags, Fault, Sent};
 use dv_react::{Atomic, Happened, Instant, Running};
 use std::alloc::AllocError;
 
-/// Lets a component that emitted or receives something react in place, by the index of the first emission that does not stand
+/// Lets a component that emitted or receives something react in place, by the cursor of the first emission that does not stand
 /// before it. Tells what happened, if anything did. Then `before` is what the component was. No other component is looked at.
 ///
 /// # Errors
@@ -28,33 +28,33 @@ pub fn react<A: Atomic>(
     instant: &Instant,
     component: &mut Running,
     before: &mut Running,
-    emitted: &[Placed<Result<Sent, Fault>>],
-    index: usize,
-    arrival: &Placed<Bags>,
+    emitted: &[Indexed<Result<Sent, Fault>>],
+    cursor: usize,
+    arrival: &Indexed<Bags>,
 ) -> Result<Option<Happened>, AllocError>
     requires tables { AreTables A.fits tables.now }
     requires limit { instant.now.limit ≡ tables.now.limit }
-    requires place { arrival.now.place < length tables.now.members.items }
+    requires index { arrival.now.index < length tables.now.members.items }
     requires wait { IsWaitOfRun tables.now.limit component.old.wait }
-    requires fits { (m : Member) → slice_get tables.now.members.items arrival.now.place ≡ Some m
+    requires fits { (m : Member) → slice_get tables.now.members.items arrival.now.index ≡ Some m
         → FitsAt A.fits tables.now.models.items m.model component.old.state }
     requires comes { (a : A) (bags : List Counts) → A.comes a bags }
-    requires rise { AreRising (places_of emitted.now) }
-    requires next { IsNext arrival.now.place emitted.now index }
-    requires given { (m : Member) → slice_get tables.now.members.items arrival.now.place ≡ Some m
-        → given_at arrival.now.place emitted.now ≡ emission (behaviour_in A.behaviour tables.now m)
+    requires rise { AreRising (indices_of emitted.now) }
+    requires next { IsNext arrival.now.index emitted.now cursor }
+    requires given { (m : Member) → slice_get tables.now.members.items arrival.now.index ≡ Some m
+        → given_at arrival.now.index emitted.now ≡ emission (behaviour_in A.behaviour tables.now m)
         (rank_of instant.now) (component_of tables.now.limit component.old) }
     ensures outcome { IfOk result (λ happened. IsOutcomeOf A.behaviour A.fits tables.now
-        (rank_of instant.now) component.old (given_at arrival.now.place emitted.now) arrival.now
+        (rank_of instant.now) component.old (given_at arrival.now.index emitted.now) arrival.now
         (outcome_of component.new happened)) }
     ensures left { IfOk result (λ happened. component.new
         ≡ left_by component.old (outcome_of component.new happened)) }
     ensures before { IfOk result (λ happened. happened ≢ None → before.new ≡ component.old) }
     ensures err { OnErr result (component.new ≡ component.old) }
 {
-    let member = &tables.members[arrival.place as usize];
+    let member = &tables.members[arrival.index as usize];
     let atomic = &tables.models[member.model as usize];
-    let fault = fault_at(emitted, index, arrival.place);
+    let fault = fault_at(emitted, cursor, arrival.index);
     dv_react::react(
         atomic,
         work,
@@ -66,13 +66,13 @@ pub fn react<A: Atomic>(
     )
 }
 
-// The fault of the output function at a place, if it had one.
-fn fault_at(emitted: &[Placed<Result<Sent, Fault>>], index: usize, place: u32) -> Option<Fault>
-    requires rise { AreRising (places_of emitted.now) }
-    requires next { IsNext place emitted.now index }
-    ensures { result ≡ fault_of (given_at place emitted.now) }
+// The fault of the output function at an index, if it had one.
+fn fault_at(emitted: &[Indexed<Result<Sent, Fault>>], cursor: usize, index: u32) -> Option<Fault>
+    requires rise { AreRising (indices_of emitted.now) }
+    requires next { IsNext index emitted.now cursor }
+    ensures { result ≡ fault_of (given_at index emitted.now) }
 {
-    match item_at(emitted, index, place) {
+    match item_at(emitted, cursor, index) {
         Some(Err(fault)) => Some(*fault),
         Some(Ok(_)) | None => None,
     }

@@ -1,17 +1,17 @@
-//! What comes to the components of a share at an instant, by place.
+//! What comes to the components of a share at an instant, by index.
 
 ghost use Rattle.std.specs.Prelude.{◌≡◌, ℕ, ◌++◌, ◌∷◌, ◌<◌, ◌≤◌, List, [], IsPermutation, IsTrue, OnOk, Some};
 ghost use Rattle.std.specs.Prelude.{length, map, replicate, slice_get};
 ghost use Rattle.std.specs.List.{All};
 ghost use Rattle.dv_conservative.specs.Links.{Delivery as Meant};
 ghost use Rattle.dv_share.specs.Links.{deliveries_of, delivery_of};
-ghost use Rattle.dv_share.specs.Places.{AreRising, is_in, places_of};
-ghost use Rattle.dv_share.specs.Received.{AreGathered, met_of, with_delivery_at, with_place};
-ghost use Rattle.dv_share.specs.Share.{AreAmong, AreReceived, AreTouched, StandByPlace, numbers_of};
+ghost use Rattle.dv_share.specs.Indices.{AreRising, is_in, indices_of};
+ghost use Rattle.dv_share.specs.Received.{AreGathered, met_of, with_delivery_at, with_index};
+ghost use Rattle.dv_share.specs.Share.{AreAmong, AreReceived, AreTouched, StandByIndex, numbers_of};
 
+use crate::index::Indexed;
 use crate::link::Delivery;
-use crate::place::Placed;
-use crate::tables::{Member, place_of};
+use crate::tables::{Member, index_of};
 use crate::tally::Tally;
 use dv_bag::{Bags, Fault, Sent};
 use std::alloc::{AllocError, Global};
@@ -21,21 +21,21 @@ use std::mem;
 // Where one of so many components is met, many are.
 const DENSE: usize = 8;
 
-/// What comes to the component at a place, and whether something comes to it or it emitted something.
+/// What comes to the component at an index, and whether something comes to it or it emitted something.
 #[derive(Drop)]
 pub(crate) struct Receipt {
-    pub placed: Placed<Bags>,
+    pub indexed: Indexed<Bags>,
     pub is_met: bool,
 }
 
 /// What comes to components at an instant: the bags of those to which something comes and of those that emitted something, in
-/// the order of their places. The memory serves again at the next instant.
+/// the order of their indices. The memory serves again at the next instant.
 #[derive(Drop)]
 pub struct Received {
-    // By place.
+    // By index.
     receipts: Vec<Receipt>,
     // Those of the receipts that are met.
-    places: Vec<u32>,
+    indices: Vec<u32>,
     // Room for them in another order.
     spare: Vec<u32>,
     tally: Tally,
@@ -44,16 +44,16 @@ pub struct Received {
 
 impl Model for Received {
     ghost use Rattle.std.specs.Prelude.{length};
-    ghost use Rattle.dv_share.specs.Received.{AreMet, ReceivedOf, placed_at};
+    ghost use Rattle.dv_share.specs.Received.{AreMet, ReceivedOf, indexed_at};
 
     ghost Value = { ReceivedOf };
 
     ghost view = { λ r. record {
       room = length r.receipts.items;
-      items = placed_at r.receipts.items r.places.items;
+      items = indexed_at r.receipts.items r.indices.items;
     } };
 
-    ghost invariant = { λ r. AreMet r.receipts.items r.places.items };
+    ghost invariant = { λ r. AreMet r.receipts.items r.indices.items };
 }
 
 impl Received {
@@ -63,7 +63,7 @@ impl Received {
     {
         Received {
             receipts: Vec::new(alloc),
-            places: Vec::new(alloc),
+            indices: Vec::new(alloc),
             spare: Vec::new(alloc),
             tally: Tally::new(alloc),
             alloc,
@@ -75,16 +75,16 @@ impl Received {
     pub fn len(&self) -> usize
         ensures { result ≡ length self.now.items }
     {
-        self.places.len()
+        self.indices.len()
     }
 
     /// What comes to one of them.
     #[inline]
-    pub fn at(&self, index: usize) -> &Placed<Bags>
+    pub fn at(&self, index: usize) -> &Indexed<Bags>
         requires { index < length self.now.items }
         ensures { slice_get self.now.items index ≡ Some result.now }
     {
-        &self.receipts[self.places[index] as usize].placed
+        &self.receipts[self.indices[index] as usize].indexed
     }
 
     /// Puts deliveries in order where many come to one component: each value then goes to the end of its bag. Few values
@@ -105,7 +105,7 @@ impl Received {
         Ok(())
     }
 
-    /// Puts what comes by deliveries in the place of what is there, with a place for each component that emitted something.
+    /// Puts what comes by deliveries in the place of what is there, with an index for each component that emitted something.
     ///
     /// # Errors
     ///
@@ -113,15 +113,15 @@ impl Received {
     pub(crate) fn gather(
         &mut self,
         members: &[Member],
-        emitted: &[Placed<Result<Sent, Fault>>],
+        emitted: &[Indexed<Result<Sent, Fault>>],
         deliveries: &[Delivery],
     ) -> Result<(), AllocError>
         requires numbers { AreRising (numbers_of members.now) }
-        requires emitted { StandByPlace (length members.now) emitted.now }
+        requires emitted { StandByIndex (length members.now) emitted.now }
         ensures received { OnOk result
             (AreReceived members.now (deliveries_of deliveries.now) self.new.items) }
-        ensures among { OnOk result (AreAmong (places_of emitted.now) (places_of self.new.items)) }
-        ensures touched { OnOk result (AreTouched (places_of emitted.now) self.new.items) }
+        ensures among { OnOk result (AreAmong (indices_of emitted.now) (indices_of self.new.items)) }
+        ensures touched { OnOk result (AreTouched (indices_of emitted.now) self.new.items) }
     {
         self.clear();
         self.make_room(members)?;
@@ -131,12 +131,12 @@ impl Received {
         Ok(())
     }
 
-    // Nothing comes any more. What came stays in memory until something else comes to its place.
+    // Nothing comes any more. What came stays in memory until something else comes to its index.
     fn clear(&mut self)
         ensures { self.new.items ≡ [] }
     {
-        while let Some(place) = self.places.pop() {
-            self.receipts[place as usize].is_met = false;
+        while let Some(index) = self.indices.pop() {
+            self.receipts[index as usize].is_met = false;
         }
     }
 
@@ -147,53 +147,53 @@ impl Received {
         ensures items { self.new.items ≡ self.old.items }
     {
         while self.receipts.len() < members.len() {
-            let place = place_as_number(members, self.receipts.len());
+            let index = index_as_number(members, self.receipts.len());
             let what = Bags::empty(self.alloc, 0);
             self.receipts.push(Receipt {
-                placed: Placed { place, what },
+                indexed: Indexed { index, what },
                 is_met: false,
             })?;
         }
         Ok(())
     }
 
-    // A place for each component that emitted something.
+    // An index for each component that emitted something.
     fn meet_all(
         &mut self,
         members: &[Member],
-        emitted: &[Placed<Result<Sent, Fault>>],
+        emitted: &[Indexed<Result<Sent, Fault>>],
     ) -> Result<(), AllocError>
-        requires emitted { StandByPlace (length members.now) emitted.now }
+        requires emitted { StandByIndex (length members.now) emitted.now }
         requires room { length members.now ≤ self.old.room }
         ensures room { self.new.room ≡ self.old.room }
         ensures gathered { OnOk result ((ds : List Meant)
             → AreGathered members.now ds self.old.items
             → AreGathered members.now ds self.new.items) }
-        ensures among { OnOk result (AreAmong (places_of emitted.now) (places_of self.new.items)) }
-        ensures touched { OnOk result (AreTouched (places_of emitted.now) self.old.items
-            → AreTouched (places_of emitted.now) self.new.items) }
+        ensures among { OnOk result (AreAmong (indices_of emitted.now) (indices_of self.new.items)) }
+        ensures touched { OnOk result (AreTouched (indices_of emitted.now) self.old.items
+            → AreTouched (indices_of emitted.now) self.new.items) }
     {
         for emission in emitted {
-            let inputs = members[emission.place as usize].inputs;
-            self.meet(emission.place, inputs)?;
+            let inputs = members[emission.index as usize].inputs;
+            self.meet(emission.index, inputs)?;
         }
         Ok(())
     }
 
-    // A place for a component with so many input ports, if it has none yet. It is asked for each value, and mostly has one.
+    // An index for a component with so many input ports, if it has none yet. It is asked for each value, and mostly has one.
     #[inline(always)]
-    fn meet(&mut self, place: u32, inputs: u32) -> Result<(), AllocError>
-        requires { place < self.old.room }
+    fn meet(&mut self, index: u32, inputs: u32) -> Result<(), AllocError>
+        requires { index < self.old.room }
         ensures room { self.new.room ≡ self.old.room }
-        ensures met { OnOk result (self.new.items ≡ with_place place inputs self.old.items) }
+        ensures met { OnOk result (self.new.items ≡ with_index index inputs self.old.items) }
     {
-        if self.receipts[place as usize].is_met {
+        if self.receipts[index as usize].is_met {
             return Ok(());
         }
-        self.places.push(place)?;
-        let receipt = &mut self.receipts[place as usize];
+        self.indices.push(index)?;
+        let receipt = &mut self.receipts[index as usize];
         receipt.is_met = true;
-        put_none(self.alloc, inputs as usize, &mut receipt.placed.what);
+        put_none(self.alloc, inputs as usize, &mut receipt.indexed.what);
         Ok(())
     }
 
@@ -205,8 +205,8 @@ impl Received {
         ensures gathered { OnOk result ((ds : List Meant)
             → AreGathered members.now ds self.old.items
             → AreGathered members.now (ds ++ deliveries_of deliveries.now) self.new.items) }
-        ensures among { OnOk result (AreAmong (places_of self.old.items)
-            (places_of self.new.items)) }
+        ensures among { OnOk result (AreAmong (indices_of self.old.items)
+            (indices_of self.new.items)) }
         ensures touched { OnOk result ((ps : List ℕ) → AreTouched ps self.old.items
             → AreTouched ps self.new.items) }
     {
@@ -225,93 +225,93 @@ impl Received {
         ensures gathered { OnOk result ((ds : List Meant)
             → AreGathered members.now ds self.old.items
             → AreGathered members.now (ds ++ delivery_of delivery.now ∷ []) self.new.items) }
-        ensures among { OnOk result (AreAmong (places_of self.old.items)
-            (places_of self.new.items)) }
+        ensures among { OnOk result (AreAmong (indices_of self.old.items)
+            (indices_of self.new.items)) }
         ensures touched { OnOk result ((ps : List ℕ) → AreTouched ps self.old.items
             → AreTouched ps self.new.items) }
     {
         if delivery.copies == 0 {
             return Ok(());
         }
-        let Some(place) = place_of(members, delivery.component) else {
+        let Some(index) = index_of(members, delivery.component) else {
             return Ok(());
         };
-        let inputs = members[place].inputs;
+        let inputs = members[index].inputs;
         if delivery.port >= inputs {
             return Ok(());
         }
-        let place = place_as_number(members, place);
-        self.meet(place, inputs)?;
-        self.put(place, delivery)
+        let index = index_as_number(members, index);
+        self.meet(index, inputs)?;
+        self.put(index, delivery)
     }
 
-    // A delivery into the bags of a place that is met.
+    // A delivery into the bags of an index that is met.
     #[inline]
-    fn put(&mut self, place: u32, delivery: &Delivery) -> Result<(), AllocError>
-        requires met { IsTrue (is_in place (places_of self.old.items)) }
-        requires ports { All (λ x. x.place ≡ place → delivery.now.port < length x.what)
+    fn put(&mut self, index: u32, delivery: &Delivery) -> Result<(), AllocError>
+        requires met { IsTrue (is_in index (indices_of self.old.items)) }
+        requires ports { All (λ x. x.index ≡ index → delivery.now.port < length x.what)
             self.old.items }
         ensures room { self.new.room ≡ self.old.room }
         ensures put { OnOk result (self.new.items
-            ≡ map (with_delivery_at place (delivery_of delivery.now)) self.old.items) }
+            ≡ map (with_delivery_at index (delivery_of delivery.now)) self.old.items) }
     {
-        delivery.put(&mut self.receipts[place as usize].placed.what)
+        delivery.put(&mut self.receipts[index as usize].indexed.what)
     }
 
-    // Whether a walk over all receipts takes less time than to sort the places: many are met, and not in order.
+    // Whether a walk over all receipts takes less time than to sort the indices: many are met, and not in order.
     fn is_walk_faster(&self) -> bool {
-        self.places.len() >= self.receipts.len() / DENSE && !are_in_order(&self.places)
+        self.indices.len() >= self.receipts.len() / DENSE && !are_in_order(&self.indices)
     }
 
-    // The places in their order. They stay as they are where there is no memory to order them.
+    // The indices in their order. They stay as they are where there is no memory to order them.
     fn put_in_order(&mut self) -> Result<(), AllocError>
-        ensures rise { OnOk result (AreRising (places_of self.new.items)) }
+        ensures rise { OnOk result (AreRising (indices_of self.new.items)) }
         ensures same { OnOk result (IsPermutation self.old.items self.new.items) }
     {
         if !self.is_walk_faster() {
-            self.places.sort_unstable();
+            self.indices.sort_unstable();
             return Ok(());
         }
         put_met(&mut self.spare, &self.receipts)?;
-        mem::swap(&mut self.places, &mut self.spare);
+        mem::swap(&mut self.indices, &mut self.spare);
         Ok(())
     }
 }
 
-// Whether no place stands before one that is less.
+// Whether no index stands before one that is less.
 #[inline]
-fn are_in_order(places: &[u32]) -> bool {
-    for index in 1..places.len() {
-        if places[index] < places[index - 1] {
+fn are_in_order(indices: &[u32]) -> bool {
+    for index in 1..indices.len() {
+        if indices[index] < indices[index - 1] {
             return false;
         }
     }
     true
 }
 
-// The places of the receipts that are met, in the order of the receipts, in the place of those that are there.
+// The indices of the receipts that are met, in the order of the receipts, in the place of those that are there.
 #[inline]
-fn put_met(places: &mut Vec<u32>, receipts: &[Receipt]) -> Result<(), AllocError>
-    ensures { OnOk result (places.new.items ≡ met_of receipts.now) }
+fn put_met(indices: &mut Vec<u32>, receipts: &[Receipt]) -> Result<(), AllocError>
+    ensures { OnOk result (indices.new.items ≡ met_of receipts.now) }
 {
-    places.clear();
+    indices.clear();
     for receipt in receipts {
         if receipt.is_met {
-            places.push(receipt.placed.place)?;
+            indices.push(receipt.indexed.index)?;
         }
     }
     Ok(())
 }
 
-// A place as a number, which no place is too great for: no component's number is less than its place.
+// An index as a number, which no index is too great for: no component's number is less than its index.
 #[inline]
-fn place_as_number(members: &[Member], place: usize) -> u32
+fn index_as_number(members: &[Member], index: usize) -> u32
     requires numbers { AreRising (numbers_of members.now) }
-    requires within { place < length members.now }
-    ensures { result ≡ place }
+    requires within { index < length members.now }
+    ensures { result ≡ index }
 {
-    let greatest = members[place].number;
-    u32::try_from(place).unwrap_or(greatest)
+    let greatest = members[index].number;
+    u32::try_from(index).unwrap_or(greatest)
 }
 
 // Empty bags for so many ports, in the place of those that are there.

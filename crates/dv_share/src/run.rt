@@ -55,12 +55,12 @@ pub(crate) fn run_of<By, T: Numbered<By>>(items: &[T], number: usize) -> &[T]
     requires { IsNonDecreasingBy T.number items.now }
     ensures { result.now ≡ filter (λ (x : T). nat_eq (T.number x) number) items.now }
 {
-    let (first, end) = places_of::<By, T>(items, number);
+    let (first, end) = indices_of::<By, T>(items, number);
     &items[first..end]
 }
 
 // Where the items of a number begin and end.
-fn places_of<By, T: Numbered<By>>(items: &[T], number: usize) -> (usize, usize)
+fn indices_of<By, T: Numbered<By>>(items: &[T], number: usize) -> (usize, usize)
     requires { IsNonDecreasingBy T.number items.now }
     ensures order { result.0 ≤ result.1 }
     ensures within { result.1 ≤ length items.now }
@@ -74,7 +74,7 @@ fn places_of<By, T: Numbered<By>>(items: &[T], number: usize) -> (usize, usize)
     (first, end)
 }
 
-/// Where the items of a number end, from a place on from which no item is of a number before it.
+/// Where the items of a number end, from an index on from which no item is of a number before it.
 pub(crate) fn run_end<By, T: Numbered<By>>(items: &[T], start: usize, number: usize) -> usize
     requires rise { IsNonDecreasingBy T.number items.now }
     requires within { start ≤ length items.now }

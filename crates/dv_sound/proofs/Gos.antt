@@ -14,16 +14,16 @@ use Rattle.dv_bag.specs.Collections.{discipline_of_change}
 use Rattle.dv_bag.specs.Numbers.{HoldsNumbers}
 use Rattle.dv_bag.specs.declared.state.State.{State}
 use Rattle.dv_eval.specs.Meaning.{hold_of}
-use Rattle.dv_eval.specs.Scope.{Scope, hold_ticks, is_declared, phase_name, place_of, rule_body, rule_of, same_sort, scope_of}
+use Rattle.dv_eval.specs.Scope.{Scope, hold_ticks, is_declared, phase_name, index_of, rule_body, rule_of, same_sort, scope_of}
 use Rattle.dv_check.specs.declared.wanted.Wanted.TheVariants as wanted
 use Rattle.dv_accepted.specs.Fitting.{are_names_known, are_terms_known, fits, is_assignable, is_command_known, is_held, is_readable}
 use Rattle.dv_accepted.specs.Fitting.{wanted_of}
 use Rattle.dv_accepted.specs.Gotos.{goto_of, gotos_in}
-use Rattle.dv_accepted.proofs.Fitting.{HasPlace, place_of_declared}
+use Rattle.dv_accepted.proofs.Fitting.{HasIndex, index_of_declared}
 use Rattle.dv_accepted.proofs.Keeping.{all_parts}
 use Rattle.dv_gen.specs.Generator.{goes, program_of}
 use Rattle.dv_gen.specs.ModelCode.{phase_code, phase_codes}
-use Rattle.dv_gen.specs.Resolution.{goto_places, place_or_first, rule_tree}
+use Rattle.dv_gen.specs.Resolution.{goto_indices, index_or_first, rule_tree}
 use Rattle.dv_gen.specs.declared.model_code.PhaseCode.{PhaseCode}
 use Rattle.dv_bound.specs.Response.{IsNotBelow, external_gotos_in, response_of}
 use Rattle.dv_bound.proofs.Names.{name_at}
@@ -67,20 +67,20 @@ module _ (scope : Scope) where
       (are_terms_known scope rule loops e && are_names_known scope rule loops rest) h in
       let second = and_parts (are_terms_known scope rule loops e) (are_names_known scope rule loops rest) first.1 in
       all_declared rule loops rest second.1
-  all_declared rule loops (Does c place name rest) h =
+  all_declared rule loops (Does c offset name rest) h =
       let first = and_parts (is_command_known scope c name.number) (are_names_known scope rule loops rest) h in
       joined IsDeclared (goto_of c name) (gotos_in rest) (goto_declared c name first.0) (all_declared rule loops rest first.1)
-  all_declared rule loops (Send place port e rest) h =
+  all_declared rule loops (Send offset port e rest) h =
       let first = and_parts (is_declared port.number scope.outputs)
       (are_terms_known scope rule loops e && are_names_known scope rule loops rest) h in
       let second = and_parts (are_terms_known scope rule loops e) (are_names_known scope rule loops rest) first.1 in
       all_declared rule loops rest second.1
-  all_declared rule loops (If place e block rest) h =
+  all_declared rule loops (If offset e block rest) h =
       let first = and_parts (are_terms_known scope rule loops e)
       (are_names_known scope rule loops block && are_names_known scope rule loops rest) h in
       let second = and_parts (are_names_known scope rule loops block) (are_names_known scope rule loops rest) first.1 in
       joined IsDeclared (gotos_in block) (gotos_in rest) (all_declared rule loops block second.0) (all_declared rule loops rest second.1)
-  all_declared rule loops (IfElse place e block other rest) h =
+  all_declared rule loops (IfElse offset e block other rest) h =
       let first = and_parts (are_terms_known scope rule loops e)
       (are_names_known scope rule loops block && (are_names_known scope rule loops other && are_names_known scope rule loops rest)) h in
       let second = and_parts (are_names_known scope rule loops block)
@@ -88,13 +88,13 @@ module _ (scope : Scope) where
       let third = and_parts (are_names_known scope rule loops other) (are_names_known scope rule loops rest) second.1 in
       joined IsDeclared (gotos_in block) (gotos_in other ++ gotos_in rest) (all_declared rule loops block second.0)
       (joined IsDeclared (gotos_in other) (gotos_in rest) (all_declared rule loops other third.0) (all_declared rule loops rest third.1))
-  all_declared rule loops (For place v b block rest) h =
+  all_declared rule loops (For offset v b block rest) h =
       let first = and_parts (is_readable wanted.Values scope rule b.number)
       (are_names_known scope rule (v.number ∷ loops) block && are_names_known scope rule loops rest) h in
       let second = and_parts (are_names_known scope rule (v.number ∷ loops) block) (are_names_known scope rule loops rest) first.1 in
       joined IsDeclared (gotos_in block) (gotos_in rest) (all_declared rule (v.number ∷ loops) block second.0)
       (all_declared rule loops rest second.1)
-  all_declared rule loops (Changes c place e x rest) h =
+  all_declared rule loops (Changes c offset e x rest) h =
       let target = is_held (wanted_of (discipline_of_change c)) scope x.number in
       let first = and_parts (are_terms_known scope rule loops e) (target && are_names_known scope rule loops rest) h in
       let second = and_parts target (are_names_known scope rule loops rest) first.1 in
@@ -123,35 +123,35 @@ module _ (m : AtomicTree)
       hold_of (scope_of m) (hold_ticks name m.holds) s ≡ Ok (Some ticks) → IsNotBelow (response_of m) ticks
 
   abbrev pub RespondsAt : ℕ → Type 0
-  RespondsAt place =
-      (s : State) (ticks : ℕ) → fits_kept m s ≡ true → s.phase ≡ place →
+  RespondsAt offset =
+      (s : State) (ticks : ℕ) → fits_kept m s ≡ true → s.phase ≡ offset →
       (behaviour_by (phase_codes m)).hold s ≡ Ok (Some ticks) → IsNotBelow (response_of m) ticks
 
-  at_place : (name : ℕ) → HasPlace name (scope_of m).phases → RespondsBy name →
-      RespondsAt (place_or_first (place_of name (scope_of m).phases))
-  at_place name has responds s ticks fit here held =
+  at_index : (name : ℕ) → HasIndex name (scope_of m).phases → RespondsBy name →
+      RespondsAt (index_or_first (index_of name (scope_of m).phases))
+  at_index name has responds s ticks fit here held =
       let parts = and_parts (fits m s) (are_kept s.variables) fit in
-      let place : s.phase ≡ has.place = here ∙ ap place_or_first has.found in
+      let index : s.phase ≡ has.index = here ∙ ap index_or_first has.found in
       let named : phase_name (scope_of m) s.phase ≡ name =
-      ap (phase_name (scope_of m)) place ∙ name_at name has.place (scope_of m).phases has.found in
+      ap (phase_name (scope_of m)) index ∙ name_at name has.index (scope_of m).phases has.found in
       responds s ticks parts.0 (all_held s.variables parts.1)
       (ap (λ (n : ℕ). hold_of (scope_of m) (hold_ticks n m.holds) s) (sym named) ∙ same s parts.0 ∙ held)
 
-  at_places : (names : List ℕ) → AllByRecursion (IsDeclared (scope_of m)) names → AllByRecursion RespondsBy names →
-      AllByRecursion RespondsAt (map (λ name. place_or_first (place_of name (scope_of m).phases)) names)
-  at_places [] h k = tt
-  at_places (n ∷ names) h k = (at_place n (place_of_declared n (scope_of m).phases h.0) k.0, at_places names h.1 k.1)
+  at_indices : (names : List ℕ) → AllByRecursion (IsDeclared (scope_of m)) names → AllByRecursion RespondsBy names →
+      AllByRecursion RespondsAt (map (λ name. index_or_first (index_of name (scope_of m).phases)) names)
+  at_indices [] h k = tt
+  at_indices (n ∷ names) h k = (at_index n (index_of_declared n (scope_of m).phases h.0) k.0, at_indices names h.1 k.1)
 
-  pub all_respond : ((r : RuleTree) → goes (program_of (rule_tree m r.body)) ≡ goto_places (scope_of m) r.body) →
+  pub all_respond : ((r : RuleTree) → goes (program_of (rule_tree m r.body)) ≡ goto_indices (scope_of m) r.body) →
       AllByRecursion (λ (r : RuleTree). are_names_known (scope_of m) (Some r.sort) [] r.body ≡ true) m.rules →
       AllByRecursion RespondsBy (flat_map external_gotos_in m.rules) → (phases : List ℕ) →
       AllByRecursion (λ (c : PhaseCode). AllByRecursion RespondsAt (goes c.external.code)) (map (phase_code m) phases)
   all_respond lead known responds [] = tt
   all_respond lead known responds (p ∷ phases) =
       let body = rule_body External p m.rules in
-      let name : Name = record { number = p; place = 0 } in
+      let name : Name = record { number = p; offset = 0 } in
       let rule : RuleTree = record { sort = External; phase = name; body = body } in (
         subst (AllByRecursion RespondsAt) (sym (lead rule))
-            (at_places (gotos_in body) (body_declared (scope_of m) p m.rules known) (of_body RespondsBy p m.rules responds)),
+            (at_indices (gotos_in body) (body_declared (scope_of m) p m.rules known) (of_body RespondsBy p m.rules responds)),
         all_respond lead known responds phases,
       )

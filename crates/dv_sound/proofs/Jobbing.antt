@@ -55,10 +55,10 @@ pub numbers_outside : (limit : ℕ) (f : FileTree) (inputs : List Input) → All
 numbers_outside limit f inputs = numbers_at limit (length (root_inputs f)) inputs
 
 -- an element of a list
-at_place : {X : Type 0} (P : X → Type 0) (xs : List X) (j : ℕ) (x : X) → AllByRecursion P xs → slice_get xs j ≡ Some x → P x
-at_place P [] j x h e = absurd (cc)
-at_place P (y ∷ ys) zero x h e = let same : y ≡ x = cc in subst P same h.0
-at_place P (y ∷ ys) (suc j) x h e = at_place P ys j x h.1 e
+at_index : {X : Type 0} (P : X → Type 0) (xs : List X) (j : ℕ) (x : X) → AllByRecursion P xs → slice_get xs j ≡ Some x → P x
+at_index P [] j x h e = absurd (cc)
+at_index P (y ∷ ys) zero x h e = let same : y ≡ x = cc in subst P same h.0
+at_index P (y ∷ ys) (suc j) x h e = at_index P ys j x h.1 e
 
 fits_at_number : (is : List Instance) (j : ℕ) (i : Instance) → slice_get is j ≡ Some i → fits_number is j ≡ fits_kept i.model
 fits_at_number [] j i e = absurd (cc)
@@ -115,8 +115,8 @@ all_sound limit owner f sound compilable numbers =
     let is = instances f in
     each_member limit 0 (fits_number is) (λ k. least_response owner (owner k) 0 (responses_of is)) is (λ j i e.
     let number : j ≡ 0 + j = omega arith in
-    let one = sound limit (0 + j) i.model (at_place (λ (i : Instance). IsCompilableModel (AtomicModel i.model)) is j i compilable e)
-    (at_place (λ (i : Instance). IsModelOfNumbers (AtomicModel i.model)) is j i numbers e) in
+    let one = sound limit (0 + j) i.model (at_index (λ (i : Instance). IsCompilableModel (AtomicModel i.model)) is j i compilable e)
+    (at_index (λ (i : Instance). IsModelOfNumbers (AtomicModel i.model)) is j i numbers e) in
     let test : fits_kept i.model ≡ fits_number is (0 + j) = sym (fits_at_number is j i e) ∙ ap (fits_number is) number in
     subst (λ (t : State → Bool). IsSound t (least_response owner (owner (0 + j)) 0 (responses_of is)) (member_of limit (0 + j) i.model))
     test

@@ -17,7 +17,7 @@ no_bag : (port : ℕ) → IsBag (bag_at [] port)
 no_bag zero = tt
 no_bag (suc port) = tt
 
--- bags by place, and all of a list
+-- bags by index, and all of a list
 bags_all : (bags : List Counts) → AreBags bags → All IsBag bags
 bags_all [] h = All-nil IsBag
 bags_all (b ∷ bs) h = All-cons IsBag b bs (h 0) (bags_all bs (λ port. h (suc port)))
@@ -37,7 +37,7 @@ all_sent_at [] h (suc k) port = no_bag port
 all_sent_at (x ∷ xs) h zero port = bags_at x (All-head (All IsBag) x xs h) port
 all_sent_at (x ∷ xs) h (suc k) port = all_sent_at xs (All-tail (All IsBag) x xs h) k port
 
--- unions, place by place
+-- unions, index by index
 nothing_at : (k : ℕ) → slice_index_or [] k (let none : List Counts = [] in none) ≡ []
 nothing_at zero = refl
 nothing_at (suc k) = refl
@@ -64,7 +64,7 @@ sent_united (x ∷ xs) [] k =
 sent_united (x ∷ xs) (y ∷ ys) zero = refl
 sent_united (x ∷ xs) (y ∷ ys) (suc k) = sent_united xs ys k
 
--- lists of as many bags that are the same at each place
+-- lists of as many bags that are the same at each index
 same_bags : (x y : List Counts) → length x ≡ length y → ((port : ℕ) → bag_at x port ≡ bag_at y port) → x ≡ y
 same_bags [] [] e h = refl
 same_bags [] (b ∷ bs) e h = absurd (omega arith)

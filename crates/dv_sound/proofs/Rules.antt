@@ -27,7 +27,7 @@ use Rattle.dv_bag.proofs.NumbersKept.{MadeOf}
 use Rattle.dv_devs.specs.Behaviour.{are_few}
 use Rattle.dv_eval.specs.declared.scope.Domain.{Domain}
 use Rattle.dv_eval.specs.declared.scope.Domain.TheVariants as domain
-use Rattle.dv_eval.specs.Scope.{Scope, names_of, place_of}
+use Rattle.dv_eval.specs.Scope.{Scope, names_of, index_of}
 use Rattle.dv_eval.specs.Meaning.{Context, assignment, assignment_at, assignment_in_domain, assignment_to, changing, changing_at}
 use Rattle.dv_eval.specs.Meaning.{collection_of_name, command_effect, effect_of, in_loop, moment_in, number_of, outermost, popping_at}
 use Rattle.dv_eval.specs.Meaning.{repetition, run, sending, truth_of, value_within, with_goto, with_made, with_value_at}
@@ -63,43 +63,43 @@ pub record Keeps (e : Effect) : Type 0 where
   pub state : are_kept e.state.variables ≡ true
   pub sent : are_of_numbers e.sent ≡ true
 
-put_keeps : (e : Effect) (place : ℕ) (d : Datum) → is_kept d ≡ true → Keeps e → Keeps (with_state e (with_datum e.state place d))
-put_keeps e place d h keeps = record { state = set_all is_kept e.state.variables place d keeps.state h; sent = keeps.sent }
+put_keeps : (e : Effect) (index : ℕ) (d : Datum) → is_kept d ≡ true → Keeps e → Keeps (with_state e (with_datum e.state index d))
+put_keeps e index d h keeps = record { state = set_all is_kept e.state.variables index d keeps.state h; sent = keeps.sent }
 
 module _ (scope : Scope) where
-  domain_keeps : (d : Domain) (place : ℕ) (v : Value) (e : Effect) → IsNumber v → Keeps e → IfOk (assignment_in_domain d place v e) Keeps
-  domain_keeps (domain.Number r) place v e n keeps =
-      if_ok_branch (is_within r.low r.high (number_of v)) (Ok (with_state e (with_datum e.state place (datum.Number (number_of v)))))
-      (Err fault.Range) Keeps (put_keeps e place (datum.Number (number_of v)) n keeps) tt
-  domain_keeps (domain.Flag start) place v e n keeps = put_keeps e place (datum.Flag (truth_of v)) refl keeps
-  domain_keeps (domain.Held d capacity) place v e n keeps = keeps
+  domain_keeps : (d : Domain) (offset : ℕ) (v : Value) (e : Effect) → IsNumber v → Keeps e → IfOk (assignment_in_domain d offset v e) Keeps
+  domain_keeps (domain.Number r) offset v e n keeps =
+      if_ok_branch (is_within r.low r.high (number_of v)) (Ok (with_state e (with_datum e.state offset (datum.Number (number_of v)))))
+      (Err fault.Range) Keeps (put_keeps e offset (datum.Number (number_of v)) n keeps) tt
+  domain_keeps (domain.Flag start) offset v e n keeps = put_keeps e offset (datum.Flag (truth_of v)) refl keeps
+  domain_keeps (domain.Held d capacity) offset v e n keeps = keeps
 
-  assigned_keeps : (o : Option (ℕ × Domain)) (place : ℕ) (v : Value) (e : Effect) → IsNumber v → Keeps e →
-      IfOk (assignment_to o place v e) Keeps
-  assigned_keeps None place v e n keeps = keeps
-  assigned_keeps (Some variable) place v e n keeps = domain_keeps variable.1 place v e n keeps
+  assigned_keeps : (o : Option (ℕ × Domain)) (offset : ℕ) (v : Value) (e : Effect) → IsNumber v → Keeps e →
+      IfOk (assignment_to o offset v e) Keeps
+  assigned_keeps None offset v e n keeps = keeps
+  assigned_keeps (Some variable) offset v e n keeps = domain_keeps variable.1 offset v e n keeps
 
   assign_keeps : (o : Option ℕ) (v : Value) (e : Effect) → IsNumber v → Keeps e → IfOk (assignment_at scope o v e) Keeps
   assign_keeps None v e n keeps = keeps
-  assign_keeps (Some place) v e n keeps = assigned_keeps (slice_get scope.variables place) place v e n keeps
+  assign_keeps (Some offset) v e n keeps = assigned_keeps (slice_get scope.variables offset) offset v e n keeps
 
-  -- what is made of the collection at a place, where that is kept
-  put_made_keeps : (place : ℕ) (held : Collection) (made : Option (Result Collection Fault)) (e : Effect) →
-      slice_get e.state.variables place ≡ Some (datum.Held held) → (IsKept held → MadeOf IsKept made) → Keeps e →
-      IfOk (with_made place e made) Keeps
-  put_made_keeps place held made e content stays keeps =
-      made_keeps Keeps e keeps IsKept place made (stays (get_all is_kept e.state.variables place (datum.Held held) keeps.state content))
-      (λ c kept. put_keeps e place (datum.Held c) kept keeps)
+  -- what is made of the collection at an offset, where that is kept
+  put_made_keeps : (offset : ℕ) (held : Collection) (made : Option (Result Collection Fault)) (e : Effect) →
+      slice_get e.state.variables offset ≡ Some (datum.Held held) → (IsKept held → MadeOf IsKept made) → Keeps e →
+      IfOk (with_made offset e made) Keeps
+  put_made_keeps offset held made e content stays keeps =
+      made_keeps Keeps e keeps IsKept offset made (stays (get_all is_kept e.state.variables offset (datum.Held held) keeps.state content))
+      (λ c kept. put_keeps e offset (datum.Held c) kept keeps)
 
   change_keeps : (c : Change) (o : Option ℕ) (n : ℤ) (e : Effect) → is_number n ≡ true → Keeps e → IfOk (changing_at scope c o n e) Keeps
   change_keeps c o n e number keeps =
-      changing_at_keeps Keeps e keeps scope c o n (λ place most held room content.
-      put_made_keeps place held (changed c most n held) e content (λ kept. changed_kept held kept c most n number) keeps)
+      changing_at_keeps Keeps e keeps scope c o n (λ offset most held room content.
+      put_made_keeps offset held (changed c most n held) e content (λ kept. changed_kept held kept c most n number) keeps)
 
   pop_keeps : (o : Option ℕ) (e : Effect) → Keeps e → IfOk (popping_at o e) Keeps
   pop_keeps o e keeps =
-      popping_at_keeps Keeps e keeps o (λ place held content.
-      put_made_keeps place held (popped held) e content (λ kept. popped_kept held kept) keeps)
+      popping_at_keeps Keeps e keeps o (λ offset held content.
+      put_made_keeps offset held (popped held) e content (λ kept. popped_kept held kept) keeps)
 
   sent_keeps : (o : Option ℕ) (n : ℤ) (e : Effect) → is_number n ≡ true → Keeps e → Keeps (with_value_at o n e)
   sent_keeps None n e number keeps = keeps
@@ -114,8 +114,8 @@ module _ (scope : Scope) where
   goes_keeps (Some phase) e keeps = record { state = keeps.state; sent = keeps.sent }
 
   command_keeps : (c : Command) (name : ℕ) (e : Effect) → Keeps e → IfOk (command_effect scope c name e) Keeps
-  command_keeps command.Goto name e keeps = goes_keeps (place_of name scope.phases) e keeps
-  command_keeps command.Pop name e keeps = pop_keeps (place_of name (names_of scope.variables)) e keeps
+  command_keeps command.Goto name e keeps = goes_keeps (index_of name scope.phases) e keeps
+  command_keeps command.Pop name e keeps = pop_keeps (index_of name (names_of scope.variables)) e keeps
 
   -- what has arrived and loops go through
   record Knows (context : Context) : Type 0 where
@@ -166,20 +166,20 @@ module _ (scope : Scope) where
   run_keeps context (Assign variable x rest) e small knows keeps =
       let parts = and_parts (names_numbers x) (name_numbers rest) small in
       after_step (value_within scope context e x) (λ v. assignment scope variable.number v e) (run scope context rest)
-      (within context e x parts.0 knows keeps) (λ v n. assign_keeps (place_of variable.number (names_of scope.variables)) v e n keeps)
+      (within context e x parts.0 knows keeps) (λ v n. assign_keeps (index_of variable.number (names_of scope.variables)) v e n keeps)
       (λ now k. run_keeps context rest now parts.1 knows k)
-  run_keeps context (Does c place name rest) e small knows keeps =
+  run_keeps context (Does c offset name rest) e small knows keeps =
       if_ok_then (command_effect scope c name.number e) (run scope context rest) Keeps Keeps (command_keeps c name.number e keeps)
       (λ now k. run_keeps context rest now small knows k)
-  run_keeps context (Send place port x rest) e small knows keeps =
+  run_keeps context (Send offset port x rest) e small knows keeps =
       let parts = and_parts (names_numbers x) (name_numbers rest) small in
       after_step (value_within scope context e x) (λ v. sending scope port.number v e) (run scope context rest)
       (within context e x parts.0 knows keeps)
       (λ v n. if_ok_branch (nat_le greatest_count (total_of_all e.sent)) (Err fault.Flood)
-      (Ok (with_value_at (place_of port.number scope.outputs) (number_of v) e)) Keeps tt
-      (sent_keeps (place_of port.number scope.outputs) (number_of v) e n keeps))
+      (Ok (with_value_at (index_of port.number scope.outputs) (number_of v) e)) Keeps tt
+      (sent_keeps (index_of port.number scope.outputs) (number_of v) e n keeps))
       (λ now k. run_keeps context rest now parts.1 knows k)
-  run_keeps context (If place condition block rest) e small knows keeps =
+  run_keeps context (If offset condition block rest) e small knows keeps =
       let first = and_parts (names_numbers condition) (name_numbers block && name_numbers rest) small in
       let parts = and_parts (name_numbers block) (name_numbers rest) first.1 in
       let one = run scope context block e in
@@ -187,7 +187,7 @@ module _ (scope : Scope) where
       after_step (value_within scope context e condition) (λ v. cond (truth_of v) one (Ok e)) (run scope context rest)
       (within context e condition first.0 knows keeps) (λ v n. if_ok_branch (truth_of v) one (Ok e) Keeps taken keeps)
       (λ now k. run_keeps context rest now parts.1 knows k)
-  run_keeps context (IfElse place condition block other rest) e small knows keeps =
+  run_keeps context (IfElse offset condition block other rest) e small knows keeps =
       let first = and_parts (names_numbers condition) (name_numbers block && (name_numbers other && name_numbers rest)) small in
       let parts = and_parts (name_numbers block) (name_numbers other && name_numbers rest) first.1 in
       let others = and_parts (name_numbers other) (name_numbers rest) parts.1 in
@@ -198,7 +198,7 @@ module _ (scope : Scope) where
       after_step (value_within scope context e condition) (λ v. cond (truth_of v) one two) (run scope context rest)
       (within context e condition first.0 knows keeps) (λ v n. if_ok_branch (truth_of v) one two Keeps taken taken_else)
       (λ now k. run_keeps context rest now others.1 knows k)
-  run_keeps context (For place v b block rest) e small knows keeps =
+  run_keeps context (For offset v b block rest) e small knows keeps =
       let parts = and_parts (name_numbers block) (name_numbers rest) small in
       let c = collection_of_name scope (moment_in context e.state) b.number in
       let few = collection_named scope (moment_in context e.state) b.number (knows_at context e knows keeps) in
@@ -212,11 +212,11 @@ module _ (scope : Scope) where
       }) k in
       if_ok_then (repetition step (values_in c) e) (run scope context rest) Keeps Keeps
       (repeats step (values_in c) e (held_values c few.numbers) each keeps) (λ now k. run_keeps context rest now parts.1 knows k)
-  run_keeps context (Changes c place x target rest) e small knows keeps =
+  run_keeps context (Changes c offset x target rest) e small knows keeps =
       let parts = and_parts (names_numbers x) (name_numbers rest) small in
       after_step (value_within scope context e x) (λ v. changing scope c target.number (number_of v) e) (run scope context rest)
       (within context e x parts.0 knows keeps)
-      (λ v n. change_keeps c (place_of target.number (names_of scope.variables)) (number_of v) e n keeps)
+      (λ v n. change_keeps c (index_of target.number (names_of scope.variables)) (number_of v) e n keeps)
       (λ now k. run_keeps context rest now parts.1 knows k)
 
   none_numbers : (n : ℕ) → are_of_numbers (replicate n []) ≡ true

@@ -5,7 +5,7 @@ use Rattle.std.specs.List.{AllByRecursion, cons_option, flat_map}
 use Rattle.std.proofs.lemmas.Bool.{and_from, and_parts, lt-ltb}
 use Rattle.dv_lex.specs.Lexemes.{Lexeme, Blank, Comment, Identifier, Numeral, Reserved, Sign}
 use Rattle.dv_lex.specs.Numbering.{token_of, tokens_of}
-use Rattle.dv_lex.specs.Reading.{IsInRange, Placed, Reads}
+use Rattle.dv_lex.specs.Reading.{IsInRange, Located, Reads}
 use Rattle.dv_lex.specs.Texts.{IsTokensOf}
 use Rattle.dv_lex.specs.Versions.{behind_header, headed, header_words, is_second_version, kind_or_word, later_words, text_in, versioned}
 use Rattle.dv_lex.specs.Versions.{with_words, word_written}
@@ -50,7 +50,7 @@ AreSmall (t ∷ ts) = IsSmall t.kind × AreSmall ts
 
 -- what is asked of a token
 abbrev asked : Spelled → TokenKind
-asked (At k place) = k
+asked (At k index) = k
 asked (Anywhere k) = k
 
 abbrev AskSmall : List Spelled → Type 0
@@ -58,25 +58,25 @@ AskSmall [] = Unit {0}
 AskSmall (s ∷ ss) = IsSmall (asked s) × AskSmall ss
 
 -- tokens of a text
-abbrev placed : Lexeme → ℕ → Placed
-placed l place = record { lexeme = l; place = place }
+abbrev located : Lexeme → ℕ → Located
+located l offset = record { lexeme = l; offset = offset }
 
-small_then : (names : List (List ℕ)) (l : Lexeme) (place : ℕ) (more : List Token) → IsInRange l → AreSmall more →
-    AreSmall (cons_option (token_of names (placed l place)) more)
-small_then names Blank place more h rest = rest
-small_then names Comment place more h rest = rest
-small_then names (Identifier text) place more h rest = (tt, rest)
-small_then names (Numeral value) place more h rest = (h, rest)
-small_then names (Reserved word) place more h rest = (tt, rest)
-small_then names (Sign sign) place more h rest = (tt, rest)
+small_then : (names : List (List ℕ)) (l : Lexeme) (index : ℕ) (more : List Token) → IsInRange l → AreSmall more →
+    AreSmall (cons_option (token_of names (located l index)) more)
+small_then names Blank index more h rest = rest
+small_then names Comment index more h rest = rest
+small_then names (Identifier text) index more h rest = (tt, rest)
+small_then names (Numeral value) index more h rest = (h, rest)
+small_then names (Reserved word) index more h rest = (tt, rest)
+small_then names (Sign sign) index more h rest = (tt, rest)
 
-tokens_small : (names : List (List ℕ)) (place : ℕ) (bytes : List ℕ) (xs : List Placed) (end : ℕ) (rest : List ℕ) →
-    Reads place bytes xs end rest → AreSmall (tokens_of names xs)
-tokens_small names place bytes [] end rest h = tt
-tokens_small names place bytes (x ∷ xs) end rest h =
+tokens_small : (names : List (List ℕ)) (index : ℕ) (bytes : List ℕ) (xs : List Located) (end : ℕ) (rest : List ℕ) →
+    Reads index bytes xs end rest → AreSmall (tokens_of names xs)
+tokens_small names index bytes [] end rest h = tt
+tokens_small names index bytes (x ∷ xs) end rest h =
     let front : List ℕ = h.2.0 in
-    small_then names x.lexeme x.place (tokens_of names xs) h.1
-    (tokens_small names (place + length front) h.2.1 xs end rest h.2.3)
+    small_then names x.lexeme x.offset (tokens_of names xs) h.1
+    (tokens_small names (index + length front) h.2.1 xs end rest h.2.3)
 
 -- the same where words stand in the places of names
 small_or : (k : TokenKind) (word : Option Keyword) → IsSmall k → IsSmall (kind_or_word k word)
@@ -113,7 +113,7 @@ spelled_small (s ∷ ss) [] rest h small = absurd h
 spelled_small (s ∷ ss) (t ∷ ts) rest h small = (here s h.0 small.0, spelled_small ss ts rest h.1 small.1)
   where
     here : (s : Spelled) → IsSpelled t s → IsSmall t.kind → IsSmall (asked s)
-    here (At k place) e h = subst IsSmall e.0 h
+    here (At k index) e h = subst IsSmall e.0 h
     here (Anywhere k) e h = subst IsSmall e h
 
 parted : (a b : List Spelled) → AskSmall (a ++ b) → AskSmall a × AskSmall b
@@ -126,34 +126,34 @@ inside ss h = let both = parted ss (sign symbol.CloseBrace ∷ []) h.1 in both.0
 -- expressions and statements
 expression_small : (e : Expression) → AskSmall (expression_spelling e) → names_numbers e ≡ true
 expression_small (Literal n) h = lt-ltb n.value (2 ^ 63) h.0
-expression_small (TruthValue place value) h = refl
+expression_small (TruthValue offset value) h = refl
 expression_small (Named n) h = refl
-expression_small (Parens place e) h =
+expression_small (Parens offset e) h =
     let both = parted (expression_spelling e) (sign symbol.CloseParen ∷ []) h.1 in expression_small e both.0
-expression_small (Prefixed o place e) h = expression_small e h.1
+expression_small (Prefixed o offset e) h = expression_small e h.1
 expression_small (Binary o a b) h =
     let both = parted (expression_spelling a) _ h in
     and_from (names_numbers a) (names_numbers b) (expression_small a both.0) (expression_small b both.1.1)
-expression_small (Call c place b) h = refl
-expression_small (Elapsed place) h = refl
-expression_small (Times place e b) h = let both = parted (expression_spelling e) _ h.1.1 in expression_small e both.0
+expression_small (Call c offset b) h = refl
+expression_small (Elapsed offset) h = refl
+expression_small (Times offset e b) h = let both = parted (expression_spelling e) _ h.1.1 in expression_small e both.0
 
 statements_small : (body : Statements) → AskSmall (statements_spelling body) → name_numbers body ≡ true
 statements_small Done h = refl
 statements_small (Assign n e rest) h =
     let both = parted (expression_spelling e) _ h.1.1 in
     and_from (names_numbers e) (name_numbers rest) (expression_small e both.0) (statements_small rest both.1.1)
-statements_small (Does c place n rest) h = statements_small rest h.1.1.1
-statements_small (Send place p e rest) h =
+statements_small (Does c offset n rest) h = statements_small rest h.1.1.1
+statements_small (Send offset p e rest) h =
     let both = parted (expression_spelling e) _ h.1.1 in
     and_from (names_numbers e) (name_numbers rest) (expression_small e both.0) (statements_small rest both.1.1)
-statements_small (If place e block rest) h =
+statements_small (If offset e block rest) h =
     let first = parted (expression_spelling e) _ h.1 in
     let second = parted (braces (statements_spelling block)) (statements_spelling rest) first.1 in
     and_from (names_numbers e) (name_numbers block && name_numbers rest) (expression_small e first.0)
     (and_from (name_numbers block) (name_numbers rest) (statements_small block (inside (statements_spelling block) second.0))
     (statements_small rest second.1))
-statements_small (IfElse place e block other rest) h =
+statements_small (IfElse offset e block other rest) h =
     let first = parted (expression_spelling e) _ h.1 in
     let second = parted (braces (statements_spelling block)) _ first.1 in
     let third = parted (braces (statements_spelling other)) (statements_spelling rest) second.1.1 in
@@ -162,11 +162,11 @@ statements_small (IfElse place e block other rest) h =
     (statements_small block (inside (statements_spelling block) second.0))
     (and_from (name_numbers other) (name_numbers rest) (statements_small other (inside (statements_spelling other) third.0))
     (statements_small rest third.1)))
-statements_small (For place v b block rest) h =
+statements_small (For offset v b block rest) h =
     let both = parted (braces (statements_spelling block)) (statements_spelling rest) h.1.1.1.1 in
     and_from (name_numbers block) (name_numbers rest) (statements_small block (inside (statements_spelling block) both.0))
     (statements_small rest both.1)
-statements_small (Changes c place e x rest) h =
+statements_small (Changes c offset e x rest) h =
     let both = parted (expression_spelling e) _ h.1 in
     and_from (names_numbers e) (name_numbers rest) (expression_small e both.0) (statements_small rest both.1.1.1.1)
 
@@ -190,12 +190,12 @@ rules_small name (i ∷ items) h =
 -- what variables start with
 signed_number : (minus : Option ℕ) (n : ℕ) → n < 2 ^ 63 → is_number (signed minus n) ≡ true
 signed_number None n lt = lt-ltb n (2 ^ 63) lt
-signed_number (Some place) zero lt = refl
-signed_number (Some place) (suc k) lt = lt-ltb k (2 ^ 63) (omega arith)
+signed_number (Some index) zero lt = refl
+signed_number (Some index) (suc k) lt = lt-ltb k (2 ^ 63) (omega arith)
 
 magnitude_small : (minus : Option ℕ) (n : Number) → AskSmall (minus_spelling minus ++ number n ∷ []) → n.value < 2 ^ 63
 magnitude_small None n h = h.0
-magnitude_small (Some place) n h = h.1.0
+magnitude_small (Some index) n h = h.1.0
 
 abbrev IsStartKept : Name × Domain → Type 0
 IsStartKept v = is_kept (start_datum v.1) ≡ true

@@ -32,7 +32,7 @@ use Rattle.dv_bag.specs.declared.state.Datum.TheVariants as datum
 use Rattle.dv_bag.specs.declared.value.Value.{Value}
 use Rattle.dv_bag.specs.declared.value.Value.TheVariants as value
 use Rattle.dv_devs.specs.Behaviour.{are_few}
-use Rattle.dv_eval.specs.Scope.{Scope, names_of, place_of}
+use Rattle.dv_eval.specs.Scope.{Scope, names_of, index_of}
 use Rattle.dv_eval.specs.Meaning.{Moment, bag_or_none, bag_received, call_result, collection_between, collection_of_name, datum_at}
 use Rattle.dv_eval.specs.Meaning.{datum_of_name, first, is_decided, loop_value, meaning, number_of, operator_result, prefix_result}
 use Rattle.dv_eval.specs.Meaning.{queue_or_none, same, truth_of, value_in_loop, value_of_datum, value_of_name}
@@ -120,17 +120,17 @@ pub record KnowsNumbers (m : Moment) : Type 0 where
   pub loops : list_all (λ (l : ℕ × ℤ). is_number l.1) m.context.loops ≡ true
 
 pub collection_named : (scope : Scope) (m : Moment) (name : ℕ) → KnowsNumbers m → IsFewNumbers (collection_of_name scope m name)
-collection_named scope m name h = by_place (place_of name (names_of scope.variables)) (place_of name scope.inputs)
+collection_named scope m name h = by_index (index_of name (names_of scope.variables)) (index_of name scope.inputs)
   where
     by_port : (port : Option ℕ) → IsFewNumbers (collection.Bag (bag_received m.context.arrivals port))
     by_port None = empty_few
     by_port (Some port) =
         record { numbers = bag_here m.context.arrivals.received port h.received; few = few_here m.context.arrivals.received port h.few }
 
-    by_place : (place port : Option ℕ) → IsFewNumbers (collection_between m place port)
-    by_place None port = by_port port
-    by_place (Some place) port =
-        held_few (slice_get m.state.variables place) (λ d e. all_get is_kept m.state.variables place d h.state e)
+    by_index : (index port : Option ℕ) → IsFewNumbers (collection_between m index port)
+    by_index None port = by_port port
+    by_index (Some index) port =
+        held_few (slice_get m.state.variables index) (λ d e. all_get is_kept m.state.variables index d h.state e)
 
 loop_number : (name : ℕ) (loops : List (ℕ × ℤ)) (v : Value) → list_all (λ (l : ℕ × ℤ). is_number l.1) loops ≡ true → IsNumber v →
     IsNumber (value_in_loop (loop_value name loops) v)
@@ -150,16 +150,16 @@ datum_number (Some (datum.Number n)) h = h (datum.Number n) refl
 datum_number (Some (datum.Flag b)) h = truth_number b
 datum_number (Some (datum.Held c)) h = refl
 
-at_place : (contents : List Datum) (place : Option ℕ) (d : Datum) → are_kept contents ≡ true → datum_at contents place ≡ Some d →
+at_index : (contents : List Datum) (index : Option ℕ) (d : Datum) → are_kept contents ≡ true → datum_at contents index ≡ Some d →
     is_kept d ≡ true
-at_place contents None d h e = absurd (cc)
-at_place contents (Some place) d h e = all_get is_kept contents place d h e
+at_index contents None d h e = absurd (cc)
+at_index contents (Some index) d h e = all_get is_kept contents index d h e
 
 named_number : (scope : Scope) (m : Moment) (name : ℕ) → KnowsNumbers m → IsNumber (value_of_name scope m name)
 named_number scope m name h =
     loop_number name m.context.loops (value_of_datum (datum_of_name scope m.state name)) h.loops
     (datum_number (datum_of_name scope m.state name)
-    (λ d e. at_place m.state.variables (place_of name (names_of scope.variables)) d h.state e))
+    (λ d e. at_index m.state.variables (index_of name (names_of scope.variables)) d h.state e))
 
 -- calls
 count_few : (v : ℤ) (b : Counts) → count_of v b ≤ total b
@@ -247,10 +247,10 @@ operator_number operator.AtLeast a b h = truth_number (not (int_lt (number_of a)
 pub meaning_number : (scope : Scope) (m : Moment) (e : Expression) → IsTrue (names_numbers e) → KnowsNumbers m →
     IfOk (meaning scope m e) IsNumber
 meaning_number scope m (Literal n) small h = small
-meaning_number scope m (TruthValue place b) small h = truth_number b
+meaning_number scope m (TruthValue offset b) small h = truth_number b
 meaning_number scope m (Named name) small h = named_number scope m name.number h
-meaning_number scope m (Parens place e) small h = meaning_number scope m e small h
-meaning_number scope m (Prefixed o place e) small h =
+meaning_number scope m (Parens offset e) small h = meaning_number scope m e small h
+meaning_number scope m (Prefixed o offset e) small h =
     if_ok_then (meaning scope m e) (λ v. prefix_result o v) IsNumber IsNumber (meaning_number scope m e small h) (λ v n. prefix_number o v)
 meaning_number scope m (Binary o a b) small h =
     let parts = and_parts (names_numbers a) (names_numbers b) small in
@@ -261,10 +261,10 @@ meaning_number scope m (Binary o a b) small h =
     (λ x n. if_ok_branch (is_decided o x) (Ok (value.Truth (truth_of x))) (meaning scope m b >>= λ y. operator_result o x y) IsNumber
     (truth_number (truth_of x))
     (if_ok_then (meaning scope m b) (λ y. operator_result o x y) IsNumber IsNumber second (λ y k. operator_number o x y n)))
-meaning_number scope m (Call c place x) small h =
+meaning_number scope m (Call c offset x) small h =
     call_number c (collection_of_name scope m x.number) (collection_named scope m x.number h)
-meaning_number scope m (Elapsed place) small h = number_from (pos m.context.arrivals.elapsed)
-meaning_number scope m (Times place e b) small h =
+meaning_number scope m (Elapsed offset) small h = number_from (pos m.context.arrivals.elapsed)
+meaning_number scope m (Times offset e b) small h =
     let c = collection_of_name scope m b.number in
     let few = collection_named scope m b.number h in
     if_ok_then (meaning scope m e) (λ v. Ok (value.Number (pos (count_of (number_of v) (bag_or_none c))))) IsNumber IsNumber

@@ -37,25 +37,25 @@ fits_kept m s = fits m s && are_kept s.variables
 -- the numbers that an expression and statements name are of the language, as those of every token are
 abbrev pub names_numbers : Expression → Bool
 names_numbers (Literal n) = nat_lt n.value (2 ^ 63)
-names_numbers (TruthValue place b) = true
+names_numbers (TruthValue offset b) = true
 names_numbers (Named name) = true
-names_numbers (Parens place e) = names_numbers e
-names_numbers (Prefixed operator place e) = names_numbers e
+names_numbers (Parens offset e) = names_numbers e
+names_numbers (Prefixed operator offset e) = names_numbers e
 names_numbers (Binary operator a b) = names_numbers a && names_numbers b
-names_numbers (Call call place b) = true
-names_numbers (Elapsed place) = true
-names_numbers (Times place e b) = names_numbers e
+names_numbers (Call call offset b) = true
+names_numbers (Elapsed offset) = true
+names_numbers (Times offset e b) = names_numbers e
 
 abbrev pub name_numbers : Statements → Bool
 name_numbers Done = true
 name_numbers (Assign variable value rest) = names_numbers value && name_numbers rest
-name_numbers (Does c place name rest) = name_numbers rest
-name_numbers (Send place port value rest) = names_numbers value && name_numbers rest
-name_numbers (If place condition block rest) = names_numbers condition && (name_numbers block && name_numbers rest)
-name_numbers (IfElse place condition block other rest) =
+name_numbers (Does c offset name rest) = name_numbers rest
+name_numbers (Send offset port value rest) = names_numbers value && name_numbers rest
+name_numbers (If offset condition block rest) = names_numbers condition && (name_numbers block && name_numbers rest)
+name_numbers (IfElse offset condition block other rest) =
     names_numbers condition && (name_numbers block && (name_numbers other && name_numbers rest))
-name_numbers (For place v b block rest) = name_numbers block && name_numbers rest
-name_numbers (Changes c place value x rest) = names_numbers value && name_numbers rest
+name_numbers (For offset v b block rest) = name_numbers block && name_numbers rest
+name_numbers (Changes c offset value x rest) = names_numbers value && name_numbers rest
 
 abbrev pub rules_name_numbers : List RuleTree → Bool
 rules_name_numbers rules = list_all (λ (r : RuleTree). name_numbers r.body) rules

@@ -1,6 +1,11 @@
-//! An accepted text as a flat model, and that it may run in logical processes: laws alone.
+//! Laws that join texts and processes: an accepted text is a flat model that may run in logical processes.
 //!
-//! Nothing here runs: each function stands for a law of the definitions.
+//! Its components are sound, so their holds keep to their responses and their numbers to those of the language.
+//! Whoever has which component, what a process commits is its components' part of the text's own trace; what leaves
+//! all processes, united, is what leaves the text; and the process that has all components commits the trace.
+//!
+//! Nothing here runs: each function stands for a law that joins `dv_compiled` with `dv_conservative`. `dv_coded`,
+//! `dv_run` and `dv_job` rest on them. Nothing here says that there is memory for a run.
 #![tactic(auto)]
 
 /// Numbers of the language stay so along rules.

@@ -33,8 +33,8 @@ pub fn programs_keep_to_the_states_that_fit()
 /// is not below the model's response, if it ends: from any state that fits and holds numbers of the language.
 pub fn holds_where_programs_go_are_not_below_the_response()
     ensures { (m : AtomicTree) → IsCompilable m
-        → AllByRecursion (λ (c : PhaseCode). AllByRecursion (λ (place : ℕ). (s : State) (ticks : ℕ)
-        → IsTrue (fits_kept m s) → s.phase ≡ place
+        → AllByRecursion (λ (c : PhaseCode). AllByRecursion (λ (index : ℕ). (s : State) (ticks : ℕ)
+        → IsTrue (fits_kept m s) → s.phase ≡ index
         → (behaviour_by (phase_codes m)).hold s ≡ Ok (Some ticks)
         → IsNotBelow (response_of m) ticks) (goes c.external.code)) (phase_codes m) }
 {

@@ -10,7 +10,7 @@ use crate::variable::VariableCount;
 use dv_bag::{Fault, Kind};
 use dv_eval::Scope;
 use dv_time::Time;
-use dv_trace::{Datum, Entry, Happening, Sending};
+use dv_trace::{Datum, EntryHead, Event, LineLists, Sending};
 use std::alloc::{AllocError, Global};
 
 /// How many transitions there were of each kind.
@@ -63,7 +63,7 @@ pub(crate) struct ComponentCount {
     pub(crate) transitions: Transitions,
     /// The fault, and when it happened.
     pub(crate) fault: Option<(Fault, Time)>,
-    /// By place.
+    /// By index.
     pub(crate) phases: Vec<PhaseCount>,
     /// The ticks behind the fault.
     pub(crate) faulted: u64,
@@ -123,57 +123,62 @@ impl ComponentCount {
     }
 
     /// What a line says of the component, where only a span counts.
-    pub(crate) fn add(&mut self, entry: &Entry<'_>, span: Span) -> Result<(), AllocError> {
+    pub(crate) fn add(
+        &mut self,
+        entry: EntryHead,
+        lists: &LineLists<'_>,
+        span: Span,
+    ) -> Result<(), AllocError> {
         match span.side_of(entry.time.tick) {
             Side::Before => {
-                self.stand(entry, span.from);
+                self.stand(entry, &lists.state, span.from);
                 Ok(())
             }
-            Side::Within => self.count(entry),
+            Side::Within => self.count(entry, lists),
             Side::Behind => Ok(()),
         }
     }
 
     // What a line before the span says: where the component stands from then on.
-    fn stand(&mut self, entry: &Entry<'_>, from: u64) {
+    fn stand(&mut self, entry: EntryHead, state: &[Datum<'_>], from: u64) {
         self.set_visits(0);
-        match &entry.happening {
-            Happening::Transition { phase, state, .. } => {
-                self.phase = *phase as usize;
+        match entry.event {
+            Event::Transition { kind: _, phase } => {
+                self.phase = phase as usize;
                 self.set_visits(1);
                 stand_all(&mut self.variables, state, from);
             }
-            Happening::Fault(fault) => {
-                self.fault = Some((*fault, entry.time));
+            Event::Fault(fault) => {
+                self.fault = Some((fault, entry.time));
                 cease_all(&mut self.variables);
             }
         }
     }
 
     // What a line within the span says. Variables behind a fault hold nothing.
-    fn count(&mut self, entry: &Entry<'_>) -> Result<(), AllocError> {
+    fn count(&mut self, entry: EntryHead, lists: &LineLists<'_>) -> Result<(), AllocError> {
         let tick = entry.time.tick;
         self.pass(tick);
-        match &entry.happening {
-            Happening::Transition { kind, phase, state } => {
-                self.transitions.add(*kind);
-                self.enter(*phase as usize);
+        match entry.event {
+            Event::Transition { kind, phase } => {
+                self.transitions.add(kind);
+                self.enter(phase as usize);
                 if self.fault.is_none() {
-                    hold_all(&mut self.variables, state, tick);
+                    hold_all(&mut self.variables, &lists.state, tick);
                 }
             }
-            Happening::Fault(fault) => {
+            Event::Fault(fault) => {
                 if self.fault.is_none() {
                     pass_all(&mut self.variables, tick);
                 }
-                self.fault = Some((*fault, entry.time));
+                self.fault = Some((fault, entry.time));
             }
         }
-        send_all(&mut self.ports, &entry.sent);
+        send_all(&mut self.ports, &lists.sent);
         if self.tallies.is_empty() {
             return Ok(());
         }
-        tally_all(&mut self.tallies, tick, &entry.sent)
+        tally_all(&mut self.tallies, tick, &lists.sent)
     }
 
     fn enter(&mut self, phase: usize) {

@@ -3,9 +3,9 @@
 use crate::counts::Counts;
 use crate::error::StatsError;
 use crate::options::StatsOptions;
-use dv_trace::{End, Reach, TraceReader};
+use dv_trace::{End, LineLists, Reach, TraceReader};
 use dv_tree::Tree;
-use std::alloc::Global;
+use std::alloc::{AllocError, Global};
 
 /// Reads the lines of a trace and counts what they say. Without quantiles it takes the same memory for any number of lines.
 #[derive(Drop)]
@@ -15,22 +15,29 @@ pub(crate) struct Counter<'t> {
 }
 
 impl<'t> Counter<'t> {
-    /// Counts a trace from its first line on.
+    /// Counts a trace from its first line on. `None` where only some components are asked for, and there are none.
     pub(crate) fn new(
         alloc: Global,
         tree: &'t Tree<'t>,
         options: &StatsOptions<'_>,
-    ) -> Result<Self, StatsError> {
-        Ok(Counter {
-            counts: Counts::new(alloc, tree, options)?,
+    ) -> Result<Option<Self>, AllocError> {
+        let Some(counts) = Counts::new(alloc, tree, options)? else {
+            return Ok(None);
+        };
+        Ok(Some(Counter {
+            counts,
             reader: TraceReader::new(alloc, tree)?,
-        })
+        }))
     }
 
-    /// Counts the next line, which is given without its line feed.
-    pub(crate) fn add(&mut self, line: &[u8]) -> Result<(), StatsError> {
-        let line = self.reader.read_line(line)?;
-        self.counts.add(&line)?;
+    /// Counts the next line, which is given without its line feed. Its lists take the place of those of another line.
+    pub(crate) fn add<'a>(
+        &mut self,
+        line: &'a [u8],
+        lists: &mut LineLists<'a>,
+    ) -> Result<(), StatsError> {
+        let head = self.reader.read_into(line, lists)?;
+        self.counts.add(head, lists)?;
         Ok(())
     }
 

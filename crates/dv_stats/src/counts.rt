@@ -1,12 +1,11 @@
 //! What is counted of a trace.
 
 use crate::component::{ComponentCount, tally_all};
-use crate::error::StatsError;
 use crate::options::StatsOptions;
 use crate::output::OutputCount;
 use crate::span::{Side, Span};
 use crate::tally::{PortTallies, tallies_of};
-use dv_trace::{Entry, Outside, TraceLine};
+use dv_trace::{EntryHead, LineHead, LineLists, Sending};
 use dv_tree::Tree;
 use std::alloc::{AllocError, Global};
 
@@ -28,75 +27,77 @@ pub(crate) struct Counts {
 }
 
 impl Counts {
-    /// Nothing is counted yet.
+    /// Nothing is counted yet. `None` where only some components are asked for, and there are none.
     pub(crate) fn new(
         alloc: Global,
         tree: &Tree<'_>,
         options: &StatsOptions<'_>,
-    ) -> Result<Self, StatsError> {
+    ) -> Result<Option<Self>, AllocError> {
         let outputs = match options.only {
             Some(_) => 0,
             None => tree.output_count(),
         };
-        Ok(Counts {
-            components: components_of(alloc, tree, options)?,
+        let Some(components) = components_of(alloc, tree, options)? else {
+            return Ok(None);
+        };
+        Ok(Some(Counts {
+            components,
             outputs: vec![in alloc; OutputCount::NOTHING; outputs]?,
             tallies: tallies_of(alloc, outputs, options.quantiles)?,
             span: Span::of(options.from, options.to),
             ticks: 0,
             clock: None,
-        })
+        }))
     }
 
     /// What a line says.
-    pub(crate) fn add(&mut self, line: &TraceLine<'_>) -> Result<(), AllocError> {
-        match line {
-            TraceLine::Empty => Ok(()),
-            TraceLine::Entry(entry) => self.add_entry(entry),
-            TraceLine::Outside(outside) => self.add_outside(outside),
-            TraceLine::Whole(horizon) => {
+    pub(crate) fn add(&mut self, head: LineHead, lists: &LineLists<'_>) -> Result<(), AllocError> {
+        match head {
+            LineHead::Empty => Ok(()),
+            LineHead::Entry(entry) => self.add_entry(entry, lists),
+            LineHead::Outside(time) => self.add_outside(time.tick, &lists.sent),
+            LineHead::Whole(horizon) => {
                 self.ticks = horizon.saturating_add(1);
                 Ok(())
             }
-            TraceLine::Clock(time) => {
+            LineHead::Clock(time) => {
                 self.clock = Some(match self.clock {
                     Some(least) => least.min(time.tick),
                     None => time.tick,
                 });
                 Ok(())
             }
-            TraceLine::Partial => {
+            LineHead::Partial => {
                 self.ticks = self.ticks.max(self.clock.unwrap_or(0));
                 Ok(())
             }
         }
     }
 
-    fn add_entry(&mut self, entry: &Entry<'_>) -> Result<(), AllocError> {
+    fn add_entry(&mut self, entry: EntryHead, lists: &LineLists<'_>) -> Result<(), AllocError> {
         self.ticks = entry.time.tick;
         match self.components.get_mut(entry.component as usize) {
-            Some(Some(component)) => component.add(entry, self.span),
+            Some(Some(component)) => component.add(entry, lists, self.span),
             Some(None) | None => Ok(()),
         }
     }
 
-    // What leaves the model.
-    fn add_outside(&mut self, outside: &Outside<'_>) -> Result<(), AllocError> {
-        let tick = outside.time.tick;
+    // What leaves the model at a tick.
+    fn add_outside(&mut self, tick: u64, sent: &[Sending<'_>]) -> Result<(), AllocError> {
         self.ticks = tick;
         match self.span.side_of(tick) {
             Side::Within => {
-                self.send(outside);
-                tally_all(&mut self.tallies, tick, &outside.sent)
+                self.send(tick, sent);
+                tally_all(&mut self.tallies, tick, sent)
             }
             Side::Before | Side::Behind => Ok(()),
         }
     }
 
-    fn send(&mut self, outside: &Outside<'_>) {
-        for sending in &outside.sent {
+    fn send(&mut self, tick: u64, sent: &[Sending<'_>]) {
+        for sending in sent {
             if let Some(output) = self.outputs.get_mut(sending.port) {
-                output.send(outside.time.tick, sending.values);
+                output.send(tick, sending.values);
             }
         }
     }
@@ -112,12 +113,12 @@ impl Counts {
     }
 }
 
-// The components that are asked for.
+// The components that are asked for, where there are some.
 fn components_of(
     alloc: Global,
     tree: &Tree<'_>,
     options: &StatsOptions<'_>,
-) -> Result<Vec<Option<ComponentCount>>, StatsError> {
+) -> Result<Option<Vec<Option<ComponentCount>>>, AllocError> {
     let span = Span::of(options.from, options.to);
     let mut components = Vec::with_capacity(alloc, tree.component_count())?;
     let mut has_some = false;
@@ -133,9 +134,9 @@ fn components_of(
         }
     }
     if has_some {
-        Ok(components)
+        Ok(Some(components))
     } else {
-        Err(StatsError::NoPath)
+        Ok(None)
     }
 }
 

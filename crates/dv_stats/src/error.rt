@@ -7,8 +7,6 @@ use std::alloc::{AllocError, AllocFailed};
 /// Why the numbers are not written to their end.
 #[derive(Clone, Copy, Debug, PartialEq, Eq)]
 pub enum StatsError {
-    /// No component has the path that is asked for; nothing was written.
-    NoPath,
     /// The trace is refused; nothing was written.
     Refused(TraceRefusal),
     /// A write failed; a beginning of the text was written.

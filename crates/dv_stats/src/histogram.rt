@@ -21,10 +21,10 @@ pub(crate) fn bins_of(alloc: Global, tally: &Tally) -> Result<Vec<Bin>, AllocErr
         return Ok(Vec::new(alloc));
     };
     let width = width_for(least, greatest);
-    let first = place_of(least, width);
-    let mut bins = empty_bins(alloc, first, place_of(greatest, width), width)?;
+    let first = class_of(least, width);
+    let mut bins = empty_bins(alloc, first, class_of(greatest, width), width)?;
     for (value, count) in tally.counts().iter() {
-        let index = place_of(*value, width).abs_diff(first);
+        let index = class_of(*value, width).abs_diff(first);
         if let Some(bin) = bins.get_mut(index as usize) {
             bin.count = bin.count.saturating_add(*count);
         }
@@ -33,7 +33,7 @@ pub(crate) fn bins_of(alloc: Global, tally: &Tally) -> Result<Vec<Bin>, AllocErr
 }
 
 // Which bin of a width has a value; the one that begins at 0 is 0.
-fn place_of(value: i64, width: i64) -> i64 {
+fn class_of(value: i64, width: i64) -> i64 {
     if width > 0 {
         value.div_euclid(width)
     } else {
@@ -57,7 +57,7 @@ fn width_for(least: i64, greatest: i64) -> i64 {
 fn width_at(power: i64, least: i64, greatest: i64) -> Option<i64> {
     for factor in [1, 2, 5] {
         let width = power.saturating_mul(factor);
-        if place_of(greatest, width).abs_diff(place_of(least, width)) < MOST_BINS {
+        if class_of(greatest, width).abs_diff(class_of(least, width)) < MOST_BINS {
             return Some(width);
         }
     }
@@ -67,8 +67,8 @@ fn width_at(power: i64, least: i64, greatest: i64) -> Option<i64> {
 fn empty_bins(alloc: Global, first: i64, last: i64, width: i64) -> Result<Vec<Bin>, AllocError> {
     let width = i128::from(width);
     let mut bins = Vec::new(alloc);
-    for place in first..=last {
-        let least = i128::from(place).saturating_mul(width);
+    for index in first..=last {
+        let least = i128::from(index).saturating_mul(width);
         bins.push(Bin {
             least,
             greatest: least.saturating_add(width).saturating_sub(1),

@@ -1,4 +1,13 @@
 //! What a trace says of each component and of each output of the root, in numbers.
+//!
+//! `write_stats` counts transitions, visits to phases with the ticks in them, what ports sent, and how far apart;
+//! `StatsOptions` chooses a span of ticks, some components, quantiles and histograms, and the `Form`. `StatsWriter`
+//! takes the bytes of a trace while a run prints them, and gives the same numbers. Without quantiles its memory does
+//! not grow with the trace.
+//!
+//! `dv_views` calls it for `pdevs stats`, and the program for `run --stats`. Transitions and values are counted up to
+//! 2^64 - 1, which is proved. Means and quantiles have no more claimed of them than that they are made without a
+//! fault of the program.
 #![tactic(auto)]
 
 /// What is counted of a component.
@@ -9,8 +18,6 @@ mod counter;
 mod counts;
 /// Why the numbers are not written.
 pub mod error;
-/// The door: the numbers of a trace, given to a writer.
-pub mod gather;
 /// Histograms.
 mod histogram;
 /// What was counted, as text.
@@ -41,10 +48,9 @@ mod table;
 mod tally;
 /// What is counted of a variable.
 mod variable;
-/// The other door: a writer that counts a trace as a run prints it.
+/// The door: a writer that counts a trace that it is given piece by piece.
 pub mod writer;
 
 pub use error::StatsError;
-pub use gather::write_stats;
 pub use options::{Form, StatsOptions};
 pub use writer::StatsWriter;

@@ -11,35 +11,35 @@ pub(crate) fn path_of<'t>(tree: &'t Tree<'t>, component: usize) -> &'t [u32] {
     }
 }
 
-fn name_at<'t>(tree: &'t Tree<'t>, names: &[u32], place: usize) -> &'t str {
-    match names.get(place) {
+fn name_at<'t>(tree: &'t Tree<'t>, names: &[u32], index: usize) -> &'t str {
+    match names.get(index) {
         Some(number) => tree.name(*number),
         None => "",
     }
 }
 
 /// The name of a phase of a component.
-pub(crate) fn phase_name<'t>(tree: &'t Tree<'t>, component: usize, place: usize) -> &'t str {
+pub(crate) fn phase_name<'t>(tree: &'t Tree<'t>, component: usize, index: usize) -> &'t str {
     if component < tree.component_count() {
-        name_at(tree, tree.scope(component).phases(), place)
+        name_at(tree, tree.scope(component).phases(), index)
     } else {
         ""
     }
 }
 
 /// The name of a variable, a flag, a bag or a queue of a component.
-pub(crate) fn variable_name<'t>(tree: &'t Tree<'t>, component: usize, place: usize) -> &'t str {
+pub(crate) fn variable_name<'t>(tree: &'t Tree<'t>, component: usize, index: usize) -> &'t str {
     if component < tree.component_count() {
-        name_at(tree, tree.scope(component).variables(), place)
+        name_at(tree, tree.scope(component).variables(), index)
     } else {
         ""
     }
 }
 
 /// The name of an output port of a component.
-pub(crate) fn port_name<'t>(tree: &'t Tree<'t>, component: usize, place: usize) -> &'t str {
+pub(crate) fn port_name<'t>(tree: &'t Tree<'t>, component: usize, index: usize) -> &'t str {
     if component < tree.component_count() {
-        name_at(tree, tree.scope(component).outputs(), place)
+        name_at(tree, tree.scope(component).outputs(), index)
     } else {
         ""
     }

@@ -16,6 +16,7 @@ pub enum Form {
 pub struct StatsOptions<'a> {
     /// Whether the trace has to have an end. One without an end counts up to the tick of its last line.
     pub end: End,
+    /// How the numbers are written.
     pub form: Form,
     /// The first tick that counts; without it, tick 0.
     pub from: Option<u64>,

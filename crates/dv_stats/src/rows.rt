@@ -109,10 +109,10 @@ fn add_phases<'t>(
     ticks: u64,
     rows: &mut Vec<Row<'t>>,
 ) -> Result<(), AllocError> {
-    for (place, phase) in count.phases.iter().enumerate() {
+    for (index, phase) in count.phases.iter().enumerate() {
         rows.push(Row {
             component: path_of(tree, component),
-            name: phase_name(tree, component, place),
+            name: phase_name(tree, component, index),
             values: phase_values(alloc, phase.visits, phase.ticks, ticks)?,
         })?;
     }
@@ -168,10 +168,10 @@ fn add_variables<'t>(
     ticks: u64,
     rows: &mut Vec<Row<'t>>,
 ) -> Result<(), AllocError> {
-    for (place, variable) in count.variables.iter().enumerate() {
+    for (index, variable) in count.variables.iter().enumerate() {
         rows.push(Row {
             component: path_of(tree, component),
-            name: variable_name(tree, component, place),
+            name: variable_name(tree, component, index),
             values: held_values(alloc, variable.held, ticks)?,
         })?;
     }
@@ -211,10 +211,10 @@ fn add_ports<'t>(
     count: &ComponentCount,
     rows: &mut Vec<Row<'t>>,
 ) -> Result<(), AllocError> {
-    for (place, port) in count.ports.iter().enumerate() {
+    for (index, port) in count.ports.iter().enumerate() {
         rows.push(Row {
             component: path_of(tree, component),
-            name: port_name(tree, component, place),
+            name: port_name(tree, component, index),
             values: port_values(alloc, *port)?,
         })?;
     }

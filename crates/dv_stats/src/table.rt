@@ -19,14 +19,14 @@ impl Widths {
     fn of(alloc: Global, section: &Section<'_>) -> Result<Self, AllocError> {
         let measures = section.kind.measures();
         let mut values = Vec::with_capacity(alloc, measures.len())?;
-        for (place, measure) in measures.iter().enumerate() {
-            values.push(value_width(measure, place, &section.rows))?;
+        for (index, measure) in measures.iter().enumerate() {
+            values.push(value_width(measure, index, &section.rows))?;
         }
         let mut component = width_of("component");
         let mut name = width_of(section.kind.word());
+        let mut path = PathText::new(alloc, section.tree);
         for row in &section.rows {
-            let path = path_text(alloc, section.tree, row)?;
-            component = component.max(width_of(path.as_str()));
+            component = component.max(width_of(path.of(row)?));
             name = name.max(width_of(row.name));
         }
         Ok(Widths {
@@ -38,21 +38,43 @@ impl Widths {
 }
 
 // How many characters the column of a measure takes.
-fn value_width(measure: &str, place: usize, rows: &[Row<'_>]) -> usize {
+fn value_width(measure: &str, index: usize, rows: &[Row<'_>]) -> usize {
     let mut width = width_of(measure);
     for row in rows {
-        if let Some(value) = row.values.get(place) {
+        if let Some(value) = row.values.get(index) {
             width = width.max(width_of(value.as_str()));
         }
     }
     width
 }
 
-// The path of a row, which is written down where it is wanted and kept nowhere.
-fn path_text(alloc: Global, tree: &Tree, row: &Row<'_>) -> Result<String, AllocError> {
-    let mut text = String::new(alloc);
-    tree.push_path(&mut text, row.component)?;
-    Ok(text)
+/// The path of the last row, which is written down once for the rows of a component and kept nowhere else.
+#[derive(Drop)]
+struct PathText<'t> {
+    tree: &'t Tree<'t>,
+    path: &'t [u32],
+    text: String,
+}
+
+impl<'t> PathText<'t> {
+    /// The empty path, before the first row.
+    fn new(alloc: Global, tree: &'t Tree<'t>) -> Self {
+        PathText {
+            tree,
+            path: &[],
+            text: String::new(alloc),
+        }
+    }
+
+    /// The path of a row.
+    fn of(&mut self, row: &Row<'t>) -> Result<&str, AllocError> {
+        if row.component != self.path {
+            self.text.clear();
+            self.tree.push_path(&mut self.text, row.component)?;
+            self.path = row.component;
+        }
+        Ok(self.text.as_str())
+    }
 }
 
 fn width_of(text: &str) -> usize {
@@ -77,13 +99,13 @@ pub(crate) fn push_columns(
         section.kind.word(),
         &widths,
     )?;
-    for (place, measure) in section.kind.measures().iter().enumerate() {
-        push_right(text, measure, &widths, place)?;
+    for (index, measure) in section.kind.measures().iter().enumerate() {
+        push_right(text, measure, &widths, index)?;
     }
     text.push('\n')?;
+    let mut path = PathText::new(alloc, section.tree);
     for row in &section.rows {
-        let path = path_text(alloc, section.tree, row)?;
-        push_names(text, section.kind, path.as_str(), row.name, &widths)?;
+        push_names(text, section.kind, path.of(row)?, row.name, &widths)?;
         push_values(text, row, &widths)?;
         text.push('\n')?;
     }
@@ -110,13 +132,13 @@ fn push_names(
 }
 
 fn push_values(text: &mut String, row: &Row<'_>, widths: &Widths) -> Result<(), AllocError> {
-    for (place, value) in row.values.iter().enumerate() {
+    for (index, value) in row.values.iter().enumerate() {
         let value = if value.is_empty() {
             NOTHING
         } else {
             value.as_str()
         };
-        push_right(text, value, widths, place)?;
+        push_right(text, value, widths, index)?;
     }
     Ok(())
 }
@@ -133,14 +155,14 @@ fn push_left(text: &mut String, word: &str, width: usize) -> Result<(), AllocErr
     push_blanks(text, width.saturating_sub(width_of(word)))
 }
 
-// The value at a place, with two blanks before its column.
+// The value at an index, with two blanks before its column.
 fn push_right(
     text: &mut String,
     word: &str,
     widths: &Widths,
-    place: usize,
+    index: usize,
 ) -> Result<(), AllocError> {
-    let width = widths.values.get(place).copied().unwrap_or(0);
+    let width = widths.values.get(index).copied().unwrap_or(0);
     text.push_str("  ")?;
     push_blanks(text, width.saturating_sub(width_of(word)))?;
     text.push_str(word)
@@ -152,24 +174,24 @@ pub(crate) fn push_csv(
     text: &mut String,
     section: &Section<'_>,
 ) -> Result<(), AllocError> {
+    let mut path = PathText::new(alloc, section.tree);
     for row in &section.rows {
-        let path = path_text(alloc, section.tree, row)?;
         match section.kind {
-            Kind::Bins(_) => push_bin(text, section.kind, path.as_str(), row)?,
+            Kind::Bins(_) => push_bin(text, section.kind, path.of(row)?, row)?,
             Kind::Component
             | Kind::Phase
             | Kind::Variable
             | Kind::Port
             | Kind::Output
-            | Kind::Quantiles(_) => push_row(text, section.kind, path.as_str(), row)?,
+            | Kind::Quantiles(_) => push_row(text, section.kind, path.of(row)?, row)?,
         }
     }
     Ok(())
 }
 
 fn push_row(text: &mut String, kind: Kind, path: &str, row: &Row<'_>) -> Result<(), AllocError> {
-    for (place, measure) in kind.measures().iter().enumerate() {
-        if let Some(value) = row.values.get(place) {
+    for (index, measure) in kind.measures().iter().enumerate() {
+        if let Some(value) = row.values.get(index) {
             let kind = kind.word();
             writeln!(text, "{kind},{path},{},{measure},{value}", row.name)?;
         }

@@ -18,7 +18,9 @@ const LIMIT: u32 = 5;
 /// The process of each component. Each of the processes has one at least.
 #[derive(Drop)]
 pub struct Owners {
+    /// The number of the process of each component.
     pub of_components: Vec<u32>,
+    /// How many processes there are.
     pub processes: u32,
 }
 

@@ -1,5 +1,9 @@
-//! Makes lists of steps with the processes of models, and compares what each process has committed with the plain run:
-//! random steps in random partitions, of given models and of random ones, and the first steps of the serial driver.
+//! A test that is a program: it makes lists of steps with the processes of models, and compares what each process has
+//! committed with the plain run.
+//!
+//! The steps are random ones in random partitions, of given models and of random ones, and the first steps of the
+//! serial driver. The expected values are the parts of the trace that `resultant_run` of `dv_plain` computes, before
+//! the clock of each process; `run_steps` of `dv_job` is what is tested.
 //!
 //! The first word names a file of seeds, one a line, and each other word a model.
 #![tactic(auto)]

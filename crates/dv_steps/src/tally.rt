@@ -3,7 +3,9 @@
 /// How many comparisons with the plain run agree, and how many do not.
 #[derive(Drop)]
 pub struct Tally {
+    /// How many comparisons agree.
     pub agreeing: u32,
+    /// How many comparisons do not agree.
     pub differing: u32,
 }
 

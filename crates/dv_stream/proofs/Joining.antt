@@ -10,7 +10,7 @@ use Rattle.dv_time.specs.Time.{rank}
 use Rattle.dv_time.specs.declared.time.Time.{Time}
 use Rattle.dv_bag.specs.Part.{nothing}
 use Rattle.dv_board.specs.Clocks.{later}
-use Rattle.dv_board.proofs.Drained.{same_places}
+use Rattle.dv_board.proofs.Drained.{same_indices}
 use Rattle.dv_board.proofs.Wholes.{get_map}
 use Rattle.dv_conservative.specs.Flat.{whole}
 use Rattle.dv_conservative.specs.Process.{IsWithin, first_time}
@@ -26,7 +26,7 @@ use Rattle.dv_core.proofs.Lookups.{set_other, set_same}
 use Rattle.dv_devs.specs.Parts.{part_before}
 use Rattle.dv_record.specs.Told.{Handed}
 use Rattle.dv_work.specs.Seats.{HasHandedOver}
-use Rattle.dv_work.proofs.Lists.{at_place}
+use Rattle.dv_work.proofs.Lists.{at_index}
 use Rattle.dv_stream.specs.Rounds.{AreJoined}
 use Rattle.dv_stream.proofs.ToldClocks.{later_is, replicated, replicated_length}
 use Rattle.dv_stream.proofs.Rising.{ends_rise}
@@ -43,28 +43,28 @@ module _ (job : Job) (states : List ProcessState) (handed : List Handed) (clocks
   one : HasHandedOver job p x g x.position.clock
   one = record { of_run = within.0; order = omega arith; past = is ∙ part }
 
-  by_place : (q : ℕ) (y : ProcessState) (k : Handed) (u : Time) → slice_get states q ≡ Some y → slice_get (set handed p g) q ≡ Some k
+  by_index : (q : ℕ) (y : ProcessState) (k : Handed) (u : Time) → slice_get states q ≡ Some y → slice_get (set handed p g) q ≡ Some k
       → slice_get (set clocks p x.position.clock) q ≡ Some u → (b : Bool) → nat_eq q p ≡ b → HasHandedOver job q y k u
-  by_place q y k u ey ek eu true same =
-      let place : q ≡ p = same_number q p same in
-      let here = subst (λ (n : ℕ). slice_get states n ≡ Some y) place ey in
-      let now = subst (λ (n : ℕ). slice_get (set handed p g) n ≡ Some k) place ek in
-      let clock = subst (λ (n : ℕ). slice_get (set clocks p x.position.clock) n ≡ Some u) place eu in
+  by_index q y k u ey ek eu true same =
+      let index : q ≡ p = same_number q p same in
+      let here = subst (λ (n : ℕ). slice_get states n ≡ Some y) index ey in
+      let now = subst (λ (n : ℕ). slice_get (set handed p g) n ≡ Some k) index ek in
+      let clock = subst (λ (n : ℕ). slice_get (set clocks p x.position.clock) n ≡ Some u) index eu in
       let first = set_same handed p h g also in
       let second = set_same clocks p t x.position.clock there in
       let state_is : x ≡ y = some_same at here in
       let handed_is : g ≡ k = some_same first now in
       let clock_is : x.position.clock ≡ u = some_same second clock in
-      subst (λ (n : ℕ). HasHandedOver job n y k u) (sym place)
+      subst (λ (n : ℕ). HasHandedOver job n y k u) (sym index)
       (subst (λ (z : ProcessState). HasHandedOver job p z k u) state_is
       (subst (λ (m : Handed). HasHandedOver job p x m u) handed_is (subst (HasHandedOver job p x g) clock_is one)))
-  by_place q y k u ey ek eu false other =
+  by_index q y k u ey ek eu false other =
       joined.each q y k u ey (sym (set_other handed p q g other) ∙ ek) (sym (set_other clocks p q x.position.clock other) ∙ eu)
 
   pub joined_more : AreJoined job states (set handed p g) (set clocks p x.position.clock)
   joined_more = record {
     count = length-set clocks p x.position.clock ∙ joined.count;
-    each = λ q y k u ey ek eu. by_place q y k u ey ek eu (nat_eq q p) refl;
+    each = λ q y k u ey ek eu. by_index q y k u ey ek eu (nat_eq q p) refl;
   }
 
 -- ---- Of the processes of a world
@@ -108,16 +108,16 @@ AreAtFirst states clocks n =
 
 pub first_after : (states : List ProcessState) (clocks : List Time) (n : ℕ) (x : ProcessState) (u : Time) → AreAtFirst states clocks n
     → slice_get states n ≡ Some x → slice_get clocks n ≡ Some u → AreAtFirst states (set clocks n x.position.clock) (n + 1)
-first_after states clocks n x u first at there p y t lt ey et = by_place (nat_eq p n) refl
+first_after states clocks n x u first at there p y t lt ey et = by_index (nat_eq p n) refl
   where
-    by_place : (b : Bool) → nat_eq p n ≡ b → t ≡ y.position.clock
-    by_place true same =
-        let place : p ≡ n = same_number p n same in
-        let state_is : x ≡ y = some_same at (subst (λ (m : ℕ). slice_get states m ≡ Some y) place ey) in
+    by_index : (b : Bool) → nat_eq p n ≡ b → t ≡ y.position.clock
+    by_index true same =
+        let index : p ≡ n = same_number p n same in
+        let state_is : x ≡ y = some_same at (subst (λ (m : ℕ). slice_get states m ≡ Some y) index ey) in
         let clock_is : x.position.clock ≡ t = some_same (set_same clocks n u x.position.clock there)
-        (subst (λ (m : ℕ). slice_get (set clocks n x.position.clock) m ≡ Some t) place et) in
+        (subst (λ (m : ℕ). slice_get (set clocks n x.position.clock) m ≡ Some t) index et) in
         sym clock_is ∙ ap (λ (z : ProcessState). z.position.clock) state_is
-    by_place false other =
+    by_index false other =
         let less : p < n = grind (arith, nat_tests) in
         first p y t less ey (sym (set_other clocks n p x.position.clock other) ∙ et)
 
@@ -125,7 +125,7 @@ first_after states clocks n x u first at there p y t lt ey et = by_place (nat_eq
 pub all_at_first : {P : Type 0} (state : P → ProcessState) (items : List P) (clocks : List Time) (n : ℕ) → length clocks ≡ n
     → length items ≡ n → AreAtFirst (map state items) clocks n → clocks ≡ map (λ x. (state x).position.clock) items
 all_at_first state items clocks n many count first =
-    same_places clocks (map (λ x. (state x).position.clock) items)
+    same_indices clocks (map (λ x. (state x).position.clock) items)
     (let long = length-map items (λ x. (state x).position.clock) in omega (arith, many, count, long))
     (λ k t u at also.
     let x = get_map (λ x. (state x).position.clock) items k u also in
@@ -144,7 +144,7 @@ none_joined job state handed items none processes count = record {
       subst (HasHandedOver job p x h) (sym first) (record {
         of_run = omega arith;
         order = omega arith;
-        past = ap (λ (k : Handed). k.past) (sym y.2) ∙ at_place (λ z. (handed z).past ≡ nothing) items p y.0 none y.1
+        past = ap (λ (k : Handed). k.past) (sym y.2) ∙ at_index (λ z. (handed z).past ≡ nothing) items p y.0 none y.1
             ∙ ap (part_before (owned job p) job.limit (whole job.flat) job.outside) (zero_rank job.limit);
       });
 }

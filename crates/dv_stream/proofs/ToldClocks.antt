@@ -13,7 +13,7 @@ use Rattle.dv_conservative.proofs.Told.{same_times}
 use Rattle.dv_devs.specs.Clocks.{least_rank}
 use Rattle.dv_plan.specs.Clocks.{least_time}
 use Rattle.dv_plan.proofs.LeastClock.{AllOfRun, least_above, least_below, least_of_same, least_time_of_run, least_time_rank}
-use Rattle.dv_work.proofs.Lists.{at_place}
+use Rattle.dv_work.proofs.Lists.{at_index}
 
 -- times of the run at one rank are the same
 pub same_rank : (limit : ℕ) (a b : Time) → IsOfRun limit a → IsOfRun limit b → rank limit a ≡ rank limit b → a ≡ b
@@ -40,7 +40,7 @@ least_is limit t ts of_run all least =
     let low = least_below limit ts least.is.0 t at in
     let high = least_above limit (rank limit t) ts some
     (λ p u e. no_earlier_rank limit u t (all p u e) of_run
-    (at_place (λ (c : Time). is_before c t ≡ false) ts p u least.none_before e)) in
+    (at_index (λ (c : Time). is_before c t ≡ false) ts p u least.none_before e)) in
     same_rank limit t (least_time ts) of_run (least_time_of_run limit ts all)
     (let is = least_time_rank limit ts some all in omega (arith, low, high, is))
 
@@ -91,7 +91,7 @@ module _ (limit : ℕ) (times : List Time) (mark : Time) (some : 0 < length time
           → rank limit mark ≡ least_rank limit (if t then times else replicate (length times) mark)
       by_test true e =
           ap (rank limit) (sym (same_times (least_time times) mark e))
-          ∙ least_time_rank limit times some (λ p t at. at_place (IsOfRun limit) times p t runs at)
+          ∙ least_time_rank limit times some (λ p t at. at_index (IsOfRun limit) times p t runs at)
       by_test false e =
           sym (least_of_same limit (rank limit mark) (replicate (length times) mark)
           (subst (λ (n : ℕ). 0 < n) (sym (replicated_length (length times) mark)) some)

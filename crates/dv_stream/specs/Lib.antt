@@ -3,6 +3,8 @@
 pub mod Written
 -- What one process without others has written.
 pub mod Alone
+-- How what ran ended.
+pub mod Endings
 -- Clocks of a run.
 pub mod Clocks
 -- Workers, for whom a job is a type.

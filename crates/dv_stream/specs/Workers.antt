@@ -1,14 +1,11 @@
 -- Workers, for whom a job is a type.
-use Rattle.std.specs.Prelude.{◌≡◌, ◌↔◌, ℕ, Bool, true, false, slice_get, Some}
+use Rattle.std.specs.Prelude.{◌≡◌, ◌↔◌, ℕ, slice_get, Some}
 use Rattle.dv_board.specs.declared.posts.Piece.{Piece}
 use Rattle.dv_conservative.specs.World.{Job}
 use Rattle.dv_core.specs.Worlds.{end_time}
 use Rattle.dv_work.specs.Reached.{AreReached}
-use Rattle.dv_stream.specs.declared.rest.WorkersEnded.{WorkersEnded}
-use Rattle.dv_stream.specs.declared.rest.WorkersEnded.TheVariants as told
 use Rattle.dv_stream.specs.declared.rest.Left.{Left}
-use Rattle.dv_work.specs.declared.report.Ended.{Ended}
-use Rattle.dv_work.specs.declared.report.Ended.TheVariants.{Cancelled, Memory, Stopped, Whole}
+use Rattle.dv_work.specs.declared.report.Ended.TheVariants.{Whole}
 
 -- the job that is meant, where it is at hand itself
 abbrev pub job_of_type : Job → Job
@@ -19,11 +16,3 @@ job_of_type job = job
 pub record IsReportOf {N C : Type 0} (job : Job) (r : Left N C) : Type 0 where
   pub reached : AreReached job r.rest.items
   pub whole : (r.ended ≡ Whole) ↔ ((p : ℕ) (x : Piece N) → slice_get r.rest.items p ≡ Some x → x.clock ≡ end_time job)
-
--- how a run by workers is told of which the whole trace was written, or not
-abbrev pub told_as : {C : Type 0} → (is_whole : Bool) → Ended C → WorkersEnded C
-told_as true ended = told.Whole
-told_as false (Stopped c) = told.Stopped c
-told_as false Whole = told.Memory
-told_as false Cancelled = told.Memory
-told_as false Memory = told.Memory

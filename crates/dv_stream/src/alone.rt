@@ -8,12 +8,13 @@ ghost use Rattle.dv_core.specs.declared.step.Ended.TheVariants.{Stalled};
 ghost use Rattle.dv_core.specs.Worlds.{EndsAs, IsTrueToModel, kept_by, shown};
 ghost use Rattle.dv_plan.specs.Beginning.{CanRun};
 ghost use Rattle.dv_plan.specs.Clocks.{least_time};
-ghost use Rattle.dv_plan.specs.Runs.{HasRun};
 ghost use Rattle.dv_stream.specs.Alone.{Breaks, Continues, HasHandedTo, by_tree, handed_in, seen_by};
+ghost use Rattle.dv_stream.specs.Endings.{HasRunInRounds};
 ghost use Rattle.dv_stream.specs.Written.{IsBegun, IsWrittenTo};
 
 use crate::clocks::clocks_of;
-use crate::rounds::{Streamed, is_stalled};
+use crate::ran::{Ran, ran_in_rounds};
+use crate::rounds::{Bounds, is_stalled};
 use crate::written::Written;
 use dv_bag::Bags;
 use dv_core::{Ended, LogicalProcess, PlannedJob, World};
@@ -173,7 +174,7 @@ fn stream_process<J: PlannedJob, A: Atomic + Drop, R: KnowsFaults, W: Write>(
     Ok((ended, written))
 }
 
-/// Runs the one process of a plan from its start, in so many rounds at most, and writes the lines of the trace before its clock
+/// Runs the one process of a plan from its start, in rounds within these bounds, and writes the lines of the trace before its clock
 /// while it runs. It tells what happens to a record that was told nothing and writes with the names of a tree; what was
 /// written is let go. Where memory is refused to a turn the last round is cut; what was committed before is what ran, and is
 /// written.
@@ -186,12 +187,11 @@ pub fn stream_alone<J: PlannedJob, A: Atomic + Drop, R: KnowsFaults, W: Write>(
     job: J,
     plan: Plan<A>,
     work: &mut A::Work,
-    rounds: u64,
-    capacity: usize,
+    bounds: Bounds,
     to: R,
     tree: &Tree<'_>,
     writer: &mut W,
-) -> Result<Streamed, WriteError>
+) -> Result<Ran, WriteError>
     requires comes { (a : A) (bags : List Counts) → A.comes a bags }
     requires run { CanRun J.means A.behaviour A.fits job plan }
     requires merges { IsMergeable (J.means job) }
@@ -199,16 +199,16 @@ pub fn stream_alone<J: PlannedJob, A: Atomic + Drop, R: KnowsFaults, W: Write>(
     requires told { R.told to ≡ nothing }
     requires at_rest { R.settled to ≡ R.told to }
     requires handed { R.handed to ≡ by_tree tree.now [] }
-    ensures run { IfOk result (λ s. HasRun (J.means job) capacity rounds s.committed) }
-    ensures written { IfOk result (λ s. IsWrittenTo (J.means job) tree.now
-        (W.contents writer.old) (W.contents writer.new) s.written) }
-    ensures least { IfOk result (λ s. s.written.mark ≡ least_time s.committed.clocks.items) }
+    ensures run { IfOk result (HasRunInRounds (J.means job) bounds.capacity bounds.rounds) }
+    ensures written { IfOk result (λ r. IsWrittenTo (J.means job) tree.now
+        (W.contents writer.old) (W.contents writer.new) r.written) }
+    ensures least { IfOk result (λ r. r.written.mark ≡ least_time r.clocks.items) }
     ensures err { OnErr result (IsBegun (J.means job) tree.now
         (W.contents writer.old) (W.contents writer.new)) }
 {
-    let mut world = world_alone(alloc, job, plan, to, capacity)?;
-    let (ended, written) = stream_process(&mut world, work, rounds, tree, writer)?;
+    let mut world = world_alone(alloc, job, plan, to, bounds.capacity)?;
+    let (ended, written) = stream_process(&mut world, work, bounds.rounds, tree, writer)?;
     let clocks = clocks_of(alloc, world.processes())?;
     let committed = Committed { clocks, ended };
-    Ok(Streamed { committed, written })
+    Ok(ran_in_rounds(committed, written))
 }

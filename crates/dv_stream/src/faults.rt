@@ -10,8 +10,8 @@ use dv_written::OfJob;
 pub fn has_fault<N: OfJob>(part: &PartSlice<'_, N>) -> bool
     ensures { result ≡ has_fault part.now }
 {
-    for place in 0..part.entry_count() {
-        if part.entry(place).is_fault() {
+    for index in 0..part.entry_count() {
+        if part.entry(index).is_fault() {
             return true;
         }
     }

@@ -1,6 +1,6 @@
 //! The processes of a plan, run by workers.
 
-ghost use Rattle.std.specs.Prelude.{◌≡◌, ◌↔◌, ◌<◌, ℕ, List, Some, slice_get, length, IfOk, OnErr};
+ghost use Rattle.std.specs.Prelude.{◌≡◌, ◌≢◌, ◌↔◌, ◌<◌, ℕ, List, Some, slice_get, length, IfOk, IsSome, OnErr};
 ghost use Rattle.dv_bag.specs.Bag.{Counts};
 ghost use Rattle.dv_bag.specs.declared.entry.Entry.{Entry as MeantEntry};
 ghost use Rattle.dv_board.specs.Jobs.{IsMergeable};
@@ -13,10 +13,12 @@ ghost use Rattle.dv_stream.specs.Written.{IsBegun, IsWrittenTo};
 ghost use Rattle.dv_text.specs.Names.{tree_names};
 ghost use Rattle.dv_time.specs.Time.{rank};
 ghost use Rattle.dv_time.specs.declared.time.Time.{Time as MeantTime};
-ghost use Rattle.dv_stream.specs.declared.rest.WorkersEnded.TheVariants.{Whole};
+ghost use Rattle.dv_stream.specs.declared.ran.RunEnded.TheVariants.{Cut, Whole};
+ghost use Rattle.dv_stream.specs.declared.ran.Why.TheVariants.{Rounds, Stopped};
 
+use crate::ran::RanByWorkers;
 use crate::watch::{Watch, Watched};
-use crate::workers::{Crew, Worked, stream_watched};
+use crate::workers::{Crew, stream_watched};
 use dv_core::PlannedJob;
 use dv_lines::{TreeWords, WrittenRecord, WrittenRecords};
 use dv_local::LocalRun;
@@ -59,7 +61,7 @@ pub fn stream_plan_by_workers<
     watch: &G,
     tree: &Tree,
     writer: &mut W,
-) -> Result<Worked<G::Cause>, WriteError>
+) -> Result<RanByWorkers<G::Cause>, WriteError>
 where
     A::Work: Send + Drop,
     requires comes { (a : A) (bags : List Counts) → A.comes a bags }
@@ -69,16 +71,18 @@ where
     requires workers { 0 < length works.items }
     requires capacity { 0 < capacity }
     ensures written { IfOk result (λ w. IsWrittenTo (J.means job.now) tree.now
-        (W.contents writer.old) (W.contents writer.new) w.written) }
-    ensures some_clocks { IfOk result (λ w. 0 < length w.clocks.items) }
-    ensures count { IfOk result (λ w. length w.clocks.items ≡ (J.means job.now).processes) }
-    ensures least { IfOk result (λ w. rank (J.means job.now).limit w.written.mark
-        ≡ least_rank (J.means job.now).limit w.clocks.items) }
+        (W.contents writer.old) (W.contents writer.new) w.ran.written) }
+    ensures some_clocks { IfOk result (λ w. 0 < length w.ran.clocks.items) }
+    ensures count { IfOk result (λ w. length w.ran.clocks.items ≡ (J.means job.now).processes) }
+    ensures least { IfOk result (λ w. rank (J.means job.now).limit w.ran.written.mark
+        ≡ least_rank (J.means job.now).limit w.ran.clocks.items) }
     ensures within { IfOk result (λ w. AreWithin (J.means job.now).horizon
-        (J.means job.now).limit w.clocks.items) }
-    ensures whole { IfOk result (λ w. (w.ended ≡ Whole)
-        ↔ ((p : ℕ) (t : MeantTime) → slice_get w.clocks.items p ≡ Some t
+        (J.means job.now).limit w.ran.clocks.items) }
+    ensures whole { IfOk result (λ w. (w.ran.ended ≡ Whole)
+        ↔ ((p : ℕ) (t : MeantTime) → slice_get w.ran.clocks.items p ≡ Some t
         → t ≡ end_time (J.means job.now))) }
+    ensures ended { IfOk result (λ w. w.ran.ended ≢ Cut Rounds) }
+    ensures cause { IfOk result (λ w. IsSome w.cause ↔ (w.ran.ended ≡ Cut Stopped)) }
     ensures err { OnErr result (IsBegun (J.means job.now) tree.now
         (W.contents writer.old) (W.contents writer.new)) }
 {
@@ -109,7 +113,7 @@ fn stream_with_words<
     gate: &Watched<'_, G>,
     words: &'w TreeWords<'w>,
     writer: &mut W,
-) -> Result<Worked<G::Cause>, WriteError>
+) -> Result<RanByWorkers<G::Cause>, WriteError>
 where
     A::Work: Send + Drop,
     requires job { N.job ≡ J.means job.now }
@@ -121,16 +125,18 @@ where
     requires workers { 0 < length works.items }
     requires capacity { 0 < capacity }
     ensures written { IfOk result (λ w. IsWrittenTo (J.means job.now) words.now
-        (W.contents writer.old) (W.contents writer.new) w.written) }
-    ensures some_clocks { IfOk result (λ w. 0 < length w.clocks.items) }
-    ensures count { IfOk result (λ w. length w.clocks.items ≡ (J.means job.now).processes) }
-    ensures least { IfOk result (λ w. rank (J.means job.now).limit w.written.mark
-        ≡ least_rank (J.means job.now).limit w.clocks.items) }
+        (W.contents writer.old) (W.contents writer.new) w.ran.written) }
+    ensures some_clocks { IfOk result (λ w. 0 < length w.ran.clocks.items) }
+    ensures count { IfOk result (λ w. length w.ran.clocks.items ≡ (J.means job.now).processes) }
+    ensures least { IfOk result (λ w. rank (J.means job.now).limit w.ran.written.mark
+        ≡ least_rank (J.means job.now).limit w.ran.clocks.items) }
     ensures within { IfOk result (λ w. AreWithin (J.means job.now).horizon
-        (J.means job.now).limit w.clocks.items) }
-    ensures whole { IfOk result (λ w. (w.ended ≡ Whole)
-        ↔ ((p : ℕ) (t : MeantTime) → slice_get w.clocks.items p ≡ Some t
+        (J.means job.now).limit w.ran.clocks.items) }
+    ensures whole { IfOk result (λ w. (w.ran.ended ≡ Whole)
+        ↔ ((p : ℕ) (t : MeantTime) → slice_get w.ran.clocks.items p ≡ Some t
         → t ≡ end_time (J.means job.now))) }
+    ensures ended { IfOk result (λ w. w.ran.ended ≢ Cut Rounds) }
+    ensures cause { IfOk result (λ w. IsSome w.cause ↔ (w.ran.ended ≡ Cut Stopped)) }
     ensures err { OnErr result (IsBegun (J.means job.now) words.now
         (W.contents writer.old) (W.contents writer.new)) }
 {
@@ -161,7 +167,7 @@ fn begin_and_stream<
     records: &M,
     words: &TreeWords,
     writer: &mut W,
-) -> Result<Worked<G::Cause>, WriteError>
+) -> Result<RanByWorkers<G::Cause>, WriteError>
 where
     A::Work: Send + Drop,
     requires job { N.job ≡ J.means job.now }
@@ -173,16 +179,18 @@ where
     requires workers { 0 < length works.items }
     requires capacity { 0 < capacity }
     ensures written { IfOk result (λ w. IsWrittenTo (J.means job.now) words.now
-        (W.contents writer.old) (W.contents writer.new) w.written) }
-    ensures some_clocks { IfOk result (λ w. 0 < length w.clocks.items) }
-    ensures count { IfOk result (λ w. length w.clocks.items ≡ (J.means job.now).processes) }
-    ensures least { IfOk result (λ w. rank (J.means job.now).limit w.written.mark
-        ≡ least_rank (J.means job.now).limit w.clocks.items) }
+        (W.contents writer.old) (W.contents writer.new) w.ran.written) }
+    ensures some_clocks { IfOk result (λ w. 0 < length w.ran.clocks.items) }
+    ensures count { IfOk result (λ w. length w.ran.clocks.items ≡ (J.means job.now).processes) }
+    ensures least { IfOk result (λ w. rank (J.means job.now).limit w.ran.written.mark
+        ≡ least_rank (J.means job.now).limit w.ran.clocks.items) }
     ensures within { IfOk result (λ w. AreWithin (J.means job.now).horizon
-        (J.means job.now).limit w.clocks.items) }
-    ensures whole { IfOk result (λ w. (w.ended ≡ Whole)
-        ↔ ((p : ℕ) (t : MeantTime) → slice_get w.clocks.items p ≡ Some t
+        (J.means job.now).limit w.ran.clocks.items) }
+    ensures whole { IfOk result (λ w. (w.ran.ended ≡ Whole)
+        ↔ ((p : ℕ) (t : MeantTime) → slice_get w.ran.clocks.items p ≡ Some t
         → t ≡ end_time (J.means job.now))) }
+    ensures ended { IfOk result (λ w. w.ran.ended ≢ Cut Rounds) }
+    ensures cause { IfOk result (λ w. IsSome w.cause ↔ (w.ran.ended ≡ Cut Stopped)) }
     ensures err { OnErr result (IsBegun (J.means job.now) words.now
         (W.contents writer.old) (W.contents writer.new)) }
 {

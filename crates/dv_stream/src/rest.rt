@@ -1,17 +1,20 @@
 //! What workers did not post, written once they are done, and how their run ended.
 
-ghost use Rattle.std.specs.Prelude.{◌≡◌, ◌↔◌, ◌<◌, ◌≤◌, ℕ, IsTrue, Some, if◌then◌else◌, length, replicate, slice_get, IfOk, OnErr};
+ghost use Rattle.std.specs.Prelude.{◌≡◌, ◌≢◌, ◌↔◌, ◌<◌, ◌≤◌, ℕ, IsSome, IsTrue, Some, if◌then◌else◌, length, replicate};
+ghost use Rattle.std.specs.Prelude.{slice_get, IfOk, OnErr};
 ghost use Rattle.std.specs.List.{All};
 ghost use Rattle.dv_board.specs.Posts.{IsPiece};
 ghost use Rattle.dv_conservative.specs.Events.{same_time};
 ghost use Rattle.dv_plan.specs.Clocks.{least_time};
-ghost use Rattle.dv_stream.specs.Workers.{told_as};
+ghost use Rattle.dv_stream.specs.Endings.{by_workers, cause_of};
 ghost use Rattle.dv_stream.specs.Written.{Falters, GoesOn};
 ghost use Rattle.dv_time.specs.Time.{IsOfRun, end_of, rank};
 ghost use Rattle.dv_time.specs.declared.time.Time.{Time as MeantTime};
-ghost use Rattle.dv_stream.specs.declared.rest.WorkersEnded.TheVariants.{Whole};
+ghost use Rattle.dv_stream.specs.declared.ran.RunEnded.TheVariants.{Cut, Whole};
+ghost use Rattle.dv_stream.specs.declared.ran.Why.TheVariants.{Rounds, Stopped};
 
 use crate::news::write_joined;
+use crate::ran::{RunEnded, Why};
 use crate::written::Written;
 use dv_board::{Backlog, Board, Piece};
 use dv_lines::TraceWriter;
@@ -25,21 +28,12 @@ use std::alloc::Global;
 use std::io::Write;
 use std::sync::Wait;
 
-/// How a run by workers ended whose trace was written.
-#[derive(Drop)]
-pub enum WorkersEnded<C> {
-    /// Every clock is at the end.
-    Whole,
-    /// The gate stopped it, for this cause.
-    Stopped(C),
-    /// No memory, or no thread for a worker, or a piece of the trace was lost for want of memory.
-    Memory,
-}
-
 /// What workers left, and how their run ended.
 #[derive(Drop)]
 pub struct Left<N: OfJob, C> {
+    /// What each process committed and did not post, by its number.
     pub rest: Vec<Piece<N>>,
+    /// How the run ended.
     pub ended: Ended<C>,
 }
 
@@ -97,17 +91,21 @@ pub fn all_are(clocks: &[Time], end: Time) -> bool
     clocks.iter().all(|clock| *clock == end)
 }
 
-/// How a run ended of which the whole trace was written, or not. A run that is cancelled or whole, of which not the whole trace was
-/// written, lacked memory for a piece: for that alone the loop that writes stops the workers where no write failed.
-pub fn ended_as<C: Drop>(ended: Ended<C>, is_whole: bool) -> WorkersEnded<C>
-    ensures whole { (result ≡ Whole) ↔ IsTrue is_whole }
-    ensures ended { result ≡ told_as is_whole ended }
+/// How a run ended of which the whole trace was written, or not, and the cause for which it was stopped. A run that is cancelled or
+/// whole, of which not the whole trace was written, lacked memory for a piece: for that alone the loop that writes stops the workers
+/// where no write failed.
+pub fn ended_as<C: Drop>(ended: Ended<C>, is_whole: bool) -> (RunEnded, Option<C>)
+    ensures whole { (result.0 ≡ Whole) ↔ IsTrue is_whole }
+    ensures ended { result.0 ≡ by_workers is_whole ended }
+    ensures cause { result.1 ≡ cause_of is_whole ended }
+    ensures unstalled { result.0 ≢ Cut Rounds }
+    ensures is_told { IsSome result.1 ↔ (result.0 ≡ Cut Stopped) }
 {
     if is_whole {
-        return WorkersEnded::Whole;
+        return (RunEnded::Whole, None);
     }
     match ended {
-        Ended::Stopped(cause) => WorkersEnded::Stopped(cause),
-        Ended::Whole | Ended::Cancelled | Ended::Memory => WorkersEnded::Memory,
+        Ended::Stopped(cause) => (RunEnded::Cut(Why::Stopped), Some(cause)),
+        Ended::Whole | Ended::Cancelled | Ended::Memory => (RunEnded::Cut(Why::Memory), None),
     }
 }

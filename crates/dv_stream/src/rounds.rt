@@ -12,7 +12,7 @@ ghost use Rattle.dv_core.specs.Worlds.{EndsAs, IsTrueToModel, kept_by, shown};
 ghost use Rattle.dv_lines.specs.Entries.{line_of};
 ghost use Rattle.dv_plan.specs.Beginning.{CanRun};
 ghost use Rattle.dv_plan.specs.Clocks.{least_time};
-ghost use Rattle.dv_plan.specs.Runs.{HasRun};
+ghost use Rattle.dv_stream.specs.Endings.{HasRunInRounds};
 ghost use Rattle.dv_stream.specs.Rounds.{AreJoined};
 ghost use Rattle.dv_stream.specs.Written.{Falters, GoesOn, IsBegun, IsWrittenTo};
 ghost use Rattle.dv_text.specs.Names.{tree_names};
@@ -21,6 +21,7 @@ ghost use Rattle.dv_time.specs.Time.{end_of, rank};
 use crate::alone::stream_alone;
 use crate::clocks::clocks_of;
 use crate::merged::write_merged;
+use crate::ran::{Ran, ran_in_rounds};
 use crate::written::Written;
 use dv_bag::Bags;
 use dv_board::{Backlog, Piece};
@@ -43,11 +44,13 @@ use std::marker::Brand;
 // is little compared with the rounds; and a reader waits no longer than the rounds take.
 const ROUNDS_BETWEEN: u64 = 64;
 
-/// What ran, and up to when its trace was written.
-#[derive(Drop)]
-pub struct Streamed {
-    pub committed: Committed,
-    pub written: Written,
+/// What bounds a run in rounds.
+#[derive(Clone, Copy, Debug, PartialEq, Eq)]
+pub struct Bounds {
+    /// How many rounds there are at most.
+    pub rounds: u64,
+    /// How many packets are on their way on a link at most.
+    pub capacity: usize,
 }
 
 // Joins to a backlog what a process of a world committed beyond what was joined before.
@@ -254,9 +257,9 @@ fn stream_rounds<N: OfJob, J: PlannedJob, P: ProcessHandsOver<N>, W: Write>(
     Ok((ended, written))
 }
 
-/// Runs the processes of a plan from their start, in so many rounds at most, with so many packets on their way on a link at
-/// most, and writes the lines of the trace before the least clock while they run. Where memory is refused to a turn or to a
-/// packet the last round is cut; what was committed before is what ran, and is written. What was written is let go.
+/// Runs the processes of a plan from their start, in rounds within these bounds, and writes the lines of the trace before the
+/// least clock while they run. Where memory is refused to a turn or to a packet the last round is cut; what was committed before
+/// is what ran, and is written. What was written is let go.
 ///
 /// # Errors
 ///
@@ -267,28 +270,27 @@ pub fn stream_plan<J: PlannedJob, A: Atomic + Drop, W: Write>(
     job: J,
     plan: Plan<A>,
     work: &mut A::Work,
-    rounds: u64,
-    capacity: usize,
+    bounds: Bounds,
     tree: &Tree<'_>,
     writer: &mut W,
-) -> Result<Streamed, WriteError>
+) -> Result<Ran, WriteError>
     requires comes { (a : A) (bags : List Counts) → A.comes a bags }
     requires run { CanRun J.means A.behaviour A.fits job plan }
     requires merges { IsMergeable (J.means job) }
     requires some { 0 < (J.means job).processes }
-    ensures run { IfOk result (λ s. HasRun (J.means job) capacity rounds s.committed) }
-    ensures written { IfOk result (λ s. IsWrittenTo (J.means job) tree.now
-        (W.contents writer.old) (W.contents writer.new) s.written) }
-    ensures least { IfOk result (λ s. s.written.mark ≡ least_time s.committed.clocks.items) }
+    ensures run { IfOk result (HasRunInRounds (J.means job) bounds.capacity bounds.rounds) }
+    ensures written { IfOk result (λ r. IsWrittenTo (J.means job) tree.now
+        (W.contents writer.old) (W.contents writer.new) r.written) }
+    ensures least { IfOk result (λ r. r.written.mark ≡ least_time r.clocks.items) }
     ensures err { OnErr result (IsBegun (J.means job) tree.now
         (W.contents writer.old) (W.contents writer.new)) }
 {
     if plan.shares.len() == 1 {
         let to = TextRecord::new(alloc, tree)?;
-        return stream_alone(alloc, job, plan, work, rounds, capacity, to, tree, writer);
+        return stream_alone(alloc, job, plan, work, bounds, to, tree, writer);
     }
     let words = TreeWords::of(alloc, tree)?;
-    stream_with_words::<Brand, J, A, W>(alloc, job, plan, work, rounds, capacity, &words, writer)
+    stream_with_words::<Brand, J, A, W>(alloc, job, plan, work, bounds, &words, writer)
 }
 
 // Makes the records by the words, and runs the processes of a plan with them. No parameter has the job in its type, so a caller can choose
@@ -298,27 +300,26 @@ fn stream_with_words<'w, N: OfJob, J: PlannedJob, A: Atomic + Drop, W: Write>(
     job: J,
     plan: Plan<A>,
     work: &mut A::Work,
-    rounds: u64,
-    capacity: usize,
+    bounds: Bounds,
     words: &'w TreeWords<'w>,
     writer: &mut W,
-) -> Result<Streamed, WriteError>
+) -> Result<Ran, WriteError>
     requires job { N.job ≡ J.means job }
     requires lines { (e : MeantEntry) → line_of (tree_names words.now) e ≡ N.line e }
     requires comes { (a : A) (bags : List Counts) → A.comes a bags }
     requires run { CanRun J.means A.behaviour A.fits job plan }
     requires merges { IsMergeable (J.means job) }
     requires some { 0 < (J.means job).processes }
-    ensures run { IfOk result (λ s. HasRun (J.means job) capacity rounds s.committed) }
-    ensures written { IfOk result (λ s. IsWrittenTo (J.means job) words.now
-        (W.contents writer.old) (W.contents writer.new) s.written) }
-    ensures least { IfOk result (λ s. s.written.mark ≡ least_time s.committed.clocks.items) }
+    ensures run { IfOk result (HasRunInRounds (J.means job) bounds.capacity bounds.rounds) }
+    ensures written { IfOk result (λ r. IsWrittenTo (J.means job) words.now
+        (W.contents writer.old) (W.contents writer.new) r.written) }
+    ensures least { IfOk result (λ r. r.written.mark ≡ least_time r.clocks.items) }
     ensures err { OnErr result (IsBegun (J.means job) words.now
         (W.contents writer.old) (W.contents writer.new)) }
 {
     let records: WrittenRecords<'w, N> = words.records();
     stream_several::<N, J, A, WrittenRecord<'w, N>, WrittenRecords<'w, N>, W>(
-        alloc, job, plan, work, rounds, capacity, &records, words, writer,
+        alloc, job, plan, work, bounds, &records, words, writer,
     )
 }
 
@@ -335,32 +336,37 @@ fn stream_several<
     job: J,
     plan: Plan<A>,
     work: &mut A::Work,
-    rounds: u64,
-    capacity: usize,
+    bounds: Bounds,
     records: &M,
     words: &TreeWords<'_>,
     writer: &mut W,
-) -> Result<Streamed, WriteError>
+) -> Result<Ran, WriteError>
     requires job { N.job ≡ J.means job }
     requires lines { (e : MeantEntry) → line_of (tree_names words.now) e ≡ N.line e }
     requires comes { (a : A) (bags : List Counts) → A.comes a bags }
     requires run { CanRun J.means A.behaviour A.fits job plan }
     requires merges { IsMergeable (J.means job) }
     requires some { 0 < (J.means job).processes }
-    ensures run { IfOk result (λ s. HasRun (J.means job) capacity rounds s.committed) }
-    ensures written { IfOk result (λ s. IsWrittenTo (J.means job) words.now
-        (W.contents writer.old) (W.contents writer.new) s.written) }
-    ensures least { IfOk result (λ s. s.written.mark ≡ least_time s.committed.clocks.items) }
+    ensures run { IfOk result (HasRunInRounds (J.means job) bounds.capacity bounds.rounds) }
+    ensures written { IfOk result (λ r. IsWrittenTo (J.means job) words.now
+        (W.contents writer.old) (W.contents writer.new) r.written) }
+    ensures least { IfOk result (λ r. r.written.mark ≡ least_time r.clocks.items) }
     ensures err { OnErr result (IsBegun (J.means job) words.now
         (W.contents writer.old) (W.contents writer.new)) }
 {
     let processes = plan.shares.len() as u32;
     let mut lines = TraceWriter::new(alloc, words)?;
-    let mut world = world_of::<J, A, K, M>(alloc, job, plan, records, capacity)?;
+    let mut world = world_of::<J, A, K, M>(alloc, job, plan, records, bounds.capacity)?;
     let (ended, written) = stream_rounds::<N, J, Process<LocalRun<A, K>>, W>(
-        alloc, &mut world, work, processes, rounds, &mut lines, writer,
+        alloc,
+        &mut world,
+        work,
+        processes,
+        bounds.rounds,
+        &mut lines,
+        writer,
     )?;
     let clocks = clocks_of(alloc, world.processes())?;
     let committed = Committed { clocks, ended };
-    Ok(Streamed { committed, written })
+    Ok(ran_in_rounds(committed, written))
 }

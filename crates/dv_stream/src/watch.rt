@@ -36,6 +36,7 @@ impl Watch for Unwatched {
 /// A gate that lets somebody watch, and stops for the causes of that one.
 #[derive(Drop)]
 pub struct Watched<'w, G> {
+    /// Whoever watches.
     pub watch: &'w G,
 }
 

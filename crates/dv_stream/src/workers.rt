@@ -1,6 +1,6 @@
 //! A run by workers, whose trace is written while they run.
 
-ghost use Rattle.std.specs.Prelude.{◌≡◌, ◌↔◌, ◌<◌, ◌≤◌, ℕ, Some, slice_get, length, IfOk, IfSome, OnErr};
+ghost use Rattle.std.specs.Prelude.{◌≡◌, ◌≢◌, ◌↔◌, ◌<◌, ◌≤◌, ℕ, Some, slice_get, length, IfOk, IfSome, IsSome, OnErr};
 ghost use Rattle.std.specs.List.{All};
 ghost use Rattle.dv_bag.specs.Part.{nothing};
 ghost use Rattle.dv_bag.specs.declared.entry.Entry.{Entry as MeantEntry};
@@ -15,11 +15,13 @@ ghost use Rattle.dv_devs.specs.Clocks.{least_rank};
 ghost use Rattle.dv_stream.specs.Clocks.{AreWithin};
 ghost use Rattle.dv_stream.specs.Workers.{IsReportOf, job_of_type};
 ghost use Rattle.dv_stream.specs.Written.{IsBegun, IsWrittenTo};
-ghost use Rattle.dv_stream.specs.declared.rest.WorkersEnded.TheVariants.{Whole};
+ghost use Rattle.dv_stream.specs.declared.ran.RunEnded.TheVariants.{Cut, Whole};
+ghost use Rattle.dv_stream.specs.declared.ran.Why.TheVariants.{Rounds, Stopped};
 ghost use Rattle.dv_time.specs.Limits.{greatest_tick};
 
 use crate::news::{Signals, write_news};
-use crate::rest::{Left, WorkersEnded, all_are, clocks_at, ended_as, write_rest};
+use crate::ran::{Ran, RanByWorkers};
+use crate::rest::{Left, all_are, clocks_at, ended_as, write_rest};
 use crate::watch::{Watch, Watched};
 use crate::written::Written;
 use dv_bag::Bags;
@@ -38,19 +40,12 @@ use std::marker::PhantomData;
 use std::sync::Wait;
 use std::thread::{Threads, join_mut};
 
-/// How a run by workers ended. Its trace was written up to the least of the clocks, which are in the order of the
-/// processes' numbers.
-#[derive(Drop)]
-pub struct Worked<C> {
-    pub clocks: Vec<Time>,
-    pub ended: WorkersEnded<C>,
-    pub written: Written,
-}
-
 /// What a run is made of: new processes, and for each worker what its turns work with.
 #[derive(Drop)]
 pub struct Crew<P, K> {
+    /// The new processes, by their numbers.
     pub processes: Vec<P>,
+    /// What the turns of each worker work with, by the worker's number.
     pub works: Vec<K>,
 }
 
@@ -266,7 +261,7 @@ pub(crate) fn stream_watched<
     gate: &Watched<'_, G>,
     words: &TreeWords,
     writer: &mut W,
-) -> Result<Worked<G::Cause>, WriteError>
+) -> Result<RanByWorkers<G::Cause>, WriteError>
 where
     P::Work: Send + Drop,
     P::Record: Send,
@@ -280,16 +275,18 @@ where
     requires workers { 0 < length crew.works.items }
     requires capacity { 0 < capacity }
     ensures written { IfOk result (λ w. IsWrittenTo (J.means job.now) words.now
-        (W.contents writer.old) (W.contents writer.new) w.written) }
-    ensures some_clocks { IfOk result (λ w. 0 < length w.clocks.items) }
-    ensures count { IfOk result (λ w. length w.clocks.items ≡ (J.means job.now).processes) }
-    ensures least { IfOk result (λ w. rank (J.means job.now).limit w.written.mark
-        ≡ least_rank (J.means job.now).limit w.clocks.items) }
+        (W.contents writer.old) (W.contents writer.new) w.ran.written) }
+    ensures some_clocks { IfOk result (λ w. 0 < length w.ran.clocks.items) }
+    ensures count { IfOk result (λ w. length w.ran.clocks.items ≡ (J.means job.now).processes) }
+    ensures least { IfOk result (λ w. rank (J.means job.now).limit w.ran.written.mark
+        ≡ least_rank (J.means job.now).limit w.ran.clocks.items) }
     ensures within { IfOk result (λ w. AreWithin (J.means job.now).horizon
-        (J.means job.now).limit w.clocks.items) }
-    ensures whole { IfOk result (λ w. (w.ended ≡ Whole)
-        ↔ ((p : ℕ) (t : MeantTime) → slice_get w.clocks.items p ≡ Some t
+        (J.means job.now).limit w.ran.clocks.items) }
+    ensures whole { IfOk result (λ w. (w.ran.ended ≡ Whole)
+        ↔ ((p : ℕ) (t : MeantTime) → slice_get w.ran.clocks.items p ≡ Some t
         → t ≡ end_time (J.means job.now))) }
+    ensures ended { IfOk result (λ w. w.ran.ended ≢ Cut Rounds) }
+    ensures cause { IfOk result (λ w. IsSome w.cause ↔ (w.ran.ended ≡ Cut Stopped)) }
     ensures err { OnErr result (IsBegun (J.means job.now) words.now
         (W.contents writer.old) (W.contents writer.new)) }
 {
@@ -319,7 +316,7 @@ fn stream_crew<
     gate: &G,
     words: &TreeWords,
     writer: &mut W,
-) -> Result<Worked<G::Cause>, WriteError>
+) -> Result<RanByWorkers<G::Cause>, WriteError>
 where
     P::Work: Send + Drop,
     P::Record: Send,
@@ -333,16 +330,18 @@ where
     requires workers { 0 < length crew.works.items }
     requires capacity { 0 < capacity }
     ensures written { IfOk result (λ w. IsWrittenTo (J.means job.now) words.now
-        (W.contents writer.old) (W.contents writer.new) w.written) }
-    ensures some_clocks { IfOk result (λ w. 0 < length w.clocks.items) }
-    ensures count { IfOk result (λ w. length w.clocks.items ≡ (J.means job.now).processes) }
-    ensures least { IfOk result (λ w. rank (J.means job.now).limit w.written.mark
-        ≡ least_rank (J.means job.now).limit w.clocks.items) }
+        (W.contents writer.old) (W.contents writer.new) w.ran.written) }
+    ensures some_clocks { IfOk result (λ w. 0 < length w.ran.clocks.items) }
+    ensures count { IfOk result (λ w. length w.ran.clocks.items ≡ (J.means job.now).processes) }
+    ensures least { IfOk result (λ w. rank (J.means job.now).limit w.ran.written.mark
+        ≡ least_rank (J.means job.now).limit w.ran.clocks.items) }
     ensures within { IfOk result (λ w. AreWithin (J.means job.now).horizon
-        (J.means job.now).limit w.clocks.items) }
-    ensures whole { IfOk result (λ w. (w.ended ≡ Whole)
-        ↔ ((p : ℕ) (t : MeantTime) → slice_get w.clocks.items p ≡ Some t
+        (J.means job.now).limit w.ran.clocks.items) }
+    ensures whole { IfOk result (λ w. (w.ran.ended ≡ Whole)
+        ↔ ((p : ℕ) (t : MeantTime) → slice_get w.ran.clocks.items p ≡ Some t
         → t ≡ end_time (J.means job.now))) }
+    ensures ended { IfOk result (λ w. w.ran.ended ≢ Cut Rounds) }
+    ensures cause { IfOk result (λ w. IsSome w.cause ↔ (w.ran.ended ≡ Cut Stopped)) }
     ensures err { OnErr result (IsBegun (J.means job.now) words.now
         (W.contents writer.old) (W.contents writer.new)) }
 {
@@ -389,10 +388,11 @@ where
         tick: job.horizon() + 1,
         micro: 0,
     };
-    let ended = ended_as(ended, all_are(&clocks, end));
-    Ok(Worked {
+    let (ended, cause) = ended_as(ended, all_are(&clocks, end));
+    let ran = Ran {
         clocks,
         ended,
         written,
-    })
+    };
+    Ok(RanByWorkers { ran, cause })
 }

@@ -19,6 +19,7 @@ use std::io::Write;
 /// Up to when the trace was written: all that is before the mark, and nothing since it.
 #[derive(Clone, Copy, Debug, PartialEq, Eq)]
 pub struct Written {
+    /// The time before which all was written.
     pub mark: Time,
     /// Whether a fault is among the entries that were written.
     pub faulted: bool,

@@ -44,13 +44,13 @@ use Rattle.dv_syntax.specs.Written.{Couples, WrittenModel, WrittenAtomic, Writte
 
 -- ---- Spellings
 
--- what a tree asks of a token: its kind, and its place where the tree keeps that
+-- what a tree asks of a token: its kind, and its offset where the tree keeps that
 pub data Spelled : Type 0 where
-  At : (kind : TokenKind) → (place : ℕ) → Spelled
+  At : (kind : TokenKind) → (offset : ℕ) → Spelled
   Anywhere : (kind : TokenKind) → Spelled
 
 abbrev pub IsSpelled : Token → Spelled → Type 0
-IsSpelled t (At k place) = (t.kind ≡ k) × (t.place ≡ place)
+IsSpelled t (At k offset) = (t.kind ≡ k) × (t.offset ≡ offset)
 IsSpelled t (Anywhere k) = t.kind ≡ k
 
 -- the tokens begin as it is spelled, and then the rest follows
@@ -65,15 +65,15 @@ sign s = Anywhere (kind.Symbol s)
 abbrev pub word : Keyword → Spelled
 word k = Anywhere (kind.Keyword k)
 
--- a word whose place the tree keeps
+-- a word whose offset the tree keeps
 abbrev pub word_at : Keyword → ℕ → Spelled
-word_at k place = At (kind.Keyword k) place
+word_at k offset = At (kind.Keyword k) offset
 
 abbrev pub name : Name → Spelled
-name n = At (kind.Name n.number) n.place
+name n = At (kind.Name n.number) n.offset
 
 abbrev pub number : Number → Spelled
-number n = At (kind.Number n.value) n.place
+number n = At (kind.Number n.value) n.offset
 
 abbrev pub braces : List Spelled → List Spelled
 braces inside = sign symbol.OpenBrace ∷ (inside ++ sign symbol.CloseBrace ∷ [])
@@ -124,15 +124,15 @@ call_word call.Front = keyword.Front
 
 abbrev pub expression_spelling : Expression → List Spelled
 expression_spelling (Literal n) = number n ∷ []
-expression_spelling (TruthValue place value) = word_at (truth_word value) place ∷ []
+expression_spelling (TruthValue offset value) = word_at (truth_word value) offset ∷ []
 expression_spelling (Named n) = name n ∷ []
-expression_spelling (Parens place e) = At (kind.Symbol symbol.OpenParen) place ∷ (expression_spelling e ++ sign symbol.CloseParen ∷ [])
-expression_spelling (Prefixed o place e) = At (prefix_kind o) place ∷ expression_spelling e
+expression_spelling (Parens offset e) = At (kind.Symbol symbol.OpenParen) offset ∷ (expression_spelling e ++ sign symbol.CloseParen ∷ [])
+expression_spelling (Prefixed o offset e) = At (prefix_kind o) offset ∷ expression_spelling e
 expression_spelling (Binary o a b) = expression_spelling a ++ Anywhere (operator_kind o) ∷ expression_spelling b
-expression_spelling (Elapsed place) = word_at keyword.Elapsed place ∷ []
-expression_spelling (Call c place b) = word_at (call_word c) place ∷ sign symbol.OpenParen ∷ name b ∷ sign symbol.CloseParen ∷ []
-expression_spelling (Times place e b) =
-    word_at keyword.Times place ∷ sign symbol.OpenParen
+expression_spelling (Elapsed offset) = word_at keyword.Elapsed offset ∷ []
+expression_spelling (Call c offset b) = word_at (call_word c) offset ∷ sign symbol.OpenParen ∷ name b ∷ sign symbol.CloseParen ∷ []
+expression_spelling (Times offset e b) =
+    word_at keyword.Times offset ∷ sign symbol.OpenParen
     ∷ (expression_spelling e ++ sign symbol.Comma ∷ name b ∷ sign symbol.CloseParen ∷ [])
 
 -- how tightly an operator before its operand binds
@@ -175,37 +175,37 @@ left_rank operator.AtLeast = 5
 -- how tightly an expression holds together: 8 where no operator stands at its top
 abbrev pub rank : Expression → ℕ
 rank (Literal n) = 8
-rank (TruthValue place value) = 8
+rank (TruthValue offset value) = 8
 rank (Named n) = 8
-rank (Parens place e) = 8
-rank (Prefixed o place e) = prefix_rank o
+rank (Parens offset e) = 8
+rank (Prefixed o offset e) = prefix_rank o
 rank (Binary o a b) = operator_rank o
-rank (Call c place b) = 8
-rank (Elapsed place) = 8
-rank (Times place e b) = 8
+rank (Call c offset b) = 8
+rank (Elapsed offset) = 8
+rank (Times offset e b) = 8
 
 -- each operand has a rank that the grammar allows there
 abbrev pub IsWellFormed : Expression → Type 0
 IsWellFormed (Literal n) = Unit {0}
-IsWellFormed (TruthValue place value) = Unit {0}
+IsWellFormed (TruthValue offset value) = Unit {0}
 IsWellFormed (Named n) = Unit {0}
-IsWellFormed (Parens place e) = IsWellFormed e
-IsWellFormed (Prefixed o place e) = IsWellFormed e × (prefix_rank o ≤ rank e)
+IsWellFormed (Parens offset e) = IsWellFormed e
+IsWellFormed (Prefixed o offset e) = IsWellFormed e × (prefix_rank o ≤ rank e)
 IsWellFormed (Binary o a b) = IsWellFormed a × IsWellFormed b × (left_rank o ≤ rank a) × (operator_rank o < rank b)
-IsWellFormed (Call c place b) = Unit {0}
-IsWellFormed (Elapsed place) = Unit {0}
-IsWellFormed (Times place e b) = IsWellFormed e
+IsWellFormed (Call c offset b) = Unit {0}
+IsWellFormed (Elapsed offset) = Unit {0}
+IsWellFormed (Times offset e b) = IsWellFormed e
 
 abbrev pub depth : Expression → ℕ
 depth (Literal n) = 1
-depth (TruthValue place value) = 1
+depth (TruthValue offset value) = 1
 depth (Named n) = 1
-depth (Parens place e) = depth e + 1
-depth (Prefixed o place e) = depth e + 1
+depth (Parens offset e) = depth e + 1
+depth (Prefixed o offset e) = depth e + 1
 depth (Binary o a b) = max (depth a) (depth b) + 1
-depth (Call c place b) = 1
-depth (Elapsed place) = 1
-depth (Times place e b) = depth e + 1
+depth (Call c offset b) = 1
+depth (Elapsed offset) = 1
+depth (Times offset e b) = depth e + 1
 
 pub record IsExpression (limits : Limits) (e : Expression) : Type 0 where
   pub formed : IsWellFormed e
@@ -232,61 +232,61 @@ abbrev pub statements_spelling : Statements → List Spelled
 statements_spelling Done = []
 statements_spelling (Assign n e rest) =
     name n ∷ sign symbol.Assign ∷ (expression_spelling e ++ sign symbol.Semicolon ∷ statements_spelling rest)
-statements_spelling (Does c place n rest) = word_at (command_word c) place ∷ name n ∷ sign symbol.Semicolon ∷ statements_spelling rest
-statements_spelling (Send place p e rest) =
-    word_at keyword.Send place ∷ name p ∷ (expression_spelling e ++ sign symbol.Semicolon ∷ statements_spelling rest)
-statements_spelling (If place e block rest) =
-    word_at keyword.If place ∷ (expression_spelling e ++ (braces (statements_spelling block) ++ statements_spelling rest))
-statements_spelling (IfElse place e block other rest) =
-    word_at keyword.If place
+statements_spelling (Does c offset n rest) = word_at (command_word c) offset ∷ name n ∷ sign symbol.Semicolon ∷ statements_spelling rest
+statements_spelling (Send offset p e rest) =
+    word_at keyword.Send offset ∷ name p ∷ (expression_spelling e ++ sign symbol.Semicolon ∷ statements_spelling rest)
+statements_spelling (If offset e block rest) =
+    word_at keyword.If offset ∷ (expression_spelling e ++ (braces (statements_spelling block) ++ statements_spelling rest))
+statements_spelling (IfElse offset e block other rest) =
+    word_at keyword.If offset
     ∷ (expression_spelling e
     ++ (braces (statements_spelling block)
     ++ (word keyword.Else ∷ (braces (statements_spelling other) ++ statements_spelling rest))))
-statements_spelling (For place v b block rest) =
-    word_at keyword.For place ∷ name v ∷ word keyword.In ∷ name b
+statements_spelling (For offset v b block rest) =
+    word_at keyword.For offset ∷ name v ∷ word keyword.In ∷ name b
     ∷ (braces (statements_spelling block) ++ statements_spelling rest)
-statements_spelling (Changes c place e x rest) =
-    word_at (change_word c) place
+statements_spelling (Changes c offset e x rest) =
+    word_at (change_word c) offset
     ∷ (expression_spelling e ++ word (change_preposition c) ∷ name x ∷ sign symbol.Semicolon ∷ statements_spelling rest)
 
 -- how many blocks lie in one another here, the one that holds these statements counted
 abbrev pub block_depth : Statements → ℕ
 block_depth Done = 1
 block_depth (Assign n e rest) = block_depth rest
-block_depth (Does c place n rest) = block_depth rest
-block_depth (Send place p e rest) = block_depth rest
-block_depth (If place e block rest) = max (block_depth block + 1) (block_depth rest)
-block_depth (IfElse place e block other rest) = max (max (block_depth block + 1) (block_depth other + 1)) (block_depth rest)
-block_depth (For place v b block rest) = max (block_depth block + 1) (block_depth rest)
-block_depth (Changes c place e x rest) = block_depth rest
+block_depth (Does c offset n rest) = block_depth rest
+block_depth (Send offset p e rest) = block_depth rest
+block_depth (If offset e block rest) = max (block_depth block + 1) (block_depth rest)
+block_depth (IfElse offset e block other rest) = max (max (block_depth block + 1) (block_depth other + 1)) (block_depth rest)
+block_depth (For offset v b block rest) = max (block_depth block + 1) (block_depth rest)
+block_depth (Changes c offset e x rest) = block_depth rest
 
 -- how many loops lie in one another in these statements
 abbrev pub loop_depth : Statements → ℕ
 loop_depth Done = 0
 loop_depth (Assign n e rest) = loop_depth rest
-loop_depth (Does c place n rest) = loop_depth rest
-loop_depth (Send place p e rest) = loop_depth rest
-loop_depth (If place e block rest) = max (loop_depth block) (loop_depth rest)
-loop_depth (IfElse place e block other rest) = max (max (loop_depth block) (loop_depth other)) (loop_depth rest)
-loop_depth (For place v b block rest) = max (loop_depth block + 1) (loop_depth rest)
-loop_depth (Changes c place e x rest) = loop_depth rest
+loop_depth (Does c offset n rest) = loop_depth rest
+loop_depth (Send offset p e rest) = loop_depth rest
+loop_depth (If offset e block rest) = max (loop_depth block) (loop_depth rest)
+loop_depth (IfElse offset e block other rest) = max (max (loop_depth block) (loop_depth other)) (loop_depth rest)
+loop_depth (For offset v b block rest) = max (loop_depth block + 1) (loop_depth rest)
+loop_depth (Changes c offset e x rest) = loop_depth rest
 
 abbrev pub AreStatements : Limits → Statements → Type 0
 AreStatements limits Done = Unit {0}
 AreStatements limits (Assign n e rest) = IsExpression limits e × AreStatements limits rest
-AreStatements limits (Does c place n rest) = AreStatements limits rest
-AreStatements limits (Send place p e rest) = IsExpression limits e × AreStatements limits rest
-AreStatements limits (If place e block rest) = IsExpression limits e × AreStatements limits block × AreStatements limits rest
-AreStatements limits (IfElse place e block other rest) =
+AreStatements limits (Does c offset n rest) = AreStatements limits rest
+AreStatements limits (Send offset p e rest) = IsExpression limits e × AreStatements limits rest
+AreStatements limits (If offset e block rest) = IsExpression limits e × AreStatements limits block × AreStatements limits rest
+AreStatements limits (IfElse offset e block other rest) =
     IsExpression limits e × AreStatements limits block × AreStatements limits other × AreStatements limits rest
-AreStatements limits (For place v b block rest) = AreStatements limits block × AreStatements limits rest
-AreStatements limits (Changes c place e x rest) = IsExpression limits e × AreStatements limits rest
+AreStatements limits (For offset v b block rest) = AreStatements limits block × AreStatements limits rest
+AreStatements limits (Changes c offset e x rest) = IsExpression limits e × AreStatements limits rest
 
 -- ---- Atomic models
 
 abbrev pub minus_spelling : Option ℕ → List Spelled
 minus_spelling None = []
-minus_spelling (Some place) = At (kind.Symbol symbol.Minus) place ∷ []
+minus_spelling (Some offset) = At (kind.Symbol symbol.Minus) offset ∷ []
 
 abbrev pub bound_spelling : Bound → List Spelled
 bound_spelling b = minus_spelling b.minus ++ number b.magnitude ∷ []
@@ -327,17 +327,17 @@ names_spelling [] = []
 names_spelling (n ∷ ns) = name n ∷ flat_map (λ n. sign symbol.Comma ∷ name n ∷ []) ns
 
 abbrev pub phases_spelling : PhasesTree → List Spelled
-phases_spelling p = word_at keyword.Phases p.place ∷ (names_spelling p.names ++ sign symbol.Semicolon ∷ [])
+phases_spelling p = word_at keyword.Phases p.offset ∷ (names_spelling p.names ++ sign symbol.Semicolon ∷ [])
 
 abbrev pub start_spelling : Start → List Spelled
-start_spelling s = word_at keyword.Start s.place ∷ name s.phase ∷ sign symbol.Semicolon ∷ []
+start_spelling s = word_at keyword.Start s.offset ∷ name s.phase ∷ sign symbol.Semicolon ∷ []
 
 abbrev pub ticks_spelling : Option Expression → List Spelled
 ticks_spelling None = word keyword.Forever ∷ []
 ticks_spelling (Some e) = expression_spelling e
 
 abbrev pub hold_spelling : HoldTree → List Spelled
-hold_spelling h = word_at keyword.Hold h.place ∷ name h.phase ∷ sign symbol.Colon ∷ (ticks_spelling h.ticks ++ sign symbol.Semicolon ∷ [])
+hold_spelling h = word_at keyword.Hold h.offset ∷ name h.phase ∷ sign symbol.Colon ∷ (ticks_spelling h.ticks ++ sign symbol.Semicolon ∷ [])
 
 abbrev pub sort_word : RuleSort → Keyword
 sort_word sort.Output = keyword.Output
@@ -380,7 +380,7 @@ part_spelling p = word keyword.Part ∷ name p.name ∷ sign symbol.Colon ∷ na
 
 abbrev pub link_spelling : Link → List Spelled
 link_spelling l =
-    word_at keyword.Link l.place
+    word_at keyword.Link l.offset
     ∷ (end_spelling l.from ++ (sign symbol.Arrow ∷ (end_spelling l.to ++ sign symbol.Semicolon ∷ [])))
 
 abbrev pub coupled_item_spelling : CoupledItem → List Spelled

@@ -32,34 +32,34 @@ use Rattle.dv_syntax.specs.declared.tree.File.{File}
 -- an expression, with its parentheses
 pub data Expression : Type 0 where
   Literal : (number : Number) → Expression
-  TruthValue : (place : ℕ) → (value : Bool) → Expression
+  TruthValue : (offset : ℕ) → (value : Bool) → Expression
   Named : (name : Name) → Expression
-  Parens : (place : ℕ) → (inner : Expression) → Expression
-  Prefixed : (operator : Prefix) → (place : ℕ) → (operand : Expression) → Expression
+  Parens : (offset : ℕ) → (inner : Expression) → Expression
+  Prefixed : (operator : Prefix) → (offset : ℕ) → (operand : Expression) → Expression
   Binary : (operator : Operator) → (left right : Expression) → Expression
-  Call : (call : BagCall) → (place : ℕ) → (bag : Name) → Expression
-  Elapsed : (place : ℕ) → Expression
-  Times : (place : ℕ) → (value : Expression) → (bag : Name) → Expression
+  Call : (call : BagCall) → (offset : ℕ) → (bag : Name) → Expression
+  Elapsed : (offset : ℕ) → Expression
+  Times : (offset : ℕ) → (value : Expression) → (bag : Name) → Expression
 
 -- a list of statements: none, or one and the rest
 pub data Statements : Type 0 where
   Done : Statements
   Assign : (variable : Name) → (value : Expression) → (rest : Statements) → Statements
-  Does : (command : Command) → (place : ℕ) → (name : Name) → (rest : Statements) → Statements
-  Send : (place : ℕ) → (port : Name) → (value : Expression) → (rest : Statements) → Statements
-  If : (place : ℕ) → (condition : Expression) → (block rest : Statements) → Statements
-  IfElse : (place : ℕ) → (condition : Expression) → (block other rest : Statements) → Statements
-  For : (place : ℕ) → (variable bag : Name) → (block rest : Statements) → Statements
-  Changes : (change : Change) → (place : ℕ) → (value : Expression) → (collection : Name) → (rest : Statements) → Statements
+  Does : (command : Command) → (offset : ℕ) → (name : Name) → (rest : Statements) → Statements
+  Send : (offset : ℕ) → (port : Name) → (value : Expression) → (rest : Statements) → Statements
+  If : (offset : ℕ) → (condition : Expression) → (block rest : Statements) → Statements
+  IfElse : (offset : ℕ) → (condition : Expression) → (block other rest : Statements) → Statements
+  For : (offset : ℕ) → (variable bag : Name) → (block rest : Statements) → Statements
+  Changes : (change : Change) → (offset : ℕ) → (value : Expression) → (collection : Name) → (rest : Statements) → Statements
 
 -- an item of phases
 pub record PhasesTree : Type 0 where
-  pub place : ℕ
+  pub offset : ℕ
   pub names : List Name
 
 -- a hold; one of None is forever
 pub record HoldTree : Type 0 where
-  pub place : ℕ
+  pub offset : ℕ
   pub phase : Name
   pub ticks : Option Expression
 
@@ -95,26 +95,26 @@ pub record FileTree : Type 0 where
 
 abbrev pub expression_of : Expr → Expression
 expression_of (expr.Literal n) = Literal n
-expression_of (expr.TruthValue place value) = TruthValue place value
+expression_of (expr.TruthValue offset value) = TruthValue offset value
 expression_of (expr.Named n) = Named n
-expression_of (expr.Parens' place p e) = Parens place (expression_of e)
-expression_of (expr.Prefixed' o place p e) = Prefixed o place (expression_of e)
+expression_of (expr.Parens' offset p e) = Parens offset (expression_of e)
+expression_of (expr.Prefixed' o offset p e) = Prefixed o offset (expression_of e)
 expression_of (expr.Binary' o p a q b) = Binary o (expression_of a) (expression_of b)
-expression_of (expr.Call c place b) = Call c place b
-expression_of (expr.Elapsed place) = Elapsed place
-expression_of (expr.Times' place p e b) = Times place (expression_of e) b
+expression_of (expr.Call c offset b) = Call c offset b
+expression_of (expr.Elapsed offset) = Elapsed offset
+expression_of (expr.Times' offset p e b) = Times offset (expression_of e) b
 
 abbrev mutual
   -- a statement of the code, before a rest
   pub statement_before : Stmt → Statements → Statements
   statement_before (stmt.Assign name e) rest = Assign name (expression_of e) rest
-  statement_before (stmt.Command c place name) rest = Does c place name rest
-  statement_before (stmt.Send place port e) rest = Send place port (expression_of e) rest
-  statement_before (stmt.If' place e shape block) rest = If place (expression_of e) (row_statements block) rest
-  statement_before (stmt.IfElse' place e shape block other_shape other) rest =
-      IfElse place (expression_of e) (row_statements block) (row_statements other) rest
-  statement_before (stmt.For' place v b shape block) rest = For place v b (row_statements block) rest
-  statement_before (stmt.Change c place e x) rest = Changes c place (expression_of e) x rest
+  statement_before (stmt.Command c offset name) rest = Does c offset name rest
+  statement_before (stmt.Send offset port e) rest = Send offset port (expression_of e) rest
+  statement_before (stmt.If' offset e shape block) rest = If offset (expression_of e) (row_statements block) rest
+  statement_before (stmt.IfElse' offset e shape block other_shape other) rest =
+      IfElse offset (expression_of e) (row_statements block) (row_statements other) rest
+  statement_before (stmt.For' offset v b shape block) rest = For offset v b (row_statements block) rest
+  statement_before (stmt.Change c offset e x) rest = Changes c offset (expression_of e) x rest
 
   pub row_statements : {n : _} → Row_of-Stmt n → Statements
   row_statements end_of-Stmt = Done
@@ -133,10 +133,10 @@ ticks_of ticks.Forever = None
 ticks_of (ticks.After e) = Some (expression_of e)
 
 abbrev pub phases_of : Phases → PhasesTree
-phases_of p = record { place = p.place; names = p.names.items }
+phases_of p = record { offset = p.offset; names = p.names.items }
 
 abbrev pub hold_of : Hold → HoldTree
-hold_of h = record { place = h.place; phase = h.phase; ticks = ticks_of h.ticks }
+hold_of h = record { offset = h.offset; phase = h.phase; ticks = ticks_of h.ticks }
 
 abbrev pub rule_of : Rule → RuleTree
 rule_of r = record { sort = r.sort; phase = r.phase; body = block_of r.body }

@@ -1,4 +1,11 @@
-//! The syntax of model texts: the trees, and in `specs` the grammar, which says how tokens spell them.
+//! The syntax of model texts: the trees, and in `specs/` the grammar.
+//!
+//! A `File` has the models of a text in their order, and each model its items sorted by what they say. Trees keep
+//! parentheses, and of each node where it stands in the text, so that a refusal can name it. The grammar is a
+//! spelling: it says which tokens a file has as it is written, and so which files a list of tokens can stand for.
+//!
+//! `dv_parser` makes these trees, `dv_check` tests them, and `dv_eval`, `dv_gen`, `dv_bound` and the views read them.
+//! Nothing here reads tokens or tests a rule of the language: a tree may name what is nowhere declared.
 #![tactic(auto)]
 
 /// Laws of trees.

@@ -1,5 +1,5 @@
-//! Syntax trees: what a model text says, its items sorted by what they say, with the parentheses and the places that
-//! refusals name. A place is the number of the bytes of the text before a token.
+//! Syntax trees: what a model text says, its items sorted by what they say, with the parentheses and the offsets that
+//! refusals name. An offset is the number of the bytes of the text before a token.
 
 use dv_bag::{Change, Discipline};
 use dv_lex::Numeral;
@@ -7,46 +7,67 @@ use dv_lex::Numeral;
 /// The version of the language that a header says.
 #[derive(Clone, Copy, Debug, PartialEq, Eq)]
 pub enum Version {
+    /// Version 1, in which there are no queues.
     First,
+    /// Version 2, which has queues.
     Second,
 }
 
-/// A name where it stands: its number in the table of names, and its place.
+/// A name where it stands: its number in the table of names, and its offset.
 #[derive(Clone, Copy, Debug, PartialEq, Eq)]
 pub struct Name {
+    /// Its number in the table of names.
     pub number: u32,
-    pub place: u32,
+    /// The offset of the name, in bytes of the text.
+    pub offset: u32,
 }
 
 /// A number where it stands.
 #[derive(Clone, Copy, Debug, PartialEq, Eq)]
 pub struct Number {
+    /// The value.
     pub value: Numeral,
-    pub place: u32,
+    /// The offset of the number, in bytes of the text.
+    pub offset: u32,
 }
 
 /// An operator before its operand.
 #[derive(Clone, Copy, Debug, PartialEq, Eq)]
 pub enum Prefix {
+    /// `-`
     Minus,
+    /// `not`
     Not,
 }
 
 /// An operator between two operands.
 #[derive(Clone, Copy, Debug, PartialEq, Eq)]
 pub enum Operator {
+    /// `or`
     Or,
+    /// `and`
     And,
+    /// `+`
     Add,
+    /// `-`
     Subtract,
+    /// `*`
     Multiply,
+    /// `/`
     Divide,
+    /// `%`
     Remainder,
+    /// `=`
     Equal,
+    /// `!=`
     Unequal,
+    /// `<`
     Less,
+    /// `<=`
     AtMost,
+    /// `>`
     Greater,
+    /// `>=`
     AtLeast,
 }
 
@@ -74,94 +95,139 @@ pub enum Command {
     Pop,
 }
 
-/// An expression. A place is that of the node's first token where no operand has it.
+/// An expression. An offset is that of the node's first token where no operand has it.
 #[derive(Debug, Drop)]
 pub enum Expr {
+    /// A number.
     Literal(Number),
     /// `true` or `false`
     TruthValue {
-        place: u32,
+        /// The offset of the word, in bytes of the text.
+        offset: u32,
+        /// The truth value.
         value: bool,
     },
+    /// A name that is read: of a variable, a flag, or the variable of a loop.
     Named(Name),
+    /// An expression in parentheses.
     Parens {
-        place: u32,
+        /// The offset of the opening parenthesis, in bytes of the text.
+        offset: u32,
+        /// The expression inside.
         inner: Box<Expr>,
     },
+    /// An operator with its operand.
     Prefixed {
+        /// The operator.
         operator: Prefix,
-        place: u32,
+        /// The offset of the operator, in bytes of the text.
+        offset: u32,
+        /// What it is applied to.
         operand: Box<Expr>,
     },
+    /// Two operands with an operator between them.
     Binary {
+        /// The operator.
         operator: Operator,
+        /// The operand before it.
         left: Box<Expr>,
+        /// The operand behind it.
         right: Box<Expr>,
     },
     /// `size(bag)`, and `sum`, `least`, `most` and `front` alike
     Call {
+        /// What is asked.
         call: BagCall,
-        place: u32,
+        /// The offset of the call's word, in bytes of the text.
+        offset: u32,
+        /// The name of the bag or the queue.
         bag: Name,
     },
     /// `elapsed`: the ticks since the last transition
     Elapsed {
-        place: u32,
+        /// The offset of `elapsed`, in bytes of the text.
+        offset: u32,
     },
     /// `times(value, bag)`: how often the value is in the bag
     Times {
-        place: u32,
+        /// The offset of `times`, in bytes of the text.
+        offset: u32,
+        /// The value that is counted.
         value: Box<Expr>,
+        /// The name of the bag.
         bag: Name,
     },
 }
 
-/// A statement. A place is that of its first word.
+/// A statement. An offset is that of its first word.
 #[derive(Debug, Drop)]
 #[cycle(statements)]
 pub enum Stmt {
     /// `variable := value;`
     Assign {
+        /// The variable or the flag.
         variable: Name,
+        /// What it holds then.
         value: Expr,
     },
     /// `goto phase;` or `pop queue;`
     Command {
+        /// What is done.
         command: Command,
-        place: u32,
+        /// The offset of the first word, in bytes of the text.
+        offset: u32,
+        /// The phase or the queue.
         name: Name,
     },
     /// `send port value;`
     Send {
-        place: u32,
+        /// The offset of `send`, in bytes of the text.
+        offset: u32,
+        /// The output port.
         port: Name,
+        /// What is sent.
         value: Expr,
     },
     /// `if condition { .. }`
     If {
-        place: u32,
+        /// The offset of `if`, in bytes of the text.
+        offset: u32,
+        /// What has to be true.
         condition: Expr,
+        /// What is done if it is true.
         then_block: Block,
     },
     /// `if condition { .. } else { .. }`
     IfElse {
-        place: u32,
+        /// The offset of `if`, in bytes of the text.
+        offset: u32,
+        /// What is asked.
         condition: Expr,
+        /// What is done if it is true.
         then_block: Block,
+        /// What is done if it is false.
         else_block: Block,
     },
     /// `for variable in bag { .. }`
     For {
-        place: u32,
+        /// The offset of `for`, in bytes of the text.
+        offset: u32,
+        /// The variable that has each value in turn.
         variable: Name,
+        /// The collection or the input port whose values are walked.
         bag: Name,
+        /// What is done for each value.
         block: Block,
     },
     /// `add value to bag;`, `drop value from bag;` or `push value to queue;`
     Change {
+        /// What is done.
         change: Change,
-        place: u32,
+        /// The offset of the first word, in bytes of the text.
+        offset: u32,
+        /// The value that is added, dropped or pushed.
         value: Expr,
+        /// The bag or the queue.
         collection: Name,
     },
 }
@@ -170,37 +236,49 @@ pub enum Stmt {
 #[derive(Debug, Drop)]
 #[cycle(statements)]
 pub struct Block {
+    /// The statements, in the order of the text.
     pub statements: Vec<Stmt>,
 }
 
-/// A bound of a range or a start value: a number, perhaps behind a minus sign whose place is kept.
+/// A bound of a range or a start value: a number, perhaps behind a minus sign whose offset is kept.
 #[derive(Clone, Copy, Debug, PartialEq, Eq)]
 pub struct Bound {
+    /// The offset of the minus sign in bytes of the text, if there is one.
     pub minus: Option<u32>,
+    /// The number behind it.
     pub magnitude: Number,
 }
 
 /// `var name: low..high = start;`
 #[derive(Clone, Copy, Debug, PartialEq, Eq)]
 pub struct Variable {
+    /// The name.
     pub name: Name,
+    /// The least number that it may hold.
     pub low: Bound,
+    /// The greatest number that it may hold.
     pub high: Bound,
+    /// The number that it holds at the start.
     pub start: Bound,
 }
 
 /// `flag name = start;`
 #[derive(Clone, Copy, Debug, PartialEq, Eq)]
 pub struct Flag {
+    /// The name.
     pub name: Name,
+    /// The truth value at the start.
     pub start: bool,
 }
 
 /// `bag name capacity;` or `queue name capacity;`
 #[derive(Clone, Copy, Debug, PartialEq, Eq)]
 pub struct StateCollection {
+    /// Whether it is a bag or a queue.
     pub discipline: Discipline,
+    /// The name.
     pub name: Name,
+    /// The most values that it may hold, copies counted.
     pub capacity: Number,
 }
 
@@ -219,105 +297,143 @@ pub enum Declaration {
     Held(StateCollection),
 }
 
-/// `phases first, second, ..;` and the place of its first word.
+/// `phases first, second, ..;` and the offset of its first word.
 #[derive(Debug, Drop)]
 pub struct Phases {
-    pub place: u32,
+    /// The offset of `phases`, in bytes of the text.
+    pub offset: u32,
+    /// The names of the phases, in the order of the text.
     pub names: Vec<Name>,
 }
 
-/// `start phase;` and the place of its first word.
+/// `start phase;` and the offset of its first word.
 #[derive(Clone, Copy, Debug, PartialEq, Eq)]
 pub struct Start {
-    pub place: u32,
+    /// The offset of `start`, in bytes of the text.
+    pub offset: u32,
+    /// The phase at the start.
     pub phase: Name,
 }
 
 /// How long a phase is held, in ticks.
 #[derive(Debug, Drop)]
 pub enum Ticks {
+    /// The hold never ends.
     Forever,
+    /// The hold ends after as many ticks as the expression gives.
     After(Expr),
 }
 
-/// `hold phase: ticks;` and the place of its first word.
+/// `hold phase: ticks;` and the offset of its first word.
 #[derive(Debug, Drop)]
 pub struct Hold {
-    pub place: u32,
+    /// The offset of `hold`, in bytes of the text.
+    pub offset: u32,
+    /// The phase that is held.
     pub phase: Name,
+    /// How long it is held.
     pub ticks: Ticks,
 }
 
 /// What a rule is for.
 #[derive(Clone, Copy, Debug, PartialEq, Eq)]
 pub enum RuleSort {
+    /// It sends, before the transition at the end of a hold.
     Output,
+    /// It changes the state at the end of a hold.
     Internal,
+    /// It changes the state when something arrives before the end of a hold.
     External,
+    /// It changes the state when something arrives at the end of a hold.
     Confluent,
 }
 
 /// `output phase { .. }`, and `internal`, `external` and `confluent` alike
 #[derive(Debug, Drop)]
 pub struct Rule {
+    /// What the rule is for.
     pub sort: RuleSort,
+    /// The phase that has the rule.
     pub phase: Name,
+    /// Its statements.
     pub body: Block,
 }
 
 /// `atomic name { .. }`: its items by what they say, each kind in the order of the text.
 #[derive(Debug, Drop)]
 pub struct Atomic {
+    /// The name of the model.
     pub name: Name,
+    /// What declares ports, variables, flags, bags and queues.
     pub declarations: Vec<Declaration>,
+    /// The `phases` items.
     pub phases: Vec<Phases>,
+    /// The `start` items.
     pub starts: Vec<Start>,
+    /// The `hold` items.
     pub holds: Vec<Hold>,
+    /// The rules.
     pub rules: Vec<Rule>,
 }
 
 /// An end of a link: a port of a part, or of the coupled model itself where there is no part.
 #[derive(Clone, Copy, Debug, PartialEq, Eq)]
 pub struct End {
+    /// The name of the part; none for the model itself.
     pub part: Option<Name>,
+    /// The name of the port.
     pub port: Name,
 }
 
 /// `part name: model;`
 #[derive(Clone, Copy, Debug, PartialEq, Eq)]
 pub struct Part {
+    /// The name of the part.
     pub name: Name,
+    /// The name of its model.
     pub model: Name,
 }
 
-/// `link from -> to;` and the place of `link`.
+/// `link from -> to;` and the offset of `link`.
 #[derive(Clone, Copy, Debug, PartialEq, Eq)]
 pub struct Link {
-    pub place: u32,
+    /// The offset of `link`, in bytes of the text.
+    pub offset: u32,
+    /// The end at which values are sent.
     pub from: End,
+    /// The end at which they arrive.
     pub to: End,
 }
 
 /// `coupled name { .. }`: its items by what they say, each kind in the order of the text.
 #[derive(Debug, Drop)]
 pub struct Coupled {
+    /// The name of the model.
     pub name: Name,
+    /// The input ports.
     pub inputs: Vec<Name>,
+    /// The output ports.
     pub outputs: Vec<Name>,
+    /// The parts.
     pub parts: Vec<Part>,
+    /// The links.
     pub links: Vec<Link>,
 }
 
 /// A model.
 #[derive(Debug, Drop)]
 pub enum Model {
+    /// An atomic model, which has phases and rules.
     Atomic(Atomic),
+    /// A coupled model, which has parts and links.
     Coupled(Coupled),
 }
 
 /// A model text: its models in order, and the name of the root.
 #[derive(Debug, Drop)]
 pub struct File {
+    /// The models, in the order of the text.
     pub models: Vec<Model>,
+    /// The name of the root.
     pub root: Name,
 }

@@ -9,8 +9,11 @@ use std::alloc::{AllocError, Global};
 /// So many copies of a value at an input port of a component.
 #[derive(Clone, Copy)]
 pub struct Arrival {
+    /// The input port at which the value arrives.
     pub to: ComponentPort,
+    /// The value.
     pub value: i64,
+    /// How many copies of it arrive.
     pub copies: u64,
 }
 
@@ -93,8 +96,8 @@ impl<'a> Routes<'a> {
     }
 }
 
-fn behind<T>(items: &[T], place: usize) -> &[T] {
-    items.get(place..).unwrap_or(&[])
+fn behind<T>(items: &[T], index: usize) -> &[T] {
+    items.get(index..).unwrap_or(&[])
 }
 
 // A sending goes along the links from its port.

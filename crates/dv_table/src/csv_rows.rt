@@ -1,7 +1,7 @@
 //! Rows as comma-separated values.
 
 use crate::error::TableError;
-use crate::row::{FAULT, Place, Rows, Travel, Variable, kind_word};
+use crate::row::{FAULT, Index, Rows, Travel, Variable, kind_word};
 use dv_bag::{Fault, Kind};
 use dv_trace::Datum;
 use std::alloc::Global;
@@ -42,13 +42,13 @@ impl<'w, W: Write> CsvRows<'w, W> {
     }
 
     // A record with the value that is ready.
-    fn put_record(&mut self, place: &Place<'_>, what: &str, name: &str) -> Result<(), TableError> {
-        let component = place.component.unwrap_or("");
+    fn put_record(&mut self, index: &Index<'_>, what: &str, name: &str) -> Result<(), TableError> {
+        let component = index.component.unwrap_or("");
         let mut digits = itoa::Buffer::new();
         self.writer
-            .write_field(digits.format(place.time.tick).as_bytes())?;
+            .write_field(digits.format(index.time.tick).as_bytes())?;
         self.writer
-            .write_field(digits.format(place.time.micro).as_bytes())?;
+            .write_field(digits.format(index.time.micro).as_bytes())?;
         self.writer.write_field(component.as_bytes())?;
         self.writer.write_field(what.as_bytes())?;
         self.writer.write_field(name.as_bytes())?;
@@ -59,7 +59,7 @@ impl<'w, W: Write> CsvRows<'w, W> {
 
     fn put_variable(
         &mut self,
-        place: &Place<'_>,
+        index: &Index<'_>,
         variable: &Variable<'_>,
     ) -> Result<(), TableError> {
         self.value.clear();
@@ -68,41 +68,41 @@ impl<'w, W: Write> CsvRows<'w, W> {
             Datum::Flag(flag) => write!(self.value, "{flag}")?,
             Datum::Held(values) => write!(self.value, "[{}]", values.text)?,
         }
-        self.put_record(place, STATE, variable.name)
+        self.put_record(index, STATE, variable.name)
     }
 }
 
 impl<'w, W: Write> Rows for CsvRows<'w, W> {
     fn values(
         &mut self,
-        place: &Place<'_>,
+        index: &Index<'_>,
         travel: Travel,
         port: &str,
         values: &str,
     ) -> Result<(), TableError> {
         self.value.clear();
         self.value.push_str(values)?;
-        self.put_record(place, travel.word(), port)
+        self.put_record(index, travel.word(), port)
     }
 
     fn transition(
         &mut self,
-        place: &Place<'_>,
+        index: &Index<'_>,
         kind: Kind,
         phase: &str,
         state: &[Variable<'_>],
     ) -> Result<(), TableError> {
         self.value.clear();
-        self.put_record(place, kind_word(kind), phase)?;
+        self.put_record(index, kind_word(kind), phase)?;
         for variable in state {
-            self.put_variable(place, variable)?;
+            self.put_variable(index, variable)?;
         }
         Ok(())
     }
 
-    fn fault(&mut self, place: &Place<'_>, fault: Fault) -> Result<(), TableError> {
+    fn fault(&mut self, index: &Index<'_>, fault: Fault) -> Result<(), TableError> {
         self.value.clear();
-        self.put_record(place, FAULT, fault.word())
+        self.put_record(index, FAULT, fault.word())
     }
 
     fn finish(&mut self) -> Result<(), TableError> {

@@ -1,7 +1,7 @@
 //! Rows as JSON lines.
 
 use crate::error::TableError;
-use crate::row::{FAULT, Place, Rows, Travel, Variable, kind_word};
+use crate::row::{FAULT, Index, Rows, Travel, Variable, kind_word};
 use dv_bag::{Fault, Kind};
 use dv_text::{hand_over, hand_over_if_long};
 use dv_trace::Datum;
@@ -39,13 +39,13 @@ impl<'w, W: Write> JsonRows<'w, W> {
 impl<'w, W: Write> Rows for JsonRows<'w, W> {
     fn values(
         &mut self,
-        place: &Place<'_>,
+        index: &Index<'_>,
         travel: Travel,
         port: &str,
         values: &str,
     ) -> Result<(), TableError> {
         let object = Object {
-            place: *place,
+            index: *index,
             what: travel.word(),
             name: port,
             value: Numbers(values),
@@ -56,13 +56,13 @@ impl<'w, W: Write> Rows for JsonRows<'w, W> {
 
     fn transition(
         &mut self,
-        place: &Place<'_>,
+        index: &Index<'_>,
         kind: Kind,
         phase: &str,
         state: &[Variable<'_>],
     ) -> Result<(), TableError> {
         let object = Object {
-            place: *place,
+            index: *index,
             what: kind_word(kind),
             name: phase,
             value: State(state),
@@ -71,9 +71,9 @@ impl<'w, W: Write> Rows for JsonRows<'w, W> {
         self.put_line(line.as_str())
     }
 
-    fn fault(&mut self, place: &Place<'_>, fault: Fault) -> Result<(), TableError> {
+    fn fault(&mut self, index: &Index<'_>, fault: Fault) -> Result<(), TableError> {
         let object = Object {
-            place: *place,
+            index: *index,
             what: FAULT,
             name: fault.word(),
             value: (),
@@ -91,7 +91,7 @@ impl<'w, W: Write> Rows for JsonRows<'w, W> {
 // What a line has.
 #[derive(Clone, Copy)]
 struct Object<'p, 'n, T> {
-    place: Place<'p>,
+    index: Index<'p>,
     what: &'static str,
     name: &'n str,
     value: T,
@@ -103,11 +103,11 @@ impl<T: Serialize> Serialize for Object<'_, '_, T> {
     fn serialize<S: Serializer>(&self, out: &mut S) -> Result<(), S::Error> {
         out.begin_map(Some(6))?;
         out.key("tick")?;
-        out.u64(self.place.time.tick)?;
+        out.u64(self.index.time.tick)?;
         out.key("microstep")?;
-        out.u64(u64::from(self.place.time.micro))?;
+        out.u64(u64::from(self.index.time.micro))?;
         out.key("component")?;
-        self.place.component.serialize(out)?;
+        self.index.component.serialize(out)?;
         out.key("what")?;
         out.str(self.what)?;
         out.key("name")?;

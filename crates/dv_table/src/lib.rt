@@ -1,5 +1,13 @@
-//! A trace as a table for other tools: a row for each thing that happened, as comma-separated values or as JSON lines. What
-//! arrived at components is in no trace; it is worked out from what was sent, from the links and from the inputs.
+//! A trace as a table for other tools: a row for each thing that happened, as comma-separated values or as JSON
+//! lines.
+//!
+//! `write_table` tells of each instant what was sent, what arrived at each component, the transition or the fault,
+//! and what left the model. What arrives at components is in no trace: it is worked out from what was sent, from the
+//! links of the model and from the inputs (`arrivals_to`). The trace is tested to its end before anything is written;
+//! then the lines of one instant are kept.
+//!
+//! `dv_views` calls it for `pdevs table`, and `dv_fault` takes what arrived from it. Nothing is claimed of a table
+//! but that it is made without a fault of the program.
 #![tactic(auto)]
 
 /// What arrives at the components.

@@ -7,7 +7,7 @@ use dv_trace::Datum;
 
 /// When something happened, and at which component.
 #[derive(Clone, Copy)]
-pub(crate) struct Place<'a> {
+pub(crate) struct Index<'a> {
     pub(crate) time: Time,
     /// The path of the component. What leaves the model leaves at none.
     pub(crate) component: Option<&'a str>,
@@ -63,7 +63,7 @@ pub(crate) trait Rows {
     /// Values at a port, as a trace has them: ascending, copies repeated, with commas between them.
     fn values(
         &mut self,
-        place: &Place<'_>,
+        index: &Index<'_>,
         travel: Travel,
         port: &str,
         values: &str,
@@ -72,14 +72,14 @@ pub(crate) trait Rows {
     /// A transition to a phase, with the state behind it.
     fn transition(
         &mut self,
-        place: &Place<'_>,
+        index: &Index<'_>,
         kind: Kind,
         phase: &str,
         state: &[Variable<'_>],
     ) -> Result<(), TableError>;
 
     /// A fault.
-    fn fault(&mut self, place: &Place<'_>, fault: Fault) -> Result<(), TableError>;
+    fn fault(&mut self, index: &Index<'_>, fault: Fault) -> Result<(), TableError>;
 
     /// No more rows come: what is not written yet is written.
     fn finish(&mut self) -> Result<(), TableError>;

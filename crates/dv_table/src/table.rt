@@ -30,6 +30,7 @@ pub enum TableForm {
 pub struct TableOptions<'a> {
     /// Whether the trace has to have an end.
     pub end: End,
+    /// How the table is written.
     pub form: TableForm,
     /// The text of the inputs of the run. Without it no row tells what arrived from outside.
     pub inputs: Option<&'a [u8]>,

@@ -2,7 +2,7 @@
 
 use crate::arrivals::{Arrival, push_values};
 use crate::error::TableError;
-use crate::row::{Place, Rows, Travel, Variable};
+use crate::row::{Index, Rows, Travel, Variable};
 use dv_eval::Scope;
 use dv_trace::{Datum, Entry, Happening, Outside, Sending};
 use dv_tree::Tree;
@@ -39,25 +39,25 @@ impl<'a, R: Rows> Teller<'a, R> {
         }
         let scope = tree.scope(component);
         let path = tree.path_text(self.alloc, component)?;
-        let place = Place {
+        let index = Index {
             time: entry.time,
             component: Some(path.as_str()),
         };
-        self.sent(&place, scope, &entry.sent)?;
-        self.arrived(&place, scope, arrivals)?;
-        self.happened(&place, scope, &entry.happening)
+        self.sent(&index, scope, &entry.sent)?;
+        self.arrived(&index, scope, arrivals)?;
+        self.happened(&index, scope, &entry.happening)
     }
 
     fn sent(
         &mut self,
-        place: &Place<'_>,
+        index: &Index<'_>,
         scope: &Scope,
         sent: &[Sending<'a>],
     ) -> Result<(), TableError> {
         for sending in sent {
             let port = name_in(self.tree, scope.outputs(), sending.port);
             self.rows
-                .values(place, Travel::Sent, port, sending.values.text)?;
+                .values(index, Travel::Sent, port, sending.values.text)?;
         }
         Ok(())
     }
@@ -65,7 +65,7 @@ impl<'a, R: Rows> Teller<'a, R> {
     // A row for each port. The arrivals are those of one component, by port.
     fn arrived(
         &mut self,
-        place: &Place<'_>,
+        index: &Index<'_>,
         scope: &Scope,
         arrivals: &[Arrival],
     ) -> Result<(), TableError> {
@@ -78,14 +78,14 @@ impl<'a, R: Rows> Teller<'a, R> {
             values.clear();
             push_values(&mut values, group)?;
             self.rows
-                .values(place, Travel::Arrived, port, values.as_str())?;
+                .values(index, Travel::Arrived, port, values.as_str())?;
         }
         Ok(())
     }
 
     fn happened(
         &mut self,
-        place: &Place<'_>,
+        index: &Index<'_>,
         scope: &Scope,
         happening: &Happening<'a>,
     ) -> Result<(), TableError> {
@@ -93,9 +93,9 @@ impl<'a, R: Rows> Teller<'a, R> {
             Happening::Transition { kind, phase, state } => {
                 let phase = name_in(self.tree, scope.phases(), *phase as usize);
                 let state = variables_of(self.alloc, self.tree, scope, state)?;
-                self.rows.transition(place, *kind, phase, &state)
+                self.rows.transition(index, *kind, phase, &state)
             }
-            Happening::Fault(fault) => self.rows.fault(place, *fault),
+            Happening::Fault(fault) => self.rows.fault(index, *fault),
         }
     }
 
@@ -105,7 +105,7 @@ impl<'a, R: Rows> Teller<'a, R> {
     ///
     /// `Write`: a write failed. `Memory`: no memory for the rows.
     pub(crate) fn outside(&mut self, outside: &Outside<'a>) -> Result<(), TableError> {
-        let place = Place {
+        let index = Index {
             time: outside.time,
             component: None,
         };
@@ -113,7 +113,7 @@ impl<'a, R: Rows> Teller<'a, R> {
             if sending.port < self.tree.output_count() {
                 let port = self.tree.output_name(sending.port);
                 self.rows
-                    .values(&place, Travel::Left, port, sending.values.text)?;
+                    .values(&index, Travel::Left, port, sending.values.text)?;
             }
         }
         Ok(())
@@ -129,9 +129,9 @@ impl<'a, R: Rows> Teller<'a, R> {
     }
 }
 
-// The name at a place among the numbers of names, and the empty text past them.
-fn name_in<'a>(tree: &'a Tree<'a>, numbers: &[u32], place: usize) -> &'a str {
-    match numbers.get(place) {
+// The name at an index among the numbers of names, and the empty text past them.
+fn name_in<'a>(tree: &'a Tree<'a>, numbers: &[u32], index: usize) -> &'a str {
+    match numbers.get(index) {
         Some(number) => tree.name(*number),
         None => "",
     }

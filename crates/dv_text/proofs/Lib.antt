@@ -2,7 +2,7 @@ pub mod Endings
 pub mod Groups
 pub mod Instants
 pub mod Merging
-pub mod Places
+pub mod Indices
 pub mod Sent
 pub mod Taking
 pub mod Times

@@ -153,7 +153,7 @@ module _ (texts : List (List ℕ)) (names : List ℕ) (bags : List Counts) where
   nothing_left p none =
       ports_passed (length bags) p (λ x le lt. none x le) ∙ no_bags_left (p + length bags) (omega arith)
 
--- the sendings before a place go to ports below a bound
+-- the sendings before an index go to ports below a bound
 module _ (ss : List Sending) (rise : RiseFrom 0 ss) (bags : List Counts) (pairs : (port : ℕ) → pairs_at port ss ≡ bag_at bags port) where
   port_from : (low i : ℕ) (d : Sending) (xs : List Sending) → RiseFrom low xs → i < length xs → low ≤ (get_or xs i d).port
   port_from low i d [] h lt = absurd (omega arith)
@@ -173,7 +173,7 @@ module _ (ss : List Sending) (rise : RiseFrom 0 ss) (bags : List Counts) (pairs 
   no_pairs x (s ∷ xs) none =
       rw (ne_eqb s.port x (none 0 s (omega arith))) (no_pairs x xs (λ k d lt. none (suc k) d (omega (arith, lt))))
 
-  -- nothing goes to a port from the bound on and before that of the place
+  -- nothing goes to a port from the bound on and before that of the index
   pub nothing_between : (i next x : ℕ) → ((k : ℕ) (d : Sending) → k < i → (get_or ss k d).port < next) → next ≤ x →
       ((d : Sending) → i < length ss → x < (get_or ss i d).port) → bag_at bags x ≡ []
   nothing_between i next x before le behind =

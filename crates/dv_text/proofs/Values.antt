@@ -7,7 +7,7 @@ use Rattle.std.specs.Fmt.{signed_decimal}
 use Rattle.dv_bag.specs.Bag.{Counts, IsBag, IsAbove, values_of}
 use Rattle.dv_text.specs.Texts.{numbers_text, values_text, with_commas}
 use Rattle.dv_text.specs.Writing.{values_from}
-use Rattle.dv_text.proofs.Places.{left_at}
+use Rattle.dv_text.proofs.Indices.{left_at}
 
 -- commas between are commas before all but the first
 with_commas-from : (vs : List ℤ) → with_commas (map signed_decimal vs) ≡ values_from true vs

@@ -23,7 +23,7 @@ abbrev pub after : ℕ → Time → ℕ → Result Time Microsteps
 after limit t zero = if nat_lt t.micro limit then Ok (record { tick = t.tick; micro = t.micro + 1 }) else Err (record {})
 after limit t (suc hold) = Ok (record { tick = t.tick + suc hold; micro = 0 })
 
--- the place of a time among the times of a run
+-- the index of a time among the times of a run
 abbrev pub rank : ℕ → Time → ℕ
 rank limit t = t.tick * (limit + 1) + t.micro
 
@@ -33,11 +33,11 @@ tick_of limit n = n / (limit + 1)
 abbrev pub micro_of : ℕ → ℕ → ℕ
 micro_of limit n = n % (limit + 1)
 
--- the time at a place
+-- the time at an index
 abbrev pub time_of : ℕ → ℕ → Time
 time_of limit n = record { tick = tick_of limit n; micro = micro_of limit n }
 
--- the place of the first time past the horizon
+-- the index of the first time past the horizon
 abbrev pub end_of : ℕ → ℕ → ℕ
 end_of limit horizon = (horizon + 1) * (limit + 1)
 
@@ -49,7 +49,13 @@ time_cmp a b = ordering_then (nat_cmp a.tick b.tick) (nat_cmp a.micro b.micro)
 abbrev pub is_before : Time → Time → Bool
 is_before a b = is_lt (time_cmp a b)
 
--- the place of a next time, if there is one
+-- the earlier of two times, of which each may be never
+abbrev pub earliest : Option Time → Option Time → Option Time
+earliest None b = b
+earliest (Some t) None = Some t
+earliest (Some t) (Some u) = if is_before u t then Some u else Some t
+
+-- the rank of a next time, if there is one
 abbrev pub next_rank : ℕ → Next → Option ℕ
 next_rank limit (At t) = Some (rank limit t)
 next_rank limit Never = None

@@ -4,7 +4,7 @@ ghost use Rattle.std.specs.Prelude.{◌≡◌, ◌+◌, ◌^◌, ◌<◌, ◌≤
 ghost use Rattle.std.proofs.Common.{rules};
 ghost use Rattle.std.specs.Cmp.{partial_order_from_own_ties};
 ghost use Rattle.std.specs.Cmp.Rules.{comparing};
-ghost use Rattle.dv_time.specs.Time.{IsOfRun, after, is_before, rank, succ, time_cmp};
+ghost use Rattle.dv_time.specs.Time.{IsOfRun, after, earliest, is_before, rank, succ, time_cmp};
 ghost use Rattle.dv_time.specs.Limits.{greatest_tick};
 
 use std::cmp::Ordering;
@@ -22,7 +22,9 @@ pub struct Time {
 /// When something happens next.
 #[derive(Clone, Copy, Debug, PartialEq, Eq)]
 pub enum Next {
+    /// It happens at this time.
     At(Time),
+    /// It does not happen.
     Never,
 }
 
@@ -78,12 +80,33 @@ impl Time {
     }
 
     /// Whether this time is before another, as `<` says too.
+    #[inline]
     pub fn is_before(self, other: Time) -> bool
         ensures order { result ≡ is_before self other }
         ensures rank { (limit : ℕ) → IsOfRun limit self → IsOfRun limit other
             → result ≡ nat_lt (rank limit self) (rank limit other) }
     {
-        self < other
+        precedes(self, other)
+    }
+}
+
+// Whether a time is before another, with no jump: nothing foretells which one is first.
+#[inline]
+fn precedes(one: Time, other: Time) -> bool
+    ensures { result ≡ is_before one other }
+{
+    (one.tick < other.tick) | ((one.tick == other.tick) & (one.micro < other.micro))
+}
+
+/// The earlier of two times, of which each may be never.
+#[inline]
+pub fn earliest(one: Option<Time>, other: Option<Time>) -> Option<Time>
+    ensures { result ≡ earliest one other }
+{
+    match (one, other) {
+        (Some(time), Some(rival)) => { if rival.is_before(time) { other } else { one } }
+        (Some(_), None) => one,
+        (None, _) => other,
     }
 }
 

@@ -1,4 +1,12 @@
 //! Reads the text of a trace back, line by line, by the names of the model that it is a trace of.
+//!
+//! `TraceReader` gives each `TraceLine`: what happened to a component, or what left the model, with paths and names
+//! as numbers. It answers a `TraceRefusal` with a line and a reason where the trace is malformed or of another model.
+//! `LineBuffer` makes lines of bytes that come in pieces. Numbers are read as they are spelled, within their ranges;
+//! more is not claimed.
+//!
+//! `dv_vcd`, `dv_stats`, `dv_table` and `dv_fault` read traces by it. It keeps none of the lines that it has read,
+//! and does not test whether the trace is what the model does: only a run tells that.
 #![tactic(auto)]
 
 /// Bytes that come in pieces, cut into lines.
@@ -13,6 +21,8 @@ mod numbers;
 mod pieces;
 /// How far a trace reaches.
 pub mod reach;
+/// What the last lines began with.
+mod recent;
 /// The reader.
 pub mod reader;
 /// Why a trace is refused.
@@ -21,7 +31,10 @@ pub mod refusal;
 mod values;
 
 pub use buffer::LineBuffer;
-pub use line::{Datum, Entry, Happening, Outside, Sending, TraceLine, Values};
+pub use line::{
+    Datum, Entry, EntryHead, Event, Happening, LineHead, LineLists, Outside, Sending, TraceLine,
+    Values,
+};
 pub use reach::{End, Reach, read_part};
 pub use reader::{TraceReader, check_trace};
 pub use refusal::{TraceError, TraceReason, TraceRefusal};

@@ -27,12 +27,19 @@ impl<'t> Directory<'t> {
         self.components.get(path).copied()
     }
 
+    /// The component with a number and what is behind its path and a blank, where a text begins with them.
+    pub(crate) fn split_path<'a>(&self, number: u32, text: &'a str) -> Option<(u32, &'a str)> {
+        let (path, component) = self.components.get_index(number as usize)?;
+        let rest = text.strip_prefix(path.as_str())?.strip_prefix(' ')?;
+        Some((*component, rest))
+    }
+
     /// The number of a name.
     pub(crate) fn name(&self, text: &str) -> Option<u32> {
         self.names.get(text.as_bytes()).copied()
     }
 
-    /// The place of an output port of the root.
+    /// The index of an output port of the root.
     pub(crate) fn output(&self, name: &str) -> Option<usize> {
         self.outputs.get(name.as_bytes()).copied()
     }

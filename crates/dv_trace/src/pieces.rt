@@ -7,44 +7,78 @@ use crate::values::{datum_in, values_in};
 use dv_bag::Discipline;
 use dv_eval::{Domain, Scope};
 use dv_tree::Tree;
-use std::alloc::Global;
 
-/// The word in front of the first space, and what is behind that.
+/// The word in front of the first space, and what is behind that. Most words have a few bytes.
 pub(crate) fn split_word(text: &str) -> (&str, &str) {
-    text.split_once(' ').unwrap_or((text, ""))
-}
-
-/// What `name=value` says of the variable that has this name.
-fn variable_in<'a>(name: &str, domain: Domain, word: &'a str) -> Result<Datum<'a>, TraceReason> {
-    match word.split_once('=') {
-        Some((before, value)) if before == name => {
-            datum_in(domain, value).ok_or(TraceReason::Value)
-        }
-        Some(_) | None => Err(TraceReason::Variable),
+    let Some(end) = text.bytes().position(|byte| byte == b' ') else {
+        return (text, "");
+    };
+    match text.split_at_checked(end) {
+        Some((word, rest)) => (word, rest.strip_prefix(' ').unwrap_or(rest)),
+        None => (text, ""),
     }
 }
 
-/// What the variables, flags, bags and queues hold, in their order, and what is behind them.
+/// What `name=value` says of the variable that has this name, and what is behind it.
+fn split_variable<'a>(
+    name: &str,
+    domain: Domain,
+    text: &'a str,
+) -> Result<(Datum<'a>, &'a str), TraceReason> {
+    let Some(value) = text.strip_prefix(name) else {
+        return Err(TraceReason::Variable);
+    };
+    let Some(value) = value.strip_prefix('=') else {
+        return Err(TraceReason::Variable);
+    };
+    let (word, rest) = split_word(value);
+    match datum_in(domain, word) {
+        Some(datum) => Ok((datum, rest)),
+        None => Err(TraceReason::Value),
+    }
+}
+
+/// Reads what the variables, flags, bags and queues hold, in their order. What is behind them is returned.
 pub(crate) fn split_state<'a>(
-    alloc: Global,
     tree: &Tree,
     scope: &Scope,
     text: &'a str,
-) -> Result<(Vec<Datum<'a>>, &'a str), LineError> {
-    let mut state = Vec::with_capacity(alloc, scope.variables().len())?;
+    state: &mut Vec<Datum<'a>>,
+) -> Result<&'a str, LineError> {
+    state.reserve_exact(scope.variables().len())?;
     let mut rest = text;
-    for (place, name) in scope.variables().iter().enumerate() {
-        let Some(domain) = scope.domain(place) else {
-            return Err(LineError::Refused(TraceReason::Variable));
-        };
-        let (word, behind) = split_word(rest);
-        match variable_in(tree.name(*name), domain, word) {
-            Ok(datum) => state.push(datum)?,
+    for (name, domain) in scope.variables().iter().zip(scope.domains()) {
+        match split_variable(tree.name(*name), *domain, rest) {
+            Ok((datum, behind)) => {
+                state.push(datum)?;
+                rest = behind;
+            }
             Err(reason) => return Err(LineError::Refused(reason)),
         }
-        rest = behind;
     }
-    Ok((state, rest))
+    Ok(rest)
+}
+
+/// Among how many names one is looked for by its text, before its number is.
+const FEW_NAMES: usize = 8;
+
+/// The index of a name among numbers of names. No number is there twice.
+fn index_in(tree: &Tree, numbers: &[u32], name: &str) -> Option<usize> {
+    numbers.iter().position(|number| tree.name(*number) == name)
+}
+
+/// The index of a phase of this name.
+pub(crate) fn phase_of(
+    tree: &Tree,
+    names: &Directory<'_>,
+    scope: &Scope,
+    name: &str,
+) -> Option<u32> {
+    if scope.phases().len() <= FEW_NAMES {
+        u32::try_from(index_in(tree, scope.phases(), name)?).ok()
+    } else {
+        scope.phase(names.name(name)?)
+    }
 }
 
 /// Whose output ports are named.
@@ -54,9 +88,12 @@ pub(crate) enum Sender<'s> {
     Root,
 }
 
-/// The place of an output port of this name.
-fn port_of(names: &Directory<'_>, sender: Sender<'_>, name: &str) -> Option<usize> {
+/// The index of an output port of this name.
+fn port_of(tree: &Tree, names: &Directory<'_>, sender: Sender<'_>, name: &str) -> Option<usize> {
     match sender {
+        Sender::Component(scope) if scope.outputs().len() <= FEW_NAMES => {
+            index_in(tree, scope.outputs(), name)
+        }
         Sender::Component(scope) => scope.output(names.name(name)?),
         Sender::Root => names.output(name),
     }
@@ -64,6 +101,7 @@ fn port_of(names: &Directory<'_>, sender: Sender<'_>, name: &str) -> Option<usiz
 
 /// What `port:v,v` says.
 fn sending_in<'a>(
+    tree: &Tree,
     names: &Directory<'_>,
     sender: Sender<'_>,
     word: &'a str,
@@ -71,7 +109,7 @@ fn sending_in<'a>(
     let Some((name, values)) = word.split_once(':') else {
         return Err(TraceReason::Form);
     };
-    let Some(port) = port_of(names, sender, name) else {
+    let Some(port) = port_of(tree, names, sender, name) else {
         return Err(TraceReason::Port);
     };
     match values_in(Discipline::Bag, values) {
@@ -80,17 +118,19 @@ fn sending_in<'a>(
     }
 }
 
-/// What `port:v,v port:v` says, of ports in their order.
-pub(crate) fn sendings_in<'a>(
-    alloc: Global,
+/// Reads what `port:v,v port:v` says, of ports in their order.
+pub(crate) fn read_sendings<'a>(
+    tree: &Tree,
     names: &Directory<'_>,
     sender: Sender<'_>,
     text: &'a str,
-) -> Result<Vec<Sending<'a>>, LineError> {
-    let mut sent: Vec<Sending<'a>> = Vec::new(alloc);
+    sent: &mut Vec<Sending<'a>>,
+) -> Result<(), LineError> {
+    // Mostly one port sends.
+    sent.reserve_exact(1)?;
     let mut least = 0;
     for word in text.split(' ') {
-        match sending_in(names, sender, word) {
+        match sending_in(tree, names, sender, word) {
             Ok(sending) if sending.port >= least => {
                 least = sending.port.saturating_add(1);
                 sent.push(sending)?;
@@ -99,21 +139,22 @@ pub(crate) fn sendings_in<'a>(
             Err(reason) => return Err(LineError::Refused(reason)),
         }
     }
-    Ok(sent)
+    Ok(())
 }
 
-/// What stands behind the state of a component: nothing, or `> ` and what it sent.
-pub(crate) fn sent_behind<'a>(
-    alloc: Global,
+/// Reads what stands behind the state of a component: nothing, or `> ` and what it sent.
+pub(crate) fn read_sent<'a>(
+    tree: &Tree,
     names: &Directory<'_>,
     scope: &Scope,
     text: &'a str,
-) -> Result<Vec<Sending<'a>>, LineError> {
+    sent: &mut Vec<Sending<'a>>,
+) -> Result<(), LineError> {
     if text.is_empty() {
-        return Ok(Vec::new(alloc));
+        return Ok(());
     }
     match text.strip_prefix("> ") {
-        Some(sent) => sendings_in(alloc, names, Sender::Component(scope), sent),
+        Some(text) => read_sendings(tree, names, Sender::Component(scope), text, sent),
         None => Err(LineError::Refused(TraceReason::Form)),
     }
 }

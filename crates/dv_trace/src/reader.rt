@@ -1,10 +1,11 @@
 //! Reads a trace, one line after the other.
 
-use crate::line::{Entry, Happening, Outside, TraceLine};
+use crate::line::{EntryHead, Event, LineHead, LineLists, TraceLine};
 use crate::names::Directory;
 use crate::numbers::{number_in, tick_in, time_in};
-use crate::pieces::{Sender, sendings_in, sent_behind, split_state, split_word};
+use crate::pieces::{Sender, phase_of, read_sendings, read_sent, split_state, split_word};
 use crate::reach::{End, Reach, read_part};
+use crate::recent::Recent;
 use crate::refusal::{LineError, TraceError, TraceReason, TraceRefusal};
 use dv_bag::{Fault, Kind};
 use dv_eval::Scope;
@@ -23,13 +24,14 @@ enum Last {
     End(Reach),
 }
 
-/// Reads the lines of a trace of a model, one after the other. Besides the names of the model it keeps of the lines
-/// that were read only where the last one stood.
+/// Reads the lines of a trace of a model, one after the other. Besides the names of the model it keeps of the lines that were read only
+/// where the last one stood, and a number for each component.
 #[derive(Drop)]
 pub struct TraceReader<'t> {
     alloc: Global,
     tree: &'t Tree<'t>,
     names: Directory<'t>,
+    recent: Recent,
     last: Last,
     lines: u64,
 }
@@ -45,6 +47,7 @@ impl<'t> TraceReader<'t> {
             alloc,
             tree,
             names: Directory::of(alloc, tree)?,
+            recent: Recent::new(alloc, tree.component_count())?,
             last: Last::Nothing,
             lines: 0,
         })
@@ -57,9 +60,25 @@ impl<'t> TraceReader<'t> {
     /// `Refused` where the line has none of the forms of a trace, names what the model does not have, or stands out of
     /// order. `Memory`: no memory for what it says.
     pub fn read_line<'a>(&mut self, line: &'a [u8]) -> Result<TraceLine<'a>, TraceError> {
+        let mut lists = LineLists::new(self.alloc);
+        let head = self.read_into(line, &mut lists)?;
+        Ok(TraceLine::of(head, lists))
+    }
+
+    /// What the next line says, as `read_line`, with its lists in the place of those of another line.
+    ///
+    /// # Errors
+    ///
+    /// As `read_line`. The lists hold a beginning of what the line says then, perhaps nothing.
+    pub fn read_into<'a>(
+        &mut self,
+        line: &'a [u8],
+        lists: &mut LineLists<'a>,
+    ) -> Result<LineHead, TraceError> {
         self.lines = self.lines.saturating_add(1);
-        match self.line_of(line) {
-            Ok(line) => Ok(line),
+        lists.clear();
+        match self.head_of(line, lists) {
+            Ok(head) => Ok(head),
             Err(LineError::Refused(reason)) => Err(self.refused(reason)),
             Err(LineError::Memory) => Err(TraceError::Memory),
         }
@@ -85,33 +104,55 @@ impl<'t> TraceReader<'t> {
         })
     }
 
-    fn line_of<'a>(&mut self, line: &'a [u8]) -> Result<TraceLine<'a>, LineError> {
+    fn head_of<'a>(
+        &mut self,
+        line: &'a [u8],
+        lists: &mut LineLists<'a>,
+    ) -> Result<LineHead, LineError> {
         let Ok(text) = str::from_utf8(line) else {
             return Err(LineError::Refused(TraceReason::NotText));
         };
         let text = text.strip_suffix('\r').unwrap_or(text);
         if text.is_empty() {
-            return Ok(TraceLine::Empty);
+            return Ok(LineHead::Empty);
         }
         match self.last {
             Last::End(_) => Err(LineError::Refused(TraceReason::AfterEnd)),
             Last::Nothing | Last::Entry(..) | Last::Outside(_) | Last::Clock { .. } => {
-                self.text_of(text)
+                self.text_of(text, lists)
             }
         }
     }
 
-    fn text_of<'a>(&mut self, text: &'a str) -> Result<TraceLine<'a>, LineError> {
+    fn text_of<'a>(
+        &mut self,
+        text: &'a str,
+        lists: &mut LineLists<'a>,
+    ) -> Result<LineHead, LineError> {
+        if let Some((time, rest)) = self.recent.split_time(text) {
+            return self.at_time(time, rest, lists);
+        }
         let (first, rest) = split_word(text);
         match first {
             "whole" => self.whole(rest),
             "process" => self.clock(rest),
             "partial" => self.partial(rest),
-            _ => self.at_time(first, rest),
+            _ => {
+                let time = self.new_time(first)?;
+                self.at_time(time, rest, lists)
+            }
         }
     }
 
-    fn whole<'a>(&mut self, rest: &str) -> Result<TraceLine<'a>, LineError> {
+    fn new_time(&mut self, word: &str) -> Result<Time, LineError> {
+        let Some(time) = time_in(word, GREATEST_TICK) else {
+            return Err(LineError::Refused(TraceReason::Time));
+        };
+        self.recent.keep_time(time, word)?;
+        Ok(time)
+    }
+
+    fn whole(&mut self, rest: &str) -> Result<LineHead, LineError> {
         let Some(horizon) = tick_in(rest) else {
             return Err(LineError::Refused(TraceReason::Form));
         };
@@ -119,19 +160,19 @@ impl<'t> TraceReader<'t> {
             return Err(LineError::Refused(TraceReason::Order));
         }
         self.last = Last::End(Reach::Whole(horizon));
-        Ok(TraceLine::Whole(horizon))
+        Ok(LineHead::Whole(horizon))
     }
 
-    fn partial<'a>(&mut self, rest: &str) -> Result<TraceLine<'a>, LineError> {
+    fn partial(&mut self, rest: &str) -> Result<LineHead, LineError> {
         if !rest.is_empty() {
             return Err(LineError::Refused(TraceReason::Form));
         }
         self.last = Last::End(Reach::Partial(self.last.clock()));
-        Ok(TraceLine::Partial)
+        Ok(LineHead::Partial)
     }
 
     // The clock in `process N clock T.K`. The clock of a process that is done is behind the horizon.
-    fn clock<'a>(&mut self, rest: &str) -> Result<TraceLine<'a>, LineError> {
+    fn clock(&mut self, rest: &str) -> Result<LineHead, LineError> {
         let (number, rest) = split_word(rest);
         let Some(clock) = rest.strip_prefix("clock ") else {
             return Err(LineError::Refused(TraceReason::Form));
@@ -149,105 +190,108 @@ impl<'t> TraceReader<'t> {
             },
             before: self.last.time(),
         };
-        Ok(TraceLine::Clock(clock))
+        Ok(LineHead::Clock(clock))
     }
 
-    fn at_time<'a>(&mut self, time: &str, rest: &'a str) -> Result<TraceLine<'a>, LineError> {
-        let Some(time) = time_in(time, GREATEST_TICK) else {
-            return Err(LineError::Refused(TraceReason::Time));
-        };
+    fn at_time<'a>(
+        &mut self,
+        time: Time,
+        rest: &'a str,
+        lists: &mut LineLists<'a>,
+    ) -> Result<LineHead, LineError> {
+        if let Some(follower) = self.recent.follower()
+            && let Some((component, rest)) = self.names.split_path(follower, rest)
+        {
+            return self.entry(time, component, rest, lists);
+        }
         let (path, rest) = split_word(rest);
         if path == "out" {
-            self.outside(time, rest)
-        } else {
-            self.entry(time, path, rest)
+            return self.outside(time, rest, lists);
+        }
+        match self.names.component(path) {
+            Some(component) => self.entry(time, component, rest, lists),
+            None => Err(LineError::Refused(TraceReason::Path)),
         }
     }
 
-    fn outside<'a>(&mut self, time: Time, rest: &'a str) -> Result<TraceLine<'a>, LineError> {
+    fn outside<'a>(
+        &mut self,
+        time: Time,
+        rest: &'a str,
+        lists: &mut LineLists<'a>,
+    ) -> Result<LineHead, LineError> {
         if !self.last.is_before_outside(time) {
             return Err(LineError::Refused(TraceReason::Order));
         }
         self.last = Last::Outside(time);
-        match sendings_in(self.alloc, &self.names, Sender::Root, rest) {
-            Ok(sent) => Ok(TraceLine::Outside(Outside { time, sent })),
-            Err(error) => Err(error),
-        }
+        read_sendings(self.tree, &self.names, Sender::Root, rest, &mut lists.sent)?;
+        Ok(LineHead::Outside(time))
     }
 
     fn entry<'a>(
         &mut self,
         time: Time,
-        path: &str,
+        component: u32,
         rest: &'a str,
-    ) -> Result<TraceLine<'a>, LineError> {
-        let Some(component) = self.names.component(path) else {
-            return Err(LineError::Refused(TraceReason::Path));
-        };
+        lists: &mut LineLists<'a>,
+    ) -> Result<LineHead, LineError> {
         if !self.last.is_before_entry(time, component) {
             return Err(LineError::Refused(TraceReason::Order));
         }
         self.last = Last::Entry(time, component);
+        self.recent.keep_component(component);
+        Ok(LineHead::Entry(EntryHead {
+            time,
+            component,
+            event: self.event(self.scope(component)?, rest, lists)?,
+        }))
+    }
+
+    fn event<'a>(
+        &self,
+        scope: &Scope,
+        rest: &'a str,
+        lists: &mut LineLists<'a>,
+    ) -> Result<Event, LineError> {
         let (word, rest) = split_word(rest);
         match word.parse::<Kind>() {
-            Ok(kind) => self.transition(time, component, kind, rest),
-            Err(_) if word == "fault" => self.fault(time, component, rest),
+            Ok(kind) => Ok(Event::Transition {
+                kind,
+                phase: self.transition(scope, rest, lists)?,
+            }),
+            Err(_) if word == "fault" => Ok(Event::Fault(self.fault(scope, rest, lists)?)),
             Err(_) => Err(LineError::Refused(TraceReason::Form)),
         }
     }
 
+    // The phase to which a transition leads.
     fn transition<'a>(
         &self,
-        time: Time,
-        component: u32,
-        kind: Kind,
+        scope: &Scope,
         rest: &'a str,
-    ) -> Result<TraceLine<'a>, LineError> {
-        let scope = self.scope(component)?;
+        lists: &mut LineLists<'a>,
+    ) -> Result<u32, LineError> {
         let (word, rest) = split_word(rest);
-        let Some(phase) = self.names.name(word).and_then(|name| scope.phase(name)) else {
+        let Some(phase) = phase_of(self.tree, &self.names, scope, word) else {
             return Err(LineError::Refused(TraceReason::Phase));
         };
-        match split_state(self.alloc, self.tree, scope, rest) {
-            Ok((state, rest)) => {
-                let happening = Happening::Transition { kind, phase, state };
-                self.with_sent(time, component, scope, happening, rest)
-            }
-            Err(error) => Err(error),
-        }
+        let rest = split_state(self.tree, scope, rest, &mut lists.state)?;
+        read_sent(self.tree, &self.names, scope, rest, &mut lists.sent)?;
+        Ok(phase)
     }
 
     fn fault<'a>(
         &self,
-        time: Time,
-        component: u32,
-        rest: &'a str,
-    ) -> Result<TraceLine<'a>, LineError> {
-        let scope = self.scope(component)?;
-        let (word, rest) = split_word(rest);
-        match word.parse::<Fault>() {
-            Ok(fault) => self.with_sent(time, component, scope, Happening::Fault(fault), rest),
-            Err(_) => Err(LineError::Refused(TraceReason::Fault)),
-        }
-    }
-
-    fn with_sent<'a>(
-        &self,
-        time: Time,
-        component: u32,
         scope: &Scope,
-        happening: Happening<'a>,
         rest: &'a str,
-    ) -> Result<TraceLine<'a>, LineError> {
-        match sent_behind(self.alloc, &self.names, scope, rest) {
-            Ok(sent) => Ok(TraceLine::Entry(Entry {
-                time,
-                component,
-                happening,
-                sent,
-            })),
-            Err(error) => Err(error),
-        }
+        lists: &mut LineLists<'a>,
+    ) -> Result<Fault, LineError> {
+        let (word, rest) = split_word(rest);
+        let Ok(fault) = word.parse::<Fault>() else {
+            return Err(LineError::Refused(TraceReason::Fault));
+        };
+        read_sent(self.tree, &self.names, scope, rest, &mut lists.sent)?;
+        Ok(fault)
     }
 
     fn scope(&self, component: u32) -> Result<&'t Scope, LineError> {
@@ -324,11 +368,9 @@ pub fn check_trace(
     end: End,
 ) -> Result<Reach, TraceError> {
     let mut reader = TraceReader::new(alloc, tree)?;
+    let mut lists = LineLists::new(alloc);
     for line in read_part(trace, end).split(|byte| *byte == b'\n') {
-        match reader.read_line(line) {
-            Ok(_) => {}
-            Err(error) => return Err(error),
-        }
+        reader.read_into(line, &mut lists)?;
     }
     reader.end(end)
 }

@@ -54,7 +54,9 @@ impl fmt::Display for TraceReason {
 /// A refused trace as it is answered: what is wrong, and with which line, counted from 1.
 #[derive(Clone, Copy, Debug, PartialEq, Eq)]
 pub struct TraceRefusal {
+    /// What is wrong.
     pub reason: TraceReason,
+    /// The number of the line, counted from 1.
     pub line: u64,
 }
 

@@ -7,6 +7,9 @@ use dv_eval::Domain;
 
 /// Some values with commas between them, as a collection of this discipline has them: those of a bag ascend.
 pub(crate) fn values_in(discipline: Discipline, text: &str) -> Option<Values<'_>> {
+    if value_in(text).is_some() {
+        return Some(Values { text, count: 1 });
+    }
     let mut before = i64::MIN;
     let mut count: u64 = 0;
     for piece in text.split(',') {

@@ -8,17 +8,17 @@ use Rattle.dv_syntax.specs.Trees.{ModelTree, AtomicModel, CoupledModel, CoupledT
 use Rattle.dv_syntax.specs.declared.tree.Name.{Name}
 use Rattle.dv_syntax.specs.declared.tree.Part.{Part}
 use Rattle.dv_syntax.specs.declared.tree.Link.{Link}
-use Rattle.dv_eval.specs.Scope.{scope_of, place_of}
+use Rattle.dv_eval.specs.Scope.{scope_of, index_of}
 use Rattle.dv_check.specs.Names.{model_named, numbers_of}
 use Rattle.dv_check.specs.Tree.{PartTree, NoParts, AtomicPart, CoupledPart, with_part, parts_by, parts_to}
-use Rattle.dv_tree.specs.Couplings.{Shown, shown_by, shown_of, shown_parts, place_in, place_at, source_of, target_of}
-use Rattle.dv_tree.specs.Couplings.{placed_between, placed_link, placed_links, coupling_from_own, coupling_from_part}
+use Rattle.dv_tree.specs.Couplings.{Shown, shown_by, shown_of, shown_parts, index_in, index_at, source_of, target_of}
+use Rattle.dv_tree.specs.Couplings.{resolved_between, resolved_link, resolved_links, coupling_from_own, coupling_from_part}
 use Rattle.dv_tree.specs.Couplings.{part_couplings, couplings_of_inputs, couplings_of_parts}
 use Rattle.dv_tree.specs.declared.couplings.Target.{Target}
 use Rattle.dv_tree.specs.declared.couplings.Target.TheVariants.{Own, OfPart}
 use Rattle.dv_tree.specs.declared.couplings.Coupling.{Coupling}
-use Rattle.dv_tree.specs.declared.couplings.PlacedLink.{PlacedLink}
-use Rattle.dv_tree.proofs.PlaceLemmas.{place_of-cons}
+use Rattle.dv_tree.specs.declared.couplings.ResolvedLink.{ResolvedLink}
+use Rattle.dv_tree.proofs.IndexLemmas.{index_of-cons}
 
 -- the couplings of atomic parts begin at output ports that these have; of coupled parts nothing is asked
 abbrev pub BeginAtPorts : PartTree → List (List Coupling) → Type 0
@@ -61,22 +61,22 @@ pub all_made : {X Y : Type 0} (P : Y → Type 0) (f : X → Option Y) (xs : List
 all_made P f [] h = tt
 all_made P f (x ∷ xs) h = one_made P (f x) (filter_map f xs) h.0 (all_made P f xs h.1)
 
--- a place of a name is one of the list
-place_later : (n : ℕ) (o : Option ℕ) → IfSome o (λ k. k < n) → IfSome (option_map suc o) (λ k. k < suc n)
-place_later n None h = tt
-place_later n (Some k) h = omega (arith, h)
+-- an index of a name is one of the list
+index_later : (n : ℕ) (o : Option ℕ) → IfSome o (λ k. k < n) → IfSome (option_map suc o) (λ k. k < suc n)
+index_later n None h = tt
+index_later n (Some k) h = omega (arith, h)
 
-place_chosen : (b : Bool) (n : ℕ) (o : Option ℕ) → IfSome o (λ k. k < suc n) → IfSome (cond b (Some 0) o) (λ k. k < suc n)
-place_chosen true n o h = omega arith
-place_chosen false n o h = h
+index_chosen : (b : Bool) (n : ℕ) (o : Option ℕ) → IfSome o (λ k. k < suc n) → IfSome (cond b (Some 0) o) (λ k. k < suc n)
+index_chosen true n o h = omega arith
+index_chosen false n o h = h
 
-place_within : (name : ℕ) (names : List ℕ) → IfSome (place_of name names) (λ k. k < length names)
-place_within name [] = tt
-place_within name (n ∷ names) =
+index_within : (name : ℕ) (names : List ℕ) → IfSome (index_of name names) (λ k. k < length names)
+index_within name [] = tt
+index_within name (n ∷ names) =
     let Within : Option ℕ → Type 0 = λ o. IfSome o (λ k. k < length (n ∷ names)) in
-    subst Within (sym (place_of-cons name n names))
-    (place_chosen (eqb n name) (length names) (option_map suc (place_of name names))
-    (place_later (length names) (place_of name names) (place_within name names)))
+    subst Within (sym (index_of-cons name n names))
+    (index_chosen (eqb n name) (length names) (option_map suc (index_of name names))
+    (index_later (length names) (index_of name names) (index_within name names)))
 
 -- links begin at ports of the model itself, and at ports of parts that these have
 module _ (own : List ℕ) (parts : List ℕ) (outputs : List (List ℕ)) where
@@ -101,26 +101,26 @@ module _ (own : List ℕ) (parts : List ℕ) (outputs : List (List ℕ)) where
   part_begins part None h = tt
   part_begins part (Some port) h = (λ to. tt, λ k to. part_chosen part k port to (eqb part k) refl h)
 
-  in_begins : (port : ℕ) (part : Option ℕ) → Begins (place_in outputs port part)
+  in_begins : (port : ℕ) (part : Option ℕ) → Begins (index_in outputs port part)
   unfolding Begins
   in_begins port None = tt
-  in_begins port (Some part) = part_begins part (place_of port (get_or outputs part [])) (place_within port (get_or outputs part []))
+  in_begins port (Some part) = part_begins part (index_of port (get_or outputs part [])) (index_within port (get_or outputs part []))
 
-  begins : (part : Option Name) (port : ℕ) → Begins (place_at own parts outputs part port)
-  begins None port = own_begins (place_of port own) (place_within port own)
-  begins (Some part) port = in_begins port (place_of part.number parts)
+  begins : (part : Option Name) (port : ℕ) → Begins (index_at own parts outputs part port)
+  begins None port = own_begins (index_of port own) (index_within port own)
+  begins (Some part) port = in_begins port (index_of part.number parts)
 
   own_between : (from to : Option Target) → Begins from →
-      IfSome (placed_between from to)
-      (λ (l : PlacedLink). IfSome (coupling_from_own l.from l.to) (λ (c : Coupling). c.port < length own))
+      IfSome (resolved_between from to)
+      (λ (l : ResolvedLink). IfSome (coupling_from_own l.from l.to) (λ (c : Coupling). c.port < length own))
   unfolding Begins
   own_between None to h = tt
   own_between (Some from) None h = tt
   own_between (Some from) (Some to) h = h.0 to
 
   part_between : (k : ℕ) (from to : Option Target) → Begins from →
-      IfSome (placed_between from to)
-      (λ (l : PlacedLink). IfSome (coupling_from_part k l.from l.to) (λ (c : Coupling). c.port < length (get_or outputs k [])))
+      IfSome (resolved_between from to)
+      (λ (l : ResolvedLink). IfSome (coupling_from_part k l.from l.to) (λ (c : Coupling). c.port < length (get_or outputs k [])))
   unfolding Begins
   part_between k None to h = tt
   part_between k (Some from) None h = tt
@@ -141,26 +141,26 @@ link_begins models m l =
 pub own_begin : (models : List ModelTree) (m : CoupledTree) →
     AllByRecursion (λ (c : Coupling). c.port < length (numbers_of m.inputs)) (couplings_of_inputs models m)
 own_begin models m =
-    let IsOwn : PlacedLink → Type 0 =
+    let IsOwn : ResolvedLink → Type 0 =
     λ l. IfSome (coupling_from_own l.from l.to) (λ (c : Coupling). c.port < length (numbers_of m.inputs)) in
-    all_made (λ (c : Coupling). c.port < length (numbers_of m.inputs)) (λ (l : PlacedLink). coupling_from_own l.from l.to)
-    (placed_links models m)
-    (all_made IsOwn (placed_link m (shown_parts models m)) m.links
-    (all_items (λ l. IfSome (placed_link m (shown_parts models m) l) IsOwn)
+    all_made (λ (c : Coupling). c.port < length (numbers_of m.inputs)) (λ (l : ResolvedLink). coupling_from_own l.from l.to)
+    (resolved_links models m)
+    (all_made IsOwn (resolved_link m (shown_parts models m)) m.links
+    (all_items (λ l. IfSome (resolved_link m (shown_parts models m) l) IsOwn)
     (λ l. own_between _ _ _ (source_of m (shown_parts models m) l.from) (target_of m (shown_parts models m) l.to)
     (link_begins models m l)) m.links))
 
 -- and so do those from the outputs of a part
 part_begin : (models : List ModelTree) (m : CoupledTree) (k : ℕ) →
     AllByRecursion (λ (c : Coupling). c.port < length (get_or (outputs_shown models m.parts) k []))
-    (part_couplings (placed_links models m) k)
+    (part_couplings (resolved_links models m) k)
 part_begin models m k =
-    let IsOfPart : PlacedLink → Type 0 =
+    let IsOfPart : ResolvedLink → Type 0 =
     λ l. IfSome (coupling_from_part k l.from l.to) (λ (c : Coupling). c.port < length (get_or (outputs_shown models m.parts) k [])) in
     all_made (λ (c : Coupling). c.port < length (get_or (outputs_shown models m.parts) k []))
-    (λ (l : PlacedLink). coupling_from_part k l.from l.to) (placed_links models m)
-    (all_made IsOfPart (placed_link m (shown_parts models m)) m.links
-    (all_items (λ l. IfSome (placed_link m (shown_parts models m) l) IsOfPart)
+    (λ (l : ResolvedLink). coupling_from_part k l.from l.to) (resolved_links models m)
+    (all_made IsOfPart (resolved_link m (shown_parts models m)) m.links
+    (all_items (λ l. IfSome (resolved_link m (shown_parts models m) l) IsOfPart)
     (λ l. part_between _ _ _ k (source_of m (shown_parts models m) l.from) (target_of m (shown_parts models m) l.to)
     (link_begins models m l)) m.links))
 
@@ -226,12 +226,12 @@ pub fits_to : (depth : ℕ) (models : List ModelTree) (m : CoupledTree) → Fits
 fits_to zero models m = record { ports = tt; inputs = tt; inside = tt }
 fits_to (suc depth) models m = record {
   ports =
-      ports_fit models (parts_to depth models) (part_couplings (placed_links models m)) m.parts 0
+      ports_fit models (parts_to depth models) (part_couplings (resolved_links models m)) m.parts 0
       (λ j i e.
       let Begin : ℕ → Type 0 =
       λ n. AllByRecursion (λ (c : Coupling). c.port < length (get_or (outputs_shown models m.parts) n []))
-      (part_couplings (placed_links models m) i) in
+      (part_couplings (resolved_links models m) i) in
       subst Begin (let same : i ≡ j = omega (arith, e) in same) (part_begin models m i));
-  inputs = inputs_fit models (parts_to depth models) (part_couplings (placed_links models m)) m.parts;
+  inputs = inputs_fit models (parts_to depth models) (part_couplings (resolved_links models m)) m.parts;
   inside = parts_fit models (parts_to depth models) (fits_to depth models) m.parts;
 }

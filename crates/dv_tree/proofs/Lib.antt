@@ -11,8 +11,8 @@ pub mod Markings
 pub mod Mirrors
 pub mod Named
 pub mod Onward
-pub mod PlaceLemmas
-pub mod Placed
+pub mod IndexLemmas
+pub mod Resolved
 pub mod Quiet
 pub mod ReachedModels
 pub mod Received

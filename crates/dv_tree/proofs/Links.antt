@@ -12,10 +12,10 @@ use Rattle.dv_tree.specs.Tables.{with_coupling_at, with_link}
 use Rattle.dv_tree.specs.declared.couplings.Target.{Target}
 use Rattle.dv_tree.specs.declared.couplings.Target.TheVariants.{Own, OfPart}
 use Rattle.dv_tree.specs.declared.couplings.Coupling.{Coupling}
-use Rattle.dv_tree.specs.declared.couplings.PlacedLink.{PlacedLink}
+use Rattle.dv_tree.specs.declared.couplings.ResolvedLink.{ResolvedLink}
 use Rattle.dv_tree.proofs.Gathered.{put_before}
 
--- lists that are the same at each place
+-- lists that are the same at each index
 map_same : {X : Type 0} (f g : ℕ → X) → ((k : ℕ) → f k ≡ g k) → (ks : List ℕ) → map f ks ≡ map g ks
 map_same f g same [] = refl
 map_same f g same (k ∷ ks) = ap (λ x. x ∷ map f ks) (same k) ∙ ap (λ xs. g k ∷ xs) (map_same f g same ks)
@@ -63,7 +63,7 @@ pub with_link-added : (c : ℕ → List Coupling) (n : ℕ) (from to : Target) �
 with_link-added c n (Own port) to = map_same c (λ k. c k ++ []) (λ k. sym (append-nil (c k))) (range_with_len 0 n)
 with_link-added c n (OfPart part port) to = with_coupling_at-of_part c n part (record { port = port; target = to })
 
-with_links : (links : List PlacedLink) (c : ℕ → List Coupling) (n : ℕ) →
+with_links : (links : List ResolvedLink) (c : ℕ → List Coupling) (n : ℕ) →
     fold with_link (map c (range_with_len 0 n)) links ≡ map (λ k. c k ++ part_couplings links k) (range_with_len 0 n)
 with_links [] c n = map_same c (λ k. c k ++ []) (λ k. sym (append-nil (c k))) (range_with_len 0 n)
 with_links (l ∷ links) c n =
@@ -74,6 +74,6 @@ with_links (l ∷ links) c n =
     (λ k. put_before (c k) (coupling_from_part k l.from l.to) (part_couplings links k)) (range_with_len 0 n))
 
 -- all links, from no couplings on
-pub all_links : (links : List PlacedLink) (n : ℕ) →
+pub all_links : (links : List ResolvedLink) (n : ℕ) →
     fold with_link (replicate n []) links ≡ map (part_couplings links) (range_with_len 0 n)
 all_links links n = ap (λ lists. fold with_link lists links) (replicate_none n 0) ∙ with_links links (λ k. []) n

@@ -5,13 +5,13 @@ use Rattle.std.proofs.lemmas.List.{length-map, length-replicate, length-set, len
 use Rattle.std.specs.Prelude.{if◌then◌else◌, Option, Some, None, option_map, slice_get, slice_index_or}
 use Rattle.dv_syntax.specs.Trees.{ModelTree, FileTree}
 use Rattle.dv_syntax.specs.declared.tree.Part.{Part}
-use Rattle.dv_eval.specs.Scope.{place_of}
+use Rattle.dv_eval.specs.Scope.{index_of}
 use Rattle.dv_check.specs.Names.{name_of_model}
-use Rattle.dv_tree.specs.Reached.{AreMarks, IsReached, AsRoot, AsPart, Marking, has_mark, model_place, parts_inside, with_mark, with_marks}
+use Rattle.dv_tree.specs.Reached.{AreMarks, IsReached, AsRoot, AsPart, Marking, has_mark, model_index, parts_inside, with_mark, with_marks}
 use Rattle.dv_tree.specs.Tables.{model_names}
-use Rattle.dv_tree.proofs.PlaceLemmas.{place_of-cons}
+use Rattle.dv_tree.proofs.IndexLemmas.{index_of-cons}
 
--- ---- Places of a list
+-- ---- Indices of a list
 
 abbrev pub IsAmong : ℕ → List ℕ → Type 0
 IsAmong q [] = ⊥
@@ -36,11 +36,11 @@ among_push q (x ∷ xs) p (inr a) =
       | inr e ↦ inr e
     ]
 
--- a name has a place within its list
-place_within : (n : ℕ) (names : List ℕ) (q : ℕ) → place_of n names ≡ Some q → q < length names
-place_within n [] q e = absurd (cc)
-place_within n (x ∷ names) q e =
-    at (eqb x n) (place_of n names) (place_within n names) q (sym (place_of-cons n x names) ∙ e)
+-- a name has an index within its list
+index_within : (n : ℕ) (names : List ℕ) (q : ℕ) → index_of n names ≡ Some q → q < length names
+index_within n [] q e = absurd (cc)
+index_within n (x ∷ names) q e =
+    at (eqb x n) (index_of n names) (index_within n names) q (sym (index_of-cons n x names) ∙ e)
   where
     at : (b : Bool) (o : Option ℕ) → ((r : ℕ) → o ≡ Some r → r < length names) → (r : ℕ) →
         cond b (Some 0) (option_map suc o) ≡ Some r → r < length (x ∷ names)
@@ -66,42 +66,42 @@ none_marked zero q e = absurd (cc)
 none_marked (suc n) zero e = absurd (cc)
 none_marked (suc n) (suc q) e = none_marked n q e
 
-marks_kept : (marks : List Bool) (place q : ℕ) → has_mark marks q ≡ true → has_mark (set marks place true) q ≡ true
-marks_kept [] place q e = absurd (cc)
+marks_kept : (marks : List Bool) (index q : ℕ) → has_mark marks q ≡ true → has_mark (set marks index true) q ≡ true
+marks_kept [] index q e = absurd (cc)
 marks_kept (b ∷ marks) zero zero e = refl
 marks_kept (b ∷ marks) zero (suc q) e = e
-marks_kept (b ∷ marks) (suc place) zero e = e
-marks_kept (b ∷ marks) (suc place) (suc q) e = marks_kept marks place q e
+marks_kept (b ∷ marks) (suc index) zero e = e
+marks_kept (b ∷ marks) (suc index) (suc q) e = marks_kept marks index q e
 
-marked_here : (marks : List Bool) (place : ℕ) → slice_index_or marks place true ≡ false → has_mark (set marks place true) place ≡ true
-marked_here [] place e = absurd (cc)
+marked_here : (marks : List Bool) (index : ℕ) → slice_index_or marks index true ≡ false → has_mark (set marks index true) index ≡ true
+marked_here [] index e = absurd (cc)
 marked_here (b ∷ marks) zero e = refl
-marked_here (b ∷ marks) (suc place) e = marked_here marks place e
+marked_here (b ∷ marks) (suc index) e = marked_here marks index e
 
-marked_before : (marks : List Bool) (place : ℕ) → slice_index_or marks place true ≡ true → place < length marks →
-    has_mark marks place ≡ true
-marked_before [] place e l = absurd (omega arith)
+marked_before : (marks : List Bool) (index : ℕ) → slice_index_or marks index true ≡ true → index < length marks →
+    has_mark marks index ≡ true
+marked_before [] index e l = absurd (omega arith)
 marked_before (b ∷ marks) zero e l = e
-marked_before (b ∷ marks) (suc place) e l = marked_before marks place e (omega arith)
+marked_before (b ∷ marks) (suc index) e l = marked_before marks index e (omega arith)
 
-marked_new : (marks : List Bool) (place q : ℕ) → has_mark (set marks place true) q ≡ true → (has_mark marks q ≡ true) ⊎ (place ≡ q)
-marked_new [] place q e = absurd (cc)
+marked_new : (marks : List Bool) (index q : ℕ) → has_mark (set marks index true) q ≡ true → (has_mark marks q ≡ true) ⊎ (index ≡ q)
+marked_new [] index q e = absurd (cc)
 marked_new (b ∷ marks) zero zero e = inr refl
 marked_new (b ∷ marks) zero (suc q) e = inl e
-marked_new (b ∷ marks) (suc place) zero e = inl e
-marked_new (b ∷ marks) (suc place) (suc q) e =
-    elim (marked_new marks place q e) [
+marked_new (b ∷ marks) (suc index) zero e = inl e
+marked_new (b ∷ marks) (suc index) (suc q) e =
+    elim (marked_new marks index q e) [
       | inl m ↦ inl m
       | inr same ↦ inr (ap suc same)
     ]
 
-one_less : (marks : List Bool) (place : ℕ) → slice_index_or marks place true ≡ false → unmarked (set marks place true) + 1 ≡ unmarked marks
-one_less [] place e = absurd (cc)
+one_less : (marks : List Bool) (index : ℕ) → slice_index_or marks index true ≡ false → unmarked (set marks index true) + 1 ≡ unmarked marks
+one_less [] index e = absurd (cc)
 one_less (true ∷ marks) zero e = absurd (cc)
 one_less (false ∷ marks) zero e =
     let one : ◌≡◌ {A = ℕ} (unmarked marks + 1) (suc (unmarked marks)) = omega arith in one
-one_less (true ∷ marks) (suc place) e = one_less marks place e
-one_less (false ∷ marks) (suc place) e = let r = one_less marks place e in omega arith
+one_less (true ∷ marks) (suc index) e = one_less marks index e
+one_less (false ∷ marks) (suc index) e = let r = one_less marks index e in omega arith
 
 -- ---- Marks and more marks
 
@@ -146,101 +146,101 @@ then_later l m n one two = record {
 
 -- the marks with one more, whose parts are still to be marked
 abbrev pub with_new : ℕ → Marking → Marking
-with_new place m = record { marks = set m.marks place true; waiting = m.waiting ++ place ∷ [] }
+with_new index m = record { marks = set m.marks index true; waiting = m.waiting ++ index ∷ [] }
 
-new_later : (place : ℕ) (m : Marking) → slice_index_or m.marks place true ≡ false → IsLater m (with_new place m)
-new_later place m e = record {
-  long = length-set m.marks place true;
-  kept = marks_kept m.marks place;
-  waits = λ q a. among_left q m.waiting (place ∷ []) a;
-  new = λ q marked. elim (marked_new m.marks place q marked) [
+new_later : (index : ℕ) (m : Marking) → slice_index_or m.marks index true ≡ false → IsLater m (with_new index m)
+new_later index m e = record {
+  long = length-set m.marks index true;
+  kept = marks_kept m.marks index;
+  waits = λ q a. among_left q m.waiting (index ∷ []) a;
+  new = λ q marked. elim (marked_new m.marks index q marked) [
     | inl before ↦ inl before
-    | inr same ↦ inr (subst (λ r. IsAmong r (m.waiting ++ place ∷ [])) same (among_last place m.waiting))
+    | inr same ↦ inr (subst (λ r. IsAmong r (m.waiting ++ index ∷ [])) same (among_last index m.waiting))
   ];
-  old = λ q a. elim (among_push q m.waiting place a) [
+  old = λ q a. elim (among_push q m.waiting index a) [
     | inl before ↦ inl before
-    | inr same ↦ inr (subst (λ r. has_mark (set m.marks place true) r ≡ true) same (marked_here m.marks place e))
+    | inr same ↦ inr (subst (λ r. has_mark (set m.marks index true) r ≡ true) same (marked_here m.marks index e))
   ];
-  left = omega (arith, one_less m.marks place e, length_push m.waiting place);
+  left = omega (arith, one_less m.marks index e, length_push m.waiting index);
 }
 
 mark_later : (o : Option ℕ) (m : Marking) → IsLater m (with_mark o m)
 mark_later None m = same_later m
-mark_later (Some place) m = at (slice_index_or m.marks place true) refl
+mark_later (Some index) m = at (slice_index_or m.marks index true) refl
   where
-    at : (b : Bool) → slice_index_or m.marks place true ≡ b → IsLater m (if b then m else with_new place m)
+    at : (b : Bool) → slice_index_or m.marks index true ≡ b → IsLater m (if b then m else with_new index m)
     at true e = same_later m
-    at false e = new_later place m e
+    at false e = new_later index m e
 
 pub marks_later : (names : List ℕ) (parts : List Part) (m : Marking) → IsLater m (with_marks names parts m)
 marks_later names [] m = same_later m
 marks_later names (p ∷ parts) m =
-    let one = with_mark (place_of p.model.number names) m in
-    then_later m one (with_marks names parts one) (mark_later (place_of p.model.number names) m) (marks_later names parts one)
+    let one = with_mark (index_of p.model.number names) m in
+    then_later m one (with_marks names parts one) (mark_later (index_of p.model.number names) m) (marks_later names parts one)
 
 -- nothing else has a mark
 mark_only : (P : ℕ → Type 0) (o : Option ℕ) (m : Marking) → ((q : ℕ) → has_mark m.marks q ≡ true → P q) →
     ((q : ℕ) → o ≡ Some q → P q) → (q : ℕ) → has_mark (with_mark o m).marks q ≡ true → P q
 mark_only P None m before one q e = before q e
-mark_only P (Some place) m before one q e = at (slice_index_or m.marks place true) e
+mark_only P (Some index) m before one q e = at (slice_index_or m.marks index true) e
   where
-    at : (b : Bool) → has_mark (if b then m else with_new place m).marks q ≡ true → P q
+    at : (b : Bool) → has_mark (if b then m else with_new index m).marks q ≡ true → P q
     at true marked = before q marked
     at false marked =
-        elim (marked_new m.marks place q marked) [
+        elim (marked_new m.marks index q marked) [
           | inl first ↦ before q first
           | inr same ↦ one q (ap Some same)
         ]
 
 marks_only : (P : ℕ → Type 0) (names : List ℕ) (parts : List Part) (m : Marking) → ((q : ℕ) → has_mark m.marks q ≡ true → P q) →
-    ((k : ℕ) (p : Part) (q : ℕ) → slice_get parts k ≡ Some p → place_of p.model.number names ≡ Some q → P q) →
+    ((k : ℕ) (p : Part) (q : ℕ) → slice_get parts k ≡ Some p → index_of p.model.number names ≡ Some q → P q) →
     (q : ℕ) → has_mark (with_marks names parts m).marks q ≡ true → P q
 marks_only P names [] m before each q e = before q e
 marks_only P names (p ∷ parts) m before each q e =
-    marks_only P names parts (with_mark (place_of p.model.number names) m)
-    (mark_only P (place_of p.model.number names) m before (λ r is. each zero p r refl is))
+    marks_only P names parts (with_mark (index_of p.model.number names) m)
+    (mark_only P (index_of p.model.number names) m before (λ r is. each zero p r refl is))
     (λ k. each (suc k)) q e
 
--- the model at the place has one
+-- the model at the index has one
 mark_there : (o : Option ℕ) (m : Marking) (q : ℕ) → o ≡ Some q → q < length m.marks → has_mark (with_mark o m).marks q ≡ true
 mark_there None m q e l = absurd (cc)
-mark_there (Some place) m q e l =
-    let same : q ≡ place = cc in
-    subst (λ r. has_mark (with_mark (Some place) m).marks r ≡ true) (sym same)
-    (at (slice_index_or m.marks place true) refl (subst (λ r. r < length m.marks) same l))
+mark_there (Some index) m q e l =
+    let same : q ≡ index = cc in
+    subst (λ r. has_mark (with_mark (Some index) m).marks r ≡ true) (sym same)
+    (at (slice_index_or m.marks index true) refl (subst (λ r. r < length m.marks) same l))
   where
-    at : (b : Bool) → slice_index_or m.marks place true ≡ b → place < length m.marks →
-        has_mark (if b then m else with_new place m).marks place ≡ true
-    at true e l = marked_before m.marks place e l
-    at false e l = marked_here m.marks place e
+    at : (b : Bool) → slice_index_or m.marks index true ≡ b → index < length m.marks →
+        has_mark (if b then m else with_new index m).marks index ≡ true
+    at true e l = marked_before m.marks index e l
+    at false e l = marked_here m.marks index e
 
 marks_there : (names : List ℕ) (parts : List Part) (m : Marking) → length names ≡ length m.marks →
-    (k : ℕ) (p : Part) (q : ℕ) → slice_get parts k ≡ Some p → place_of p.model.number names ≡ Some q →
+    (k : ℕ) (p : Part) (q : ℕ) → slice_get parts k ≡ Some p → index_of p.model.number names ≡ Some q →
     has_mark (with_marks names parts m).marks q ≡ true
 marks_there names [] m long k p q there named = absurd (cc)
 marks_there names (x ∷ parts) m long zero p q there named =
     let same : x ≡ p = cc in
-    let o = place_of x.model.number names in
-    let is : o ≡ Some q = ap (λ (y : Part). place_of y.model.number names) same ∙ named in
-    let l = place_within x.model.number names q is in
+    let o = index_of x.model.number names in
+    let is : o ≡ Some q = ap (λ (y : Part). index_of y.model.number names) same ∙ named in
+    let l = index_within x.model.number names q is in
     (marks_later names parts (with_mark o m)).kept q (mark_there o m q is (omega arith))
 marks_there names (x ∷ parts) m long (suc k) p q there named =
-    let o = place_of x.model.number names in
+    let o = index_of x.model.number names in
     marks_there names parts (with_mark o m) (long ∙ sym (mark_later o m).long) k p q there named
 
 -- ---- What holds between the steps
 
--- the models of the parts of the model at a place have marks
+-- the models of the parts of the model at an index have marks
 abbrev pub HasMarkedParts : FileTree → List Bool → ℕ → Type 0
 HasMarkedParts f marks q =
     (x : ModelTree) (k : ℕ) (p : Part) (r : ℕ) → slice_get f.models q ≡ Some x → slice_get (parts_inside x) k ≡ Some p →
-    model_place f p.model.number ≡ Some r → has_mark marks r ≡ true
+    model_index f p.model.number ≡ Some r → has_mark marks r ≡ true
 
 -- the root has a mark and nothing has one that it does not lead to; what has marked parts, or waits for them, has a mark itself
 pub record IsMarking (f : FileTree) (m : Marking) : Type 0 where
   pub long : length m.marks ≡ length f.models
   pub reached : (q : ℕ) → has_mark m.marks q ≡ true → IsReached f q
-  pub root : (q : ℕ) → model_place f f.root.number ≡ Some q → has_mark m.marks q ≡ true
+  pub root : (q : ℕ) → model_index f f.root.number ≡ Some q → has_mark m.marks q ≡ true
   pub waits : (q : ℕ) → IsAmong q m.waiting → has_mark m.marks q ≡ true
   pub closed : (q : ℕ) → has_mark m.marks q ≡ true → IsAmong q m.waiting ⊎ HasMarkedParts f m.marks q
 
@@ -255,14 +255,14 @@ module _ (f : FileTree) where
   unmarked_all = record { marks = replicate (length f.models) false; waiting = [] }
 
   -- the root alone has a mark
-  pub marking_start : IsMarking f (with_mark (model_place f f.root.number) unmarked_all)
+  pub marking_start : IsMarking f (with_mark (model_index f f.root.number) unmarked_all)
   marking_start =
-      let o = model_place f f.root.number in
+      let o = model_index f f.root.number in
       let later = mark_later o unmarked_all in
       let size = length-replicate (length f.models) false in record {
         long = later.long ∙ size;
         reached = mark_only (IsReached f) o unmarked_all (λ q e. absurd (none_marked (length f.models) q e)) (λ q e. AsRoot e);
-        root = λ q e. mark_there o unmarked_all q e (let l = place_within f.root.number names q e in omega (arith, size, many));
+        root = λ q e. mark_there o unmarked_all q e (let l = index_within f.root.number names q e in omega (arith, size, many));
         waits = λ q a. elim (later.old q a) [
           | inl before ↦ absurd before
           | inr marked ↦ marked
@@ -273,34 +273,34 @@ module _ (f : FileTree) where
         ];
       }
 
-  -- what waits is the place of a model
-  pub waits_within : (m : Marking) (rest : List ℕ) (place : ℕ) → IsMarking f m → m.waiting ≡ rest ++ place ∷ [] →
-      place < length f.models
-  waits_within m rest place is waiting =
-      let within : place < length m.marks =
-      within_marks m.marks place (is.waits place (subst (IsAmong place) (sym waiting) (among_last place rest))) in
+  -- what waits is the index of a model
+  pub waits_within : (m : Marking) (rest : List ℕ) (index : ℕ) → IsMarking f m → m.waiting ≡ rest ++ index ∷ [] →
+      index < length f.models
+  waits_within m rest index is waiting =
+      let within : index < length m.marks =
+      within_marks m.marks index (is.waits index (subst (IsAmong index) (sym waiting) (among_last index rest))) in
       omega (arith, within, is.long)
 
   -- the parts of one that waited are marked
-  pub marking_step : (m : Marking) (rest : List ℕ) (place : ℕ) (x : ModelTree) → IsMarking f m → m.waiting ≡ rest ++ place ∷ [] →
-      slice_get f.models place ≡ Some x →
+  pub marking_step : (m : Marking) (rest : List ℕ) (index : ℕ) (x : ModelTree) → IsMarking f m → m.waiting ≡ rest ++ index ∷ [] →
+      slice_get f.models index ≡ Some x →
       IsMarking f (with_marks names (parts_inside x) (record { marks = m.marks; waiting = rest }))
-  marking_step m rest place x is waiting there =
+  marking_step m rest index x is waiting there =
       let from : Marking = record { marks = m.marks; waiting = rest } in
       let later = marks_later names (parts_inside x) from in
-      let had : (q : ℕ) → IsAmong q (rest ++ place ∷ []) → has_mark m.marks q ≡ true =
+      let had : (q : ℕ) → IsAmong q (rest ++ index ∷ []) → has_mark m.marks q ≡ true =
       λ q a. is.waits q (subst (IsAmong q) (sym waiting) a) in record {
         long = later.long ∙ is.long;
         reached = marks_only (IsReached f) names (parts_inside x) from is.reached
-            (λ k p q part named. AsPart x k p (is.reached place (had place (among_last place rest))) there part named);
+            (λ k p q part named. AsPart x k p (is.reached index (had index (among_last index rest))) there part named);
         root = λ q e. later.kept q (is.root q e);
         waits = λ q a. elim (later.old q a) [
-          | inl before ↦ later.kept q (had q (among_left q rest (place ∷ []) before))
+          | inl before ↦ later.kept q (had q (among_left q rest (index ∷ []) before))
           | inr marked ↦ marked
         ];
         closed = λ q e. elim (later.new q e) [
           | inl before ↦ elim (is.closed q before) [
-            | inl waited ↦ elim (among_push q rest place (subst (IsAmong q) waiting waited)) [
+            | inl waited ↦ elim (among_push q rest index (subst (IsAmong q) waiting waited)) [
               | inl still ↦ inl (later.waits q still)
               | inr same ↦ inr (subst (HasMarkedParts f (with_marks names (parts_inside x) from).marks) same
                   (λ y k p r y_there part named.

@@ -11,47 +11,47 @@ use Rattle.dv_bag.specs.Bag.{Counts}
 use Rattle.dv_check.specs.Tree.{PartTree, NoParts, AtomicPart, CoupledPart, with_part, parts_by, parts_to, component_count}
 use Rattle.dv_tree.specs.Couplings.{Shown, shown_parts, couplings_of_parts}
 use Rattle.dv_tree.specs.Routing.{Arrived, along_all, from_parts, to_parts, first_bags, leaving, arriving}
-use Rattle.dv_tree.specs.Tables.{LevelTable, level_of, levels_of, model_names, placed_part, placed_part_at}
+use Rattle.dv_tree.specs.Tables.{LevelTable, level_of, levels_of, model_names, resolved_part, resolved_part_at}
 use Rattle.dv_tree.specs.Nodes.{Nodes, NoNodes, AtomicNode, CoupledNode, with_node, nodes_by, nodes_to, atomic_count}
 use Rattle.dv_tree.specs.Nodes.{coupled_count, from_level, to_level, leaving_nodes, kept_nodes, arriving_nodes}
-use Rattle.dv_tree.specs.declared.placed_parts.PlacedPart.{PlacedPart}
-use Rattle.dv_tree.proofs.Placed.{IsPlaced, nowhere, somewhere, is_placed, level_placed}
+use Rattle.dv_tree.specs.declared.resolved_parts.ResolvedPart.{ResolvedPart}
+use Rattle.dv_tree.proofs.Resolved.{IsResolved, nowhere, somewhere, is_resolved, level_resolved}
 
 -- parts by tables stand for parts of a text
 pub data Mirrors (models : List ModelTree) : PartTree → Nodes → Type 0 where
   none : Mirrors models NoParts NoNodes
-  atomic : (name : Name) (m : AtomicTree) (place : ℕ) {rest : PartTree} {others : Nodes} → slice_get models place ≡ Some (AtomicModel m) →
-      Mirrors models rest others → Mirrors models (AtomicPart name m rest) (AtomicNode name.number place others)
+  atomic : (name : Name) (m : AtomicTree) (index : ℕ) {rest : PartTree} {others : Nodes} → slice_get models index ≡ Some (AtomicModel m) →
+      Mirrors models rest others → Mirrors models (AtomicPart name m rest) (AtomicNode name.number index others)
   coupled : (name : Name) (m : CoupledTree) {inside rest : PartTree} {within others : Nodes} → Mirrors models inside within →
       Mirrors models rest others → Mirrors models (CoupledPart name m inside rest)
       (CoupledNode name.number (level_of models m) within others)
 
 module _ (models : List ModelTree) (inside : CoupledTree → PartTree) (within : LevelTable → Nodes)
     (below : (m : CoupledTree) → Mirrors models (inside m) (within (level_of models m))) where
-  mirrors_part : (p : Part) {o : Option ModelTree} {place : Option ℕ} (rest : PartTree) (placed : List PlacedPart) →
-      IsPlaced models o place →
-      Mirrors models rest (nodes_by within (levels_of models) placed) →
+  mirrors_part : (p : Part) {o : Option ModelTree} {index : Option ℕ} (rest : PartTree) (resolved : List ResolvedPart) →
+      IsResolved models o index →
+      Mirrors models rest (nodes_by within (levels_of models) resolved) →
       Mirrors models (with_part inside p.name o rest)
-      (nodes_by within (levels_of models) (cons_option (option_map (placed_part_at p.name) place) placed))
-  mirrors_part p rest placed nowhere h = h
-  mirrors_part p rest placed (somewhere (AtomicModel m) place there) h =
+      (nodes_by within (levels_of models) (cons_option (option_map (resolved_part_at p.name) index) resolved))
+  mirrors_part p rest resolved nowhere h = h
+  mirrors_part p rest resolved (somewhere (AtomicModel m) index there) h =
       let At : Option LevelTable → Type 0 =
       λ o. Mirrors models (AtomicPart p.name m rest)
-      (with_node within (placed_part_at p.name place) o (nodes_by within (levels_of models) placed)) in
-      subst At (sym (level_placed models place (AtomicModel m) there)) (atomic p.name m place there h)
-  mirrors_part p rest placed (somewhere (CoupledModel m) place there) h =
+      (with_node within (resolved_part_at p.name index) o (nodes_by within (levels_of models) resolved)) in
+      subst At (sym (level_resolved models index (AtomicModel m) there)) (atomic p.name m index there h)
+  mirrors_part p rest resolved (somewhere (CoupledModel m) index there) h =
       let At : Option LevelTable → Type 0 =
       λ o. Mirrors models (CoupledPart p.name m (inside m) rest)
-      (with_node within (placed_part_at p.name place) o (nodes_by within (levels_of models) placed)) in
-      subst At (sym (level_placed models place (CoupledModel m) there)) (coupled p.name m (below m) h)
+      (with_node within (resolved_part_at p.name index) o (nodes_by within (levels_of models) resolved)) in
+      subst At (sym (level_resolved models index (CoupledModel m) there)) (coupled p.name m (below m) h)
 
   mirrors_parts : (parts : List Part) →
       Mirrors models (parts_by inside models parts)
-      (nodes_by within (levels_of models) (filter_map (placed_part (model_names models)) parts))
+      (nodes_by within (levels_of models) (filter_map (resolved_part (model_names models)) parts))
   mirrors_parts [] = none
   mirrors_parts (p ∷ parts) =
-      mirrors_part p (parts_by inside models parts) (filter_map (placed_part (model_names models)) parts)
-      (is_placed p.model.number models) (mirrors_parts parts)
+      mirrors_part p (parts_by inside models parts) (filter_map (resolved_part (model_names models)) parts)
+      (is_resolved p.model.number models) (mirrors_parts parts)
 
 pub mirrors_to : (depth : ℕ) (models : List ModelTree) (m : CoupledTree) →
     Mirrors models (parts_to depth models m) (nodes_to depth (levels_of models) (level_of models m))
@@ -61,7 +61,7 @@ mirrors_to (suc depth) models m =
 
 pub same_count : {models : List ModelTree} {t : PartTree} {n : Nodes} → Mirrors models t n → component_count t ≡ atomic_count n
 same_count none = refl
-same_count (atomic name m place there rest) = ap suc (same_count rest)
+same_count (atomic name m index there rest) = ap suc (same_count rest)
 same_count (coupled name m {rest = rest} {within = within} h more) =
     ap (λ k. k + component_count rest) (same_count h) ∙ ap (λ k. atomic_count within + k) (same_count more)
 
@@ -110,7 +110,7 @@ from_table models m bags =
 pub same_leaving : {models : List ModelTree} {t : PartTree} {n : Nodes} → Mirrors models t n → (sent : List (List Counts)) →
     leaving models t sent ≡ leaving_nodes n sent
 same_leaving none sent = refl
-same_leaving (atomic name m place there rest) sent = ap (λ xs. first_bags sent ∷ xs) (same_leaving rest (drop 1 sent))
+same_leaving (atomic name m index there rest) sent = ap (λ xs. first_bags sent ∷ xs) (same_leaving rest (drop 1 sent))
 same_leaving {models = models} (coupled name m {inside = inside} {rest = rest} {within = within} {others = others} h more) sent =
     ap (λ xs. (from_parts models m xs).own ∷ leaving models rest (drop (component_count inside) sent))
     (leaving-take models inside sent ∙ same_leaving h sent)
@@ -140,7 +140,7 @@ pub same_arriving : {models : List ModelTree} {t : PartTree} {n : Nodes} → Mir
     (comes sent : List (List Counts)) (more : List Arrived) →
     arriving_nodes n comes (kept_nodes n sent ++ more) ≡ arriving models t comes sent
 same_arriving none comes sent more = refl
-same_arriving (atomic name m place there rest) comes sent more =
+same_arriving (atomic name m index there rest) comes sent more =
     ap (λ xs. first_bags comes ∷ xs) (same_arriving rest (drop 1 comes) (drop 1 sent) more)
 same_arriving {models = models} (coupled name m {inside = inside} {rest = rest} {within = within} {others = others} h others_h)
     comes sent more =

@@ -12,7 +12,7 @@ use Rattle.dv_syntax.specs.Trees.{ModelTree, AtomicModel, CoupledModel, CoupledT
 use Rattle.dv_syntax.specs.declared.tree.Name.{Name}
 use Rattle.dv_syntax.specs.declared.tree.Part.{Part}
 use Rattle.dv_syntax.specs.declared.tree.Link.{Link}
-use Rattle.dv_eval.specs.Scope.{place_of}
+use Rattle.dv_eval.specs.Scope.{index_of}
 use Rattle.dv_bag.specs.Bag.{Counts, bag_at, total}
 use Rattle.dv_check.specs.CheckedFiles.{IsCheckedCoupled, IsCheckedFile, IsCheckedModel, LeadsOn}
 use Rattle.dv_check.specs.Names.{model_named, name_of_model, numbers_of}
@@ -20,19 +20,19 @@ use Rattle.dv_check.specs.Couplings.{same_part}
 use Rattle.dv_check.specs.Tree.{PartTree, NoParts, AtomicPart, CoupledPart, component_count, parts_by, parts_to, tree_of, with_part}
 use Rattle.dv_check.specs.Limits.{greatest_depth}
 use Rattle.dv_tree.specs.Instances.{coupled_model, root_of}
-use Rattle.dv_tree.specs.Couplings.{Shown, coupling_from_part, couplings_of_inputs, couplings_of_parts, part_couplings, place_at}
-use Rattle.dv_tree.specs.Couplings.{place_in, placed_between, placed_link, placed_links, shown_parts}
+use Rattle.dv_tree.specs.Couplings.{Shown, coupling_from_part, couplings_of_inputs, couplings_of_parts, part_couplings, index_at}
+use Rattle.dv_tree.specs.Couplings.{index_in, resolved_between, resolved_link, resolved_links, shown_parts}
 use Rattle.dv_tree.specs.Routing.{Arrived, along, along_all, arrives, arrives_in_root, arriving, first_bags, from_parts}
 use Rattle.dv_tree.specs.Routing.{joined_at, leaving, nothing_at, to_parts, with_coupling, with_values}
 use Rattle.dv_tree.specs.declared.couplings.Target.{Target}
 use Rattle.dv_tree.specs.declared.couplings.Target.TheVariants.{Own, OfPart}
 use Rattle.dv_tree.specs.declared.couplings.Coupling.{Coupling}
-use Rattle.dv_tree.specs.declared.couplings.PlacedLink.{PlacedLink}
+use Rattle.dv_tree.specs.declared.couplings.ResolvedLink.{ResolvedLink}
 use Rattle.dv_tree.proofs.Along.{along_none}
 use Rattle.dv_tree.proofs.Fitting.{all_made}
 use Rattle.dv_tree.proofs.Kept.{first_dropped, first_is}
 use Rattle.dv_tree.proofs.Named.{length-instances_in}
-use Rattle.dv_tree.proofs.PlaceLemmas.{place_of-cons}
+use Rattle.dv_tree.proofs.IndexLemmas.{index_of-cons}
 use Rattle.dv_tree.proofs.Received.{length-arriving}
 use Rattle.dv_tree.proofs.Standing.{none_standing}
 
@@ -62,7 +62,7 @@ IsOnward models (AtomicPart name m rest) = IsOnward models rest
 IsOnward models (CoupledPart name m inside rest) =
     LeadOnward (couplings_of_parts models m) × IsOnward models inside × IsOnward models rest
 
--- the place of the part in which a component lies
+-- the index of the part in which a component lies
 abbrev part_of : PartTree → ℕ → ℕ
 part_of NoParts c = 0
 part_of (AtomicPart name m rest) zero = 0
@@ -82,19 +82,19 @@ name_chosen : (name n : ℕ) (names : List ℕ) (o : Option ℕ) (b : Bool) → 
 name_chosen name n names o true e h = eqb-true n name e
 name_chosen name n names o false e h = h
 
-place_names : (name : ℕ) (names : List ℕ) → IfSome (place_of name names) (λ k. get_or names k 0 ≡ name)
-place_names name [] = tt
-place_names name (n ∷ names) =
+index_names : (name : ℕ) (names : List ℕ) → IfSome (index_of name names) (λ k. get_or names k 0 ≡ name)
+index_names name [] = tt
+index_names name (n ∷ names) =
     let Names : Option ℕ → Type 0 = λ o. IfSome o (λ k. get_or (n ∷ names) k 0 ≡ name) in
-    subst Names (sym (place_of-cons name n names))
-    (name_chosen name n names (option_map suc (place_of name names)) (eqb n name) refl
-    (name_later name n names (place_of name names) (place_names name names)))
+    subst Names (sym (index_of-cons name n names))
+    (name_chosen name n names (option_map suc (index_of name names)) (eqb n name) refl
+    (name_later name n names (index_of name names) (index_names name names)))
 
 module _ (names : List ℕ) (j : ℕ) where
-  LeadsAway : Option PlacedLink → Type 0
-  LeadsAway o = IfSome o (λ (l : PlacedLink). IfSome (coupling_from_part j l.from l.to) (λ (c : Coupling). IsElsewhere j c.target))
+  LeadsAway : Option ResolvedLink → Type 0
+  LeadsAway o = IfSome o (λ (l : ResolvedLink). IfSome (coupling_from_part j l.from l.to) (λ (c : Coupling). IsElsewhere j c.target))
 
-  away_own : (from : Option ℕ) (to : Option Target) → LeadsAway (placed_between (option_map Own from) to)
+  away_own : (from : Option ℕ) (to : Option Target) → LeadsAway (resolved_between (option_map Own from) to)
   unfolding LeadsAway
   away_own None to = tt
   away_own (Some port) None = tt
@@ -105,14 +105,14 @@ module _ (names : List ℕ) (j : ℕ) where
   away_chosen port part to true e h = h (eqb-true part j e)
   away_chosen port part to false e h = tt
 
-  away_out : (part : ℕ) (from : Option ℕ) (to : Option ℕ) → LeadsAway (placed_between (option_map (OfPart part) from) (option_map Own to))
+  away_out : (part : ℕ) (from : Option ℕ) (to : Option ℕ) → LeadsAway (resolved_between (option_map (OfPart part) from) (option_map Own to))
   unfolding LeadsAway
   away_out part None to = tt
   away_out part (Some port) None = tt
   away_out part (Some port) (Some out) = away_chosen port part (Own out) (eqb part j) refl (λ e. tt)
 
   away_between : (part other : ℕ) (from to : Option ℕ) → part ≢ other →
-      LeadsAway (placed_between (option_map (OfPart part) from) (option_map (OfPart other) to))
+      LeadsAway (resolved_between (option_map (OfPart part) from) (option_map (OfPart other) to))
   unfolding LeadsAway
   away_between part other None to apart = tt
   away_between part other (Some port) None apart = tt
@@ -120,46 +120,46 @@ module _ (names : List ℕ) (j : ℕ) where
       away_chosen port part (OfPart other in_port) (eqb part j) refl (λ e same. apart (e ∙ sym same))
 
   module _ (own_inputs own_outputs : List ℕ) (inputs outputs : List (List ℕ)) where
-    away_none : (to : Option Target) → LeadsAway (placed_between None to)
+    away_none : (to : Option Target) → LeadsAway (resolved_between None to)
     unfolding LeadsAway
     away_none to = tt
 
-    away_nowhere : (from : Option Target) → LeadsAway (placed_between from None)
+    away_nowhere : (from : Option Target) → LeadsAway (resolved_between from None)
     unfolding LeadsAway
     away_nowhere None = tt
     away_nowhere (Some from) = tt
 
-    away_exit : (from : ℕ) (p : Option ℕ) (to : Option ℕ) → LeadsAway (placed_between (place_in outputs from p) (option_map Own to))
+    away_exit : (from : ℕ) (p : Option ℕ) (to : Option ℕ) → LeadsAway (resolved_between (index_in outputs from p) (option_map Own to))
     away_exit from None to = away_none (option_map Own to)
-    away_exit from (Some part) to = away_out part (place_of from (get_or outputs part [])) to
+    away_exit from (Some part) to = away_out part (index_of from (get_or outputs part [])) to
 
     away_parts : (a b : Name) (from to : ℕ) (p q : Option ℕ) → IfSome p (λ k. get_or names k 0 ≡ a.number) →
         IfSome q (λ k. get_or names k 0 ≡ b.number) → eqb a.number b.number ≡ false →
-        LeadsAway (placed_between (place_in outputs from p) (place_in inputs to q))
-    away_parts a b from to None q hp hq apart = away_none (place_in inputs to q)
-    away_parts a b from to (Some part) None hp hq apart = away_nowhere (place_in outputs from (Some part))
+        LeadsAway (resolved_between (index_in outputs from p) (index_in inputs to q))
+    away_parts a b from to None q hp hq apart = away_none (index_in inputs to q)
+    away_parts a b from to (Some part) None hp hq apart = away_nowhere (index_in outputs from (Some part))
     away_parts a b from to (Some part) (Some other) hp hq apart =
-        away_between part other (place_of from (get_or outputs part [])) (place_of to (get_or inputs other []))
+        away_between part other (index_of from (get_or outputs part [])) (index_of to (get_or inputs other []))
         (λ same. eqb-false a.number b.number apart (sym hp ∙ (ap (λ k. get_or names k 0) same ∙ hq)))
 
     away_link : (a b : Option Name) (from to : ℕ) → same_part a b ≡ false →
-        LeadsAway (placed_between (place_at own_inputs names outputs a from) (place_at own_outputs names inputs b to))
-    away_link None b from to apart = away_own (place_of from own_inputs) (place_at own_outputs names inputs b to)
-    away_link (Some a) None from to apart = away_exit from (place_of a.number names) (place_of to own_outputs)
+        LeadsAway (resolved_between (index_at own_inputs names outputs a from) (index_at own_outputs names inputs b to))
+    away_link None b from to apart = away_own (index_of from own_inputs) (index_at own_outputs names inputs b to)
+    away_link (Some a) None from to apart = away_exit from (index_of a.number names) (index_of to own_outputs)
     away_link (Some a) (Some b) from to apart =
-        away_parts a b from to (place_of a.number names) (place_of b.number names) (place_names a.number names)
-        (place_names b.number names) apart
+        away_parts a b from to (index_of a.number names) (index_of b.number names) (index_names a.number names)
+        (index_names b.number names) apart
 
 -- the couplings of an accepted model
 module _ (models : List ModelTree) (m : CoupledTree) where
   abbrev names_shown : List ℕ
   names_shown = map (λ (s : Shown). s.name) (shown_parts models m)
 
-  abbrev IsAway : ℕ → PlacedLink → Type 0
+  abbrev IsAway : ℕ → ResolvedLink → Type 0
   IsAway j l = IfSome (coupling_from_part j l.from l.to) (λ (c : Coupling). IsElsewhere j c.target)
 
   links_away : (j : ℕ) (links : List Link) → AllByRecursion (LeadsOn models m) links →
-      AllByRecursion (λ l. IfSome (placed_link m (shown_parts models m) l) (IsAway j)) links
+      AllByRecursion (λ l. IfSome (resolved_link m (shown_parts models m) l) (IsAway j)) links
   unfolding LeadsAway
   links_away j [] h = tt
   links_away j (l ∷ links) h = (
@@ -174,13 +174,13 @@ module _ (models : List ModelTree) (m : CoupledTree) where
       let Elsewhere : List Coupling → Type 0 = LeadElsewhere j in
       ⊎_elim
       (λ (within : j < n).
-      subst Elsewhere (sym (get_or-map-range_with_len (part_couplings (placed_links models m)) 0 n j j [] within (omega arith)))
-      (all_made (λ (c : Coupling). IsElsewhere j c.target) (λ (l : PlacedLink). coupling_from_part j l.from l.to) (placed_links models m)
-      (all_made (IsAway j) (placed_link m (shown_parts models m)) m.links (links_away j m.links accepted.links))))
+      subst Elsewhere (sym (get_or-map-range_with_len (part_couplings (resolved_links models m)) 0 n j j [] within (omega arith)))
+      (all_made (λ (c : Coupling). IsElsewhere j c.target) (λ (l : ResolvedLink). coupling_from_part j l.from l.to) (resolved_links models m)
+      (all_made (IsAway j) (resolved_link m (shown_parts models m)) m.links (links_away j m.links accepted.links))))
       (λ (past : n ≤ j).
       subst Elsewhere
       (sym (get_or_past (couplings_of_parts models m) j []
-      (omega (arith, past, length-map-range_with_len (part_couplings (placed_links models m)) 0 n)))) tt) (cases_lt j n)
+      (omega (arith, past, length-map-range_with_len (part_couplings (resolved_links models m)) 0 n)))) tt) (cases_lt j n)
 
 -- a model that a name stands for is accepted
 first_accepted : (all : List ModelTree) (x : ModelTree) (b : Bool) (o : Option ModelTree) → IsCheckedModel all x →

@@ -10,19 +10,19 @@ use Rattle.dv_syntax.specs.Trees.{ModelTree, AtomicModel, CoupledModel, CoupledT
 use Rattle.dv_syntax.specs.declared.tree.Model.{Model}
 use Rattle.dv_syntax.specs.declared.tree.Name.{Name}
 use Rattle.dv_syntax.specs.declared.tree.Part.{Part}
-use Rattle.dv_eval.specs.Scope.{place_of}
+use Rattle.dv_eval.specs.Scope.{index_of}
 use Rattle.dv_bag.specs.Bag.{Counts}
 use Rattle.dv_check.specs.Names.{model_named, name_of_model}
 use Rattle.dv_check.specs.Limits.{greatest_depth}
 use Rattle.dv_check.specs.Tree.{PartTree, NoParts, AtomicPart, CoupledPart, component_count, parts_by, parts_to, tree_of, with_part}
-use Rattle.dv_tree.specs.Couplings.{Shown, couplings_of_inputs, couplings_of_parts, own_couplings, part_couplings, placed_link}
+use Rattle.dv_tree.specs.Couplings.{Shown, couplings_of_inputs, couplings_of_parts, own_couplings, part_couplings, resolved_link}
 use Rattle.dv_tree.specs.Couplings.{shown_by, shown_of, shown_parts}
 use Rattle.dv_tree.specs.Instances.{coupled_model, root_of, tree_in}
-use Rattle.dv_tree.specs.Reached.{AreReached, AsPart, AsRoot, borrowed_models, has_mark, marked, model_place, parts_inside, text_of_reached}
+use Rattle.dv_tree.specs.Reached.{AreReached, AsPart, AsRoot, borrowed_models, has_mark, marked, model_index, parts_inside, text_of_reached}
 use Rattle.dv_tree.specs.Routing.{Arrived, along, along_all, arrives_in_root, arriving, first_bags, from_parts, leaves_root, leaving}
 use Rattle.dv_tree.specs.Routing.{to_parts}
 use Rattle.dv_tree.specs.Tables.{model_names}
-use Rattle.dv_tree.proofs.PlaceLemmas.{place_of-cons}
+use Rattle.dv_tree.proofs.IndexLemmas.{index_of-cons}
 
 -- ---- Models with marks
 
@@ -40,31 +40,31 @@ pub record AreEnough (f : FileTree) (reached : List ModelTree) : Type 0 where
   pub root : MeansTheSame f.models reached f.root.number
   pub parts : (n : ℕ) (m : CoupledTree) → model_named n reached ≡ Some (CoupledModel m) → HaveModels f.models reached m.parts
 
--- whether the model at a place has a mark; where there is no place there is nothing to mark
+-- whether the model at an index has a mark; where there is no index there is nothing to mark
 abbrev is_marked : List Bool → Option ℕ → Bool
 is_marked marks None = true
-is_marked marks (Some place) = has_mark marks place
+is_marked marks (Some index) = has_mark marks index
 
--- nothing is named where no place is
-none_named : (n : ℕ) (models : List ModelTree) → is_marked [] (place_of n (model_names models)) ≡ true → None ≡ model_named n models
+-- nothing is named where no index is
+none_named : (n : ℕ) (models : List ModelTree) → is_marked [] (index_of n (model_names models)) ≡ true → None ≡ model_named n models
 none_named n [] e = refl
 none_named n (m ∷ models) e =
     let At : Option ℕ → Type 0 = λ o. is_marked [] o ≡ true in
-    named_at (eqb (name_of_model m).number n) m (model_named n models) (place_of n (model_names models))
-    (none_named n models) (subst At (place_of-cons n (name_of_model m).number (model_names models)) e)
+    named_at (eqb (name_of_model m).number n) m (model_named n models) (index_of n (model_names models))
+    (none_named n models) (subst At (index_of-cons n (name_of_model m).number (model_names models)) e)
   where
-    named_at : (b : Bool) (m : ModelTree) (rest : Option ModelTree) (place : Option ℕ) → (is_marked [] place ≡ true → None ≡ rest) →
-        is_marked [] (cond b (Some 0) (option_map suc place)) ≡ true → None ≡ cond b (Some m) rest
-    named_at true m rest place none e = absurd (cc)
+    named_at : (b : Bool) (m : ModelTree) (rest : Option ModelTree) (index : Option ℕ) → (is_marked [] index ≡ true → None ≡ rest) →
+        is_marked [] (cond b (Some 0) (option_map suc index)) ≡ true → None ≡ cond b (Some m) rest
+    named_at true m rest index none e = absurd (cc)
     named_at false m rest None none e = none refl
     named_at false m rest (Some p) none e = absurd (cc)
 
 -- a name whose model has a mark means the same among the models with marks
-marked_at : (b : Bool) (marks : List Bool) (place : Option ℕ) (m : ModelTree) (mark : Bool) (some all : Option ModelTree) →
-    (is_marked marks place ≡ true → some ≡ all) → is_marked (mark ∷ marks) (cond b (Some 0) (option_map suc place)) ≡ true →
+marked_at : (b : Bool) (marks : List Bool) (index : Option ℕ) (m : ModelTree) (mark : Bool) (some all : Option ModelTree) →
+    (is_marked marks index ≡ true → some ≡ all) → is_marked (mark ∷ marks) (cond b (Some 0) (option_map suc index)) ≡ true →
     cond mark (cond b (Some m) some) some ≡ cond b (Some m) all
-marked_at true marks place m true some all same e = refl
-marked_at true marks place m false some all same e = absurd (cc)
+marked_at true marks index m true some all same e = refl
+marked_at true marks index m false some all same e = absurd (cc)
 marked_at false marks None m true some all same e = same refl
 marked_at false marks None m false some all same e = same refl
 marked_at false marks (Some p) m true some all same e = same e
@@ -76,16 +76,16 @@ marked_first : (mark : Bool) (marks : List Bool) (m : ModelTree) (models : List 
 marked_first true marks m models n = refl
 marked_first false marks m models n = refl
 
-pub means_the_same : (marks : List Bool) (models : List ModelTree) (n : ℕ) → is_marked marks (place_of n (model_names models)) ≡ true →
+pub means_the_same : (marks : List Bool) (models : List ModelTree) (n : ℕ) → is_marked marks (index_of n (model_names models)) ≡ true →
     MeansTheSame models (marked marks models) n
 means_the_same marks [] n e = refl
 means_the_same [] (m ∷ models) n e = none_named n (m ∷ models) e
 means_the_same (mark ∷ marks) (m ∷ models) n e =
     let At : Option ℕ → Type 0 = λ o. is_marked (mark ∷ marks) o ≡ true in
     marked_first mark marks m models n
-    ∙ marked_at (eqb (name_of_model m).number n) marks (place_of n (model_names models)) m mark
+    ∙ marked_at (eqb (name_of_model m).number n) marks (index_of n (model_names models)) m mark
     (model_named n (marked marks models)) (model_named n models) (means_the_same marks models n)
-    (subst At (place_of-cons n (name_of_model m).number (model_names models)) e)
+    (subst At (index_of-cons n (name_of_model m).number (model_names models)) e)
 
 is_marked_at : (marks : List Bool) (o : Option ℕ) → ((q : ℕ) → o ≡ Some q → has_mark marks q ≡ true) → is_marked marks o ≡ true
 is_marked_at marks None each = refl
@@ -93,12 +93,12 @@ is_marked_at marks (Some q) each = each q refl
 
 -- parts whose models have marks
 have_models : (marks : List Bool) (models : List ModelTree) (parts : List Part) →
-    ((k : ℕ) (p : Part) (q : ℕ) → slice_get parts k ≡ Some p → place_of p.model.number (model_names models) ≡ Some q →
+    ((k : ℕ) (p : Part) (q : ℕ) → slice_get parts k ≡ Some p → index_of p.model.number (model_names models) ≡ Some q →
     has_mark marks q ≡ true) → HaveModels models (marked marks models) parts
 have_models marks models [] each = tt
 have_models marks models (p ∷ parts) each = (
   means_the_same marks models p.model.number
-      (is_marked_at marks (place_of p.model.number (model_names models)) (λ q is. each zero p q refl is)),
+      (is_marked_at marks (index_of p.model.number (model_names models)) (λ q is. each zero p q refl is)),
   have_models marks models parts (λ k. each (suc k)),
 )
 
@@ -123,7 +123,7 @@ pub are_enough : (f : FileTree) (reached : List ModelTree) → AreReached f reac
 are_enough f reached h =
     subst (AreEnough f) (sym h.are) (record {
       root = means_the_same h.marks f.models f.root.number
-          (is_marked_at h.marks (model_place f f.root.number) (λ q is. (h.exactly q).1 (AsRoot is)));
+          (is_marked_at h.marks (model_index f f.root.number) (λ q is. (h.exactly q).1 (AsRoot is)));
       parts = λ n m named. named_marked (λ x. HaveModels f.models (marked h.marks f.models) (parts_inside x))
           h.marks f.models n (CoupledModel m)
           (λ q x has there. have_models h.marks f.models (parts_inside x)
@@ -158,25 +158,25 @@ pub borrowed_more : (models : List (Bor Model)) (m : Bor Model) →
 borrowed_more [] m = refl
 borrowed_more (x ∷ models) m = ap (λ ms. model_of x.now ∷ ms) (borrowed_more models m)
 
--- one more, with its place
-pub places_more : (all : List ModelTree) (places : List ℕ) (found : List ModelTree) (place : ℕ) (m : ModelTree) →
-    slice_get all place ≡ Some m → map (slice_get all) places ≡ map Some found →
-    map (slice_get all) (places ++ place ∷ []) ≡ map Some (found ++ m ∷ [])
-places_more all [] [] place m there so_far = ap (λ o. o ∷ []) there
-places_more all [] (x ∷ found) place m there so_far = absurd (cc)
-places_more all (p ∷ places) [] place m there so_far = absurd (cc)
-places_more all (p ∷ places) (x ∷ found) place m there so_far =
+-- one more, with its index
+pub indices_more : (all : List ModelTree) (indices : List ℕ) (found : List ModelTree) (index : ℕ) (m : ModelTree) →
+    slice_get all index ≡ Some m → map (slice_get all) indices ≡ map Some found →
+    map (slice_get all) (indices ++ index ∷ []) ≡ map Some (found ++ m ∷ [])
+indices_more all [] [] index m there so_far = ap (λ o. o ∷ []) there
+indices_more all [] (x ∷ found) index m there so_far = absurd (cc)
+indices_more all (p ∷ indices) [] index m there so_far = absurd (cc)
+indices_more all (p ∷ indices) (x ∷ found) index m there so_far =
     let first : slice_get all p ≡ Some x = cc in
-    let rest : map (slice_get all) places ≡ map Some found = cc in
-    ap (λ o. o ∷ map (slice_get all) (places ++ place ∷ [])) first
-    ∙ ap (λ os. Some x ∷ os) (places_more all places found place m there rest)
+    let rest : map (slice_get all) indices ≡ map Some found = cc in
+    ap (λ o. o ∷ map (slice_get all) (indices ++ index ∷ [])) first
+    ∙ ap (λ os. Some x ∷ os) (indices_more all indices found index m there rest)
 
--- the model that is read at a place
-pub model_read_at : (models : List Model) (place : ℕ) (m d : Model) → place < length models → m ≡ get_or models place d →
-    slice_get (map model_of models) place ≡ Some (model_of m)
-model_read_at models place m d within read =
-    slice_get-map model_of models place
-    ∙ ap (option_map model_of) (slice_get-get_or models place d within ∙ ap Some (sym read))
+-- the model that is read at an index
+pub model_read_at : (models : List Model) (index : ℕ) (m d : Model) → index < length models → m ≡ get_or models index d →
+    slice_get (map model_of models) index ≡ Some (model_of m)
+model_read_at models index m d within read =
+    slice_get-map model_of models index
+    ∙ ap (option_map model_of) (slice_get-get_or models index d within ∙ ap Some (sym read))
 
 -- ---- What a coupled model shows of its parts
 
@@ -192,17 +192,17 @@ module _ (models reached : List ModelTree) (m : CoupledTree) (h : HaveModels mod
   shown_are = shown_same models reached m.parts h
 
   pub own_same : couplings_of_inputs reached m ≡ couplings_of_inputs models m
-  own_same = ap (λ shown. own_couplings (filter_map (placed_link m shown) m.links)) shown_are
+  own_same = ap (λ shown. own_couplings (filter_map (resolved_link m shown) m.links)) shown_are
 
   pub parts_same : couplings_of_parts reached m ≡ couplings_of_parts models m
   parts_same =
-      ap (λ (shown : List Shown). map (part_couplings (filter_map (placed_link m shown) m.links)) (range_with_len 0 (length shown)))
+      ap (λ (shown : List Shown). map (part_couplings (filter_map (resolved_link m shown) m.links)) (range_with_len 0 (length shown)))
       shown_are
 
   pub from_same : (bags : List (List Counts)) → from_parts reached m bags ≡ from_parts models m bags
   from_same bags =
       ap (λ (shown : List Shown). along_all
-      (map (part_couplings (filter_map (placed_link m shown) m.links)) (range_with_len 0 (length shown))) bags
+      (map (part_couplings (filter_map (resolved_link m shown) m.links)) (range_with_len 0 (length shown))) bags
       (record {
         own = replicate (length m.outputs) [];
         parts = map (λ (s : Shown). replicate (length s.inputs) []) shown;

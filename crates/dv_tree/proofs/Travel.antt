@@ -10,7 +10,7 @@ use Rattle.dv_tree.specs.Tables.{LevelTable}
 use Rattle.dv_tree.specs.Nodes.{Nodes, NoNodes, level_at, nodes_by, nodes_to, with_node, atomic_count, coupled_count}
 use Rattle.dv_tree.specs.Nodes.{nothing_in, from_level, leaving_nodes, kept_nodes, arriving_nodes, part_count, part_leaving, part_kept}
 use Rattle.dv_tree.specs.declared.couplings.Coupling.{Coupling}
-use Rattle.dv_tree.specs.declared.placed_parts.PlacedPart.{PlacedPart}
+use Rattle.dv_tree.specs.declared.resolved_parts.ResolvedPart.{ResolvedPart}
 use Rattle.dv_tree.proofs.Below.{nodes_of_table}
 
 -- nothing leaves
@@ -53,32 +53,32 @@ record Precedes (nodes : Nodes) (sent : List (List Counts)) (count : ℕ) (bags 
   pub leaves : bags ∷ leaving_nodes others (drop count sent) ≡ leaving_nodes nodes sent
   pub keeps : own ++ kept_nodes others (drop count sent) ≡ kept_nodes nodes sent
 
-precedes : (inside : LevelTable → Nodes) (e : PlacedPart) (o : Option LevelTable) (others : Nodes) (sent : List (List Counts)) →
+precedes : (inside : LevelTable → Nodes) (e : ResolvedPart) (o : Option LevelTable) (others : Nodes) (sent : List (List Counts)) →
     Precedes (with_node inside e o others) sent (part_count inside o) (part_leaving inside o sent) (part_kept inside o sent) others
 precedes inside e None others sent = record { counted = omega arith; leaves = refl; keeps = refl }
 precedes inside e (Some l) others sent = record { counted = refl; leaves = refl; keeps = refl }
 
--- the part at a place, and those behind it
-part_at : (inside : LevelTable → Nodes) (levels : List (Option LevelTable)) (placed : List PlacedPart) (i : ℕ) (e : PlacedPart)
-    (o : Option LevelTable) → i < length placed → o ≡ level_at levels (get_or placed i e).model →
-    nodes_by inside levels (drop i placed) ≡ with_node inside (get_or placed i e) o (nodes_by inside levels (drop (i + 1) placed))
-part_at inside levels placed i e o within is =
-    ap (nodes_by inside levels) (drop_more placed i e within)
-    ∙ ap (λ x. with_node inside (get_or placed i e) x (nodes_by inside levels (drop (i + 1) placed))) (sym is)
+-- the part at an index, and those behind it
+part_at : (inside : LevelTable → Nodes) (levels : List (Option LevelTable)) (resolved : List ResolvedPart) (i : ℕ) (e : ResolvedPart)
+    (o : Option LevelTable) → i < length resolved → o ≡ level_at levels (get_or resolved i e).model →
+    nodes_by inside levels (drop i resolved) ≡ with_node inside (get_or resolved i e) o (nodes_by inside levels (drop (i + 1) resolved))
+part_at inside levels resolved i e o within is =
+    ap (nodes_by inside levels) (drop_more resolved i e within)
+    ∙ ap (λ x. with_node inside (get_or resolved i e) x (nodes_by inside levels (drop (i + 1) resolved))) (sym is)
 
 -- up from one part
 pub risen_part : (couplings : List (List Coupling)) (inside : LevelTable → Nodes) (levels : List (Option LevelTable))
-    (placed : List PlacedPart) (i : ℕ) (e : PlacedPart) (o : Option LevelTable) (cs : List Coupling) (sent rest : List (List Counts))
+    (resolved : List ResolvedPart) (i : ℕ) (e : ResolvedPart) (o : Option LevelTable) (cs : List Coupling) (sent rest : List (List Counts))
     (before arrived : Arrived) (old kept : List Arrived) {sent_then : List (List Counts)} {arrived_then : Arrived}
-    {kept_then : List Arrived} → i < length placed → o ≡ level_at levels (get_or placed i e).model → cs ≡ get_or couplings i [] →
-    Rises couplings (nodes_by inside levels (drop i placed)) i sent before old sent_then arrived_then kept_then →
+    {kept_then : List Arrived} → i < length resolved → o ≡ level_at levels (get_or resolved i e).model → cs ≡ get_or couplings i [] →
+    Rises couplings (nodes_by inside levels (drop i resolved)) i sent before old sent_then arrived_then kept_then →
     rest ≡ drop (part_count inside o) sent → arrived ≡ along cs (part_leaving inside o sent) before →
     kept ≡ old ++ part_kept inside o sent →
-    Rises couplings (nodes_by inside levels (drop (i + 1) placed)) (i + 1) rest arrived kept sent_then arrived_then kept_then
-risen_part couplings inside levels placed i e o cs sent rest before arrived old kept within is cs_is r rest_is arrived_is kept_is =
-    let others = nodes_by inside levels (drop (i + 1) placed) in
-    let nodes = part_at inside levels placed i e o within is in
-    let p = precedes inside (get_or placed i e) o others sent in
+    Rises couplings (nodes_by inside levels (drop (i + 1) resolved)) (i + 1) rest arrived kept sent_then arrived_then kept_then
+risen_part couplings inside levels resolved i e o cs sent rest before arrived old kept within is cs_is r rest_is arrived_is kept_is =
+    let others = nodes_by inside levels (drop (i + 1) resolved) in
+    let nodes = part_at inside levels resolved i e o within is in
+    let p = precedes inside (get_or resolved i e) o others sent in
     let count = part_count inside o in
     let bags = part_leaving inside o sent in
     let leaving = leaving_nodes others (drop count sent) in
@@ -112,37 +112,37 @@ in_slot l leaving old more pushed kept x arrived start slot kept_is pushed_is at
     ∙ ap (λ a. old ++ a ∷ more) (arrived_is ∙ ap (along_all l.of_parts leaving) start_is))
 
 -- at the end of the parts
-module _ (depth : ℕ) (levels : List (Option LevelTable)) (l : LevelTable) (placed : List PlacedPart) (some : depth ≢ 0)
-    (are : placed ≡ l.parts) (i : ℕ) (past : length placed ≤ i) where
+module _ (depth : ℕ) (levels : List (Option LevelTable)) (l : LevelTable) (resolved : List ResolvedPart) (some : depth ≢ 0)
+    (are : resolved ≡ l.parts) (i : ℕ) (past : length resolved ≤ i) where
   pub risen : (sent rest : List (List Counts)) (arrived start : Arrived) (kept pushed : List Arrived) →
-      Rises l.of_parts (nodes_by (nodes_to (depth - 1) levels) levels (drop i placed)) i rest arrived kept
-      (drop (atomic_count (nodes_by (nodes_to (depth - 1) levels) levels placed)) sent)
-      (along_all l.of_parts (leaving_nodes (nodes_by (nodes_to (depth - 1) levels) levels placed) sent) start)
-      (pushed ++ kept_nodes (nodes_by (nodes_to (depth - 1) levels) levels placed) sent) →
+      Rises l.of_parts (nodes_by (nodes_to (depth - 1) levels) levels (drop i resolved)) i rest arrived kept
+      (drop (atomic_count (nodes_by (nodes_to (depth - 1) levels) levels resolved)) sent)
+      (along_all l.of_parts (leaving_nodes (nodes_by (nodes_to (depth - 1) levels) levels resolved) sent) start)
+      (pushed ++ kept_nodes (nodes_by (nodes_to (depth - 1) levels) levels resolved) sent) →
       Rises l.of_parts NoNodes i rest arrived kept (drop (atomic_count (nodes_to depth levels l)) sent)
       (along_all l.of_parts (leaving_nodes (nodes_to depth levels l) sent) start) (pushed ++ kept_nodes (nodes_to depth levels l) sent)
   risen sent rest arrived start kept pushed r =
-      let From : List PlacedPart → Type 0 =
+      let From : List ResolvedPart → Type 0 =
       λ es. Rises l.of_parts (nodes_by (nodes_to (depth - 1) levels) levels es) i rest arrived kept
-      (drop (atomic_count (nodes_by (nodes_to (depth - 1) levels) levels placed)) sent)
-      (along_all l.of_parts (leaving_nodes (nodes_by (nodes_to (depth - 1) levels) levels placed) sent) start)
-      (pushed ++ kept_nodes (nodes_by (nodes_to (depth - 1) levels) levels placed) sent) in
+      (drop (atomic_count (nodes_by (nodes_to (depth - 1) levels) levels resolved)) sent)
+      (along_all l.of_parts (leaving_nodes (nodes_by (nodes_to (depth - 1) levels) levels resolved) sent) start)
+      (pushed ++ kept_nodes (nodes_by (nodes_to (depth - 1) levels) levels resolved) sent) in
       let All : Nodes → Type 0 =
       λ n. Rises l.of_parts NoNodes i rest arrived kept (drop (atomic_count n) sent) (along_all l.of_parts (leaving_nodes n sent) start)
       (pushed ++ kept_nodes n sent) in
-      subst All (nodes_of_table depth levels l placed some are) (subst From (drop_all i placed past) r)
+      subst All (nodes_of_table depth levels l resolved some are) (subst From (drop_all i resolved past) r)
 
   pub sunk : (parts : List (List Counts)) (kept before : List Arrived) (comes received old : List (List Counts)) →
-      Sinks (nodes_by (nodes_to (depth - 1) levels) levels (drop i placed)) parts kept received
-      (drop (coupled_count (nodes_by (nodes_to (depth - 1) levels) levels placed)) before)
-      (old ++ arriving_nodes (nodes_by (nodes_to (depth - 1) levels) levels placed) comes before) →
+      Sinks (nodes_by (nodes_to (depth - 1) levels) levels (drop i resolved)) parts kept received
+      (drop (coupled_count (nodes_by (nodes_to (depth - 1) levels) levels resolved)) before)
+      (old ++ arriving_nodes (nodes_by (nodes_to (depth - 1) levels) levels resolved) comes before) →
       Sinks NoNodes parts kept received (drop (coupled_count (nodes_to depth levels l)) before)
       (old ++ arriving_nodes (nodes_to depth levels l) comes before)
   sunk parts kept before comes received old s =
-      let From : List PlacedPart → Type 0 =
+      let From : List ResolvedPart → Type 0 =
       λ es. Sinks (nodes_by (nodes_to (depth - 1) levels) levels es) parts kept received
-      (drop (coupled_count (nodes_by (nodes_to (depth - 1) levels) levels placed)) before)
-      (old ++ arriving_nodes (nodes_by (nodes_to (depth - 1) levels) levels placed) comes before) in
+      (drop (coupled_count (nodes_by (nodes_to (depth - 1) levels) levels resolved)) before)
+      (old ++ arriving_nodes (nodes_by (nodes_to (depth - 1) levels) levels resolved) comes before) in
       let All : Nodes → Type 0 =
       λ n. Sinks NoNodes parts kept received (drop (coupled_count n) before) (old ++ arriving_nodes n comes before) in
-      subst All (nodes_of_table depth levels l placed some are) (subst From (drop_all i placed past) s)
+      subst All (nodes_of_table depth levels l resolved some are) (subst From (drop_all i resolved past) s)

@@ -1,5 +1,5 @@
 -- The components of a text: the atomic models in the tree of its root, in the order of the text, those of a coupled part in its
--- place.
+-- index.
 use Rattle.std.specs.Prelude.{ℕ, List, [], ◌∷◌, ◌++◌, Option, Some, None}
 use Rattle.dv_syntax.specs.Trees.{ModelTree, CoupledModel, AtomicTree, CoupledTree, FileTree}
 use Rattle.dv_syntax.specs.declared.tree.Name.{Name}

@@ -6,7 +6,7 @@ use Rattle.dv_tree.specs.Routing.{Arrived, along, along_all, first_bags}
 use Rattle.dv_syntax.specs.Trees.{FileTree}
 use Rattle.dv_check.specs.Limits.{greatest_depth}
 use Rattle.dv_tree.specs.Tables.{LevelTable, levels_of, root_table}
-use Rattle.dv_tree.specs.declared.placed_parts.PlacedPart.{PlacedPart}
+use Rattle.dv_tree.specs.declared.resolved_parts.ResolvedPart.{ResolvedPart}
 
 -- what has arrived is stored as the pair of its fields
 abbrev pub arrived_code : Coded Arrived
@@ -15,7 +15,7 @@ arrived_code =
     (coded× (coded_list (coded_list (coded× coded_ℤ coded_ℕ))) (coded_list (coded_list (coded_list (coded× coded_ℤ coded_ℕ)))))
     (λ a. (a.own, a.parts)) (λ p. record { own = p.0; parts = p.1 }) (λ _. refl)
 
--- parts in the order of the text, each with its name: none; or one and the rest, which has the place of its atomic model, or the
+-- parts in the order of the text, each with its name: none; or one and the rest, which has the index of its atomic model, or the
 -- table of its coupled one and the parts inside
 pub data Nodes : Type 0 where
   NoNodes : Nodes
@@ -23,23 +23,23 @@ pub data Nodes : Type 0 where
   CoupledNode : (name : ℕ) → (level : LevelTable) → (inside rest : Nodes) → Nodes
 
 -- a part by the table of its model, if it has one
-abbrev pub with_node : (LevelTable → Nodes) → PlacedPart → Option LevelTable → Nodes → Nodes
+abbrev pub with_node : (LevelTable → Nodes) → ResolvedPart → Option LevelTable → Nodes → Nodes
 with_node inside e None rest = AtomicNode e.name.number e.model rest
 with_node inside e (Some l) rest = CoupledNode e.name.number l (inside l) rest
 
 abbrev pub level_at : List (Option LevelTable) → ℕ → Option LevelTable
-level_at levels place = slice_index_or levels place None
+level_at levels index = slice_index_or levels index None
 
-abbrev pub nodes_by : (LevelTable → Nodes) → List (Option LevelTable) → List PlacedPart → Nodes
+abbrev pub nodes_by : (LevelTable → Nodes) → List (Option LevelTable) → List ResolvedPart → Nodes
 nodes_by inside levels [] = NoNodes
-nodes_by inside levels (e ∷ placed) = with_node inside e (level_at levels e.model) (nodes_by inside levels placed)
+nodes_by inside levels (e ∷ resolved) = with_node inside e (level_at levels e.model) (nodes_by inside levels resolved)
 
 -- the parts of a coupled model, down to so many levels
 abbrev pub nodes_to : ℕ → List (Option LevelTable) → LevelTable → Nodes
 nodes_to zero levels l = NoNodes
 nodes_to (suc depth) levels l = nodes_by (nodes_to depth levels) levels l.parts
 
--- the components inside: the path and the place of the model of each, where the paths begin with a path
+-- the components inside: the path and the index of the model of each, where the paths begin with a path
 abbrev pub components_in : List ℕ → Nodes → List (List ℕ × ℕ)
 components_in before NoNodes = []
 components_in before (AtomicNode name model rest) = (before ++ name ∷ [], model) ∷ components_in before rest
@@ -117,10 +117,10 @@ abbrev pub part_received : (LevelTable → Nodes) → Option LevelTable → List
 part_received inside None comes kept = comes ∷ []
 part_received inside (Some l) comes kept = through_level (arriving_nodes (inside l)) l comes kept
 
--- the table of the root, by its place
+-- the table of the root, by its index
 abbrev pub root_level : List (Option LevelTable) → Option ℕ → Option LevelTable
 root_level levels None = None
-root_level levels (Some place) = level_at levels place
+root_level levels (Some index) = level_at levels index
 
 -- the components of a text
 abbrev pub components_of_root : List (Option LevelTable) → Option LevelTable → List (List ℕ × ℕ)

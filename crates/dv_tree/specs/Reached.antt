@@ -5,7 +5,7 @@ use Rattle.std.specs.Borrow.{Bor}
 use Rattle.dv_syntax.specs.Trees.{ModelTree, AtomicModel, CoupledModel, FileTree, model_of}
 use Rattle.dv_syntax.specs.declared.tree.Model.{Model}
 use Rattle.dv_syntax.specs.declared.tree.Part.{Part}
-use Rattle.dv_eval.specs.Scope.{place_of}
+use Rattle.dv_eval.specs.Scope.{index_of}
 use Rattle.dv_tree.specs.Tables.{model_names}
 use Rattle.dv_tree.specs.declared.reached.Walk.{Walk}
 
@@ -32,23 +32,23 @@ marked [] (m ∷ models) = []
 marked (true ∷ marks) (m ∷ models) = m ∷ marked marks models
 marked (false ∷ marks) (m ∷ models) = marked marks models
 
--- whether the model at a place has a mark
+-- whether the model at an index has a mark
 abbrev pub has_mark : List Bool → ℕ → Bool
-has_mark marks place = slice_index_or marks place false
+has_mark marks index = slice_index_or marks index false
 
--- the place of the model that a name stands for
-abbrev pub model_place : FileTree → ℕ → Option ℕ
-model_place f name = place_of name (model_names f.models)
+-- the index of the model that a name stands for
+abbrev pub model_index : FileTree → ℕ → Option ℕ
+model_index f name = index_of name (model_names f.models)
 
--- The root leads to the model at a place: that is the root, or the model of a part of a model that the root leads to.
+-- The root leads to the model at an index: that is the root, or the model of a part of a model that the root leads to.
 pub data IsReached (f : FileTree) : ℕ → Type 0 where
-  AsRoot : {place : ℕ} → model_place f f.root.number ≡ Some place → IsReached f place
-  AsPart : {outer place : ℕ} (m : ModelTree) (k : ℕ) (p : Part) → IsReached f outer → slice_get f.models outer ≡ Some m →
-      slice_get (parts_inside m) k ≡ Some p → model_place f p.model.number ≡ Some place → IsReached f place
+  AsRoot : {index : ℕ} → model_index f f.root.number ≡ Some index → IsReached f index
+  AsPart : {outer index : ℕ} (m : ModelTree) (k : ℕ) (p : Part) → IsReached f outer → slice_get f.models outer ≡ Some m →
+      slice_get (parts_inside m) k ≡ Some p → model_index f p.model.number ≡ Some index → IsReached f index
 
 -- the models with a mark are those that the root leads to, and no others
 abbrev pub AreMarks : FileTree → List Bool → Type 0
-AreMarks f marks = (place : ℕ) → (has_mark marks place ≡ true) ↔ IsReached f place
+AreMarks f marks = (index : ℕ) → (has_mark marks index ≡ true) ↔ IsReached f index
 
 -- the models of a text that its root leads to and no others, in the order of the text
 pub record AreReached (f : FileTree) (reached : List ModelTree) : Type 0 where
@@ -56,7 +56,7 @@ pub record AreReached (f : FileTree) (reached : List ModelTree) : Type 0 where
   pub are : reached ≡ marked marks f.models
   pub exactly : AreMarks f marks
 
--- marks so far, and the places of marked models whose parts are still to be marked
+-- marks so far, and the indices of marked models whose parts are still to be marked
 pub record Marking : Type 0 where
   pub marks : List Bool
   pub waiting : List ℕ
@@ -64,14 +64,14 @@ pub record Marking : Type 0 where
 abbrev pub marking_of : Walk → Marking
 marking_of w = record { marks = w.marks.items; waiting = w.waiting.items }
 
--- with a mark for the model at a place, where there is one that has none, and its parts still to be marked
+-- with a mark for the model at an index, where there is one that has none, and its parts still to be marked
 abbrev pub with_mark : Option ℕ → Marking → Marking
 with_mark None m = m
-with_mark (Some place) m =
-    if slice_index_or m.marks place true then m else
-    record { marks = slice_set m.marks place true; waiting = m.waiting ++ place ∷ [] }
+with_mark (Some index) m =
+    if slice_index_or m.marks index true then m else
+    record { marks = slice_set m.marks index true; waiting = m.waiting ++ index ∷ [] }
 
 -- with marks for the models of these parts, by the names of all models
 abbrev pub with_marks : List ℕ → List Part → Marking → Marking
 with_marks names [] m = m
-with_marks names (p ∷ parts) m = with_marks names parts (with_mark (place_of p.model.number names) m)
+with_marks names (p ∷ parts) m = with_marks names parts (with_mark (index_of p.model.number names) m)

@@ -9,7 +9,7 @@ use Rattle.dv_syntax.specs.declared.tree.Declaration.TheVariants.{In, Out}
 use Rattle.dv_bag.specs.Bag.{Counts}
 
 abbrev pub name_of : ℕ → Name
-name_of number = record { number = number; place = 0 }
+name_of number = record { number = number; offset = 0 }
 
 -- the atomic model 1
 abbrev pub relay : AtomicTree
@@ -28,7 +28,7 @@ part_of name model = record { name = name_of name; model = name_of model }
 -- from a port of a part, or of the model itself, to another
 abbrev pub link_of : Option ℕ → ℕ → Option ℕ → ℕ → Link
 link_of from out to into = record {
-  place = 0;
+  offset = 0;
   from = record { part = option_map name_of from; port = name_of out };
   to = record { part = option_map name_of to; port = name_of into };
 }

@@ -10,19 +10,19 @@ use Rattle.dv_syntax.specs.declared.tree.Model.{Model}
 use Rattle.dv_syntax.specs.declared.tree.Name.{Name}
 use Rattle.dv_syntax.specs.declared.tree.Part.{Part}
 use Rattle.dv_syntax.specs.Trees.{ModelTree, AtomicModel, CoupledModel, CoupledTree, FileTree}
-use Rattle.dv_eval.specs.Scope.{Scope, scope_of, nothing_declared, place_of}
+use Rattle.dv_eval.specs.Scope.{Scope, scope_of, nothing_declared, index_of}
 use Rattle.dv_check.specs.Names.{name_of_model, numbers_of}
 use Rattle.dv_syntax.specs.declared.tree.Link.{Link}
 use Rattle.dv_tree.specs.Instances.{root_of}
-use Rattle.dv_tree.specs.Couplings.{Shown, shown_parts, place_at, placed_between, own_couplings, part_couplings}
+use Rattle.dv_tree.specs.Couplings.{Shown, shown_parts, index_at, resolved_between, own_couplings, part_couplings}
 use Rattle.dv_tree.specs.Couplings.{couplings_of_inputs, couplings_of_parts}
-use Rattle.dv_tree.specs.declared.couplings.PlacedLink.{PlacedLink}
+use Rattle.dv_tree.specs.declared.couplings.ResolvedLink.{ResolvedLink}
 use Rattle.dv_tree.specs.declared.couplings.Target.{Target}
 use Rattle.dv_tree.specs.declared.couplings.Target.TheVariants.{Own, OfPart}
 use Rattle.dv_tree.specs.contracts.couplings.Coupling as coupling
-use Rattle.dv_tree.specs.contracts.placed_parts.PlacedPart as placed
+use Rattle.dv_tree.specs.contracts.resolved_parts.ResolvedPart as resolved
 use Rattle.dv_tree.specs.declared.couplings.Coupling.{Coupling}
-use Rattle.dv_tree.specs.declared.placed_parts.PlacedPart.{PlacedPart}
+use Rattle.dv_tree.specs.declared.resolved_parts.ResolvedPart.{ResolvedPart}
 
 -- a checked file, the texts of its names, and the models of it of which there are tables
 pub record Source : Type 0 where
@@ -49,19 +49,19 @@ scope_of_model (CoupledModel m) = nothing_declared
 abbrev pub scopes_of : FileTree → List Scope
 scopes_of f = map scope_of_model f.models
 
--- a part with the place of its model, where that is known
-abbrev pub placed_part_at : Name → ℕ → PlacedPart
-placed_part_at name place = record { name = name; model = place }
+-- a part with the index of its model, where that is known
+abbrev pub resolved_part_at : Name → ℕ → ResolvedPart
+resolved_part_at name index = record { name = name; model = index }
 
-abbrev pub placed_part : List ℕ → Part → Option PlacedPart
-placed_part models p = option_map (placed_part_at p.name) (place_of p.model.number models)
+abbrev pub resolved_part : List ℕ → Part → Option ResolvedPart
+resolved_part models p = option_map (resolved_part_at p.name) (index_of p.model.number models)
 
-abbrev pub placed_parts : List ModelTree → CoupledTree → List PlacedPart
-placed_parts models m = filter_map (placed_part (model_names models)) m.parts
+abbrev pub resolved_parts : List ModelTree → CoupledTree → List ResolvedPart
+resolved_parts models m = filter_map (resolved_part (model_names models)) m.parts
 
 -- the table of a coupled model: its parts, the number of its outputs, the numbers of the inputs of its parts, its couplings
 pub record LevelTable : Type 0 where
-  pub parts : List PlacedPart
+  pub parts : List ResolvedPart
   pub outputs : ℕ
   pub inputs : List ℕ
   pub of_inputs : List Coupling
@@ -70,8 +70,8 @@ pub record LevelTable : Type 0 where
 -- a table is stored as the tuple of its fields
 abbrev pub level_code : Coded LevelTable
 level_code =
-    code_by (List PlacedPart × (ℕ × (List ℕ × (List Coupling × List (List Coupling)))))
-    (coded× (coded_list placed.the_row.coded)
+    code_by (List ResolvedPart × (ℕ × (List ℕ × (List Coupling × List (List Coupling)))))
+    (coded× (coded_list resolved.the_row.coded)
     (coded× coded_ℕ (coded× (coded_list coded_ℕ)
     (coded× (coded_list coupling.the_row.coded) (coded_list (coded_list coupling.the_row.coded))))))
     (λ t. (t.parts, (t.outputs, (t.inputs, (t.of_inputs, t.of_parts)))))
@@ -79,14 +79,14 @@ level_code =
 
 abbrev pub level_of : List ModelTree → CoupledTree → LevelTable
 level_of models m = record {
-  parts = placed_parts models m;
+  parts = resolved_parts models m;
   outputs = length m.outputs;
   inputs = map (λ (s : Shown). length s.inputs) (shown_parts models m);
   of_inputs = couplings_of_inputs models m;
   of_parts = couplings_of_parts models m;
 }
 
--- the tables of the coupled models, by the place of the model
+-- the tables of the coupled models, by the index of the model
 abbrev pub level_of_model : List ModelTree → ModelTree → Option LevelTable
 level_of_model models (AtomicModel m) = None
 level_of_model models (CoupledModel m) = Some (level_of models m)
@@ -99,33 +99,33 @@ abbrev pub root_table : FileTree → Option LevelTable
 root_table f = option_map (level_of f.models) (root_of f)
 
 -- a table from the names of the models and of their ports
-abbrev pub part_names : List PlacedPart → List ℕ
-part_names placed = map (λ (p : PlacedPart). p.name.number) placed
+abbrev pub part_names : List ResolvedPart → List ℕ
+part_names resolved = map (λ (p : ResolvedPart). p.name.number) resolved
 
-abbrev pub ports_at : List (List ℕ) → List PlacedPart → List (List ℕ)
-ports_at ports placed = map (λ (p : PlacedPart). slice_index_or ports p.model []) placed
+abbrev pub ports_at : List (List ℕ) → List ResolvedPart → List (List ℕ)
+ports_at ports resolved = map (λ (p : ResolvedPart). slice_index_or ports p.model []) resolved
 
-abbrev pub placed_by : List ℕ → List ℕ → List ℕ → List (List ℕ) → List (List ℕ) → Link → Option PlacedLink
-placed_by inputs outputs names part_inputs part_outputs l =
-    placed_between (place_at inputs names part_outputs l.from.part l.from.port.number)
-    (place_at outputs names part_inputs l.to.part l.to.port.number)
+abbrev pub resolved_by : List ℕ → List ℕ → List ℕ → List (List ℕ) → List (List ℕ) → Link → Option ResolvedLink
+resolved_by inputs outputs names part_inputs part_outputs l =
+    resolved_between (index_at inputs names part_outputs l.from.part l.from.port.number)
+    (index_at outputs names part_inputs l.to.part l.to.port.number)
 
-abbrev pub links_by : List (List ℕ) → List (List ℕ) → List PlacedPart → CoupledTree → List PlacedLink
-links_by inputs outputs placed m =
-    filter_map (placed_by (numbers_of m.inputs) (numbers_of m.outputs) (part_names placed) (ports_at inputs placed)
-    (ports_at outputs placed)) m.links
+abbrev pub links_by : List (List ℕ) → List (List ℕ) → List ResolvedPart → CoupledTree → List ResolvedLink
+links_by inputs outputs resolved m =
+    filter_map (resolved_by (numbers_of m.inputs) (numbers_of m.outputs) (part_names resolved) (ports_at inputs resolved)
+    (ports_at outputs resolved)) m.links
 
-abbrev pub level_with : List (List ℕ) → List (List ℕ) → List PlacedPart → CoupledTree → LevelTable
-level_with inputs outputs placed m = record {
-  parts = placed;
+abbrev pub level_with : List (List ℕ) → List (List ℕ) → List ResolvedPart → CoupledTree → LevelTable
+level_with inputs outputs resolved m = record {
+  parts = resolved;
   outputs = length m.outputs;
-  inputs = map length (ports_at inputs placed);
-  of_inputs = own_couplings (links_by inputs outputs placed m);
-  of_parts = map (part_couplings (links_by inputs outputs placed m)) (range_with_len 0 (length placed));
+  inputs = map length (ports_at inputs resolved);
+  of_inputs = own_couplings (links_by inputs outputs resolved m);
+  of_parts = map (part_couplings (links_by inputs outputs resolved m)) (range_with_len 0 (length resolved));
 }
 
 abbrev pub level_by : List ℕ → List (List ℕ) → List (List ℕ) → CoupledTree → LevelTable
-level_by models inputs outputs m = level_with inputs outputs (filter_map (placed_part models) m.parts) m
+level_by models inputs outputs m = level_with inputs outputs (filter_map (resolved_part models) m.parts) m
 
 abbrev pub level_by_model : List ℕ → List (List ℕ) → List (List ℕ) → ModelTree → Option LevelTable
 level_by_model models inputs outputs (AtomicModel m) = None
@@ -137,5 +137,5 @@ with_coupling_at (Own port) to lists = lists
 with_coupling_at (OfPart part port) to lists =
     slice_set lists part (slice_index_or lists part [] ++ record { port = port; target = to } ∷ [])
 
-abbrev pub with_link : List (List Coupling) → PlacedLink → List (List Coupling)
+abbrev pub with_link : List (List Coupling) → ResolvedLink → List (List Coupling)
 with_link lists l = with_coupling_at l.from l.to lists

@@ -9,7 +9,7 @@ use dv_lex::Names;
 use std::alloc::{AllocError, Global};
 use std::marker::Model;
 
-/// A component: the names of the parts that lead to it, as their numbers, and the place of its model among those of which
+/// A component: the names of the parts that lead to it, as their numbers, and the index of its model among those of which
 /// there are tables. So it takes the same memory however long the names are.
 #[derive(Drop)]
 pub(crate) struct Component {
@@ -33,7 +33,7 @@ impl Component {
         &self.path
     }
 
-    /// The place of the model.
+    /// The index of the model.
     pub(crate) fn model(&self) -> usize
         ensures { result ≡ self.now.1 }
     {
@@ -60,7 +60,7 @@ fn path_to(alloc: Global, before: &[u32], name: u32) -> Result<Vec<u32>, AllocEr
     Ok(path)
 }
 
-// Adds the component that an atomic part is, by the place of its model.
+// Adds the component that an atomic part is, by the index of its model.
 fn add_component(
     alloc: Global,
     before: &[u32],

@@ -1,4 +1,4 @@
-//! The links of a coupled model as places of ports.
+//! The links of a coupled model as indices of ports.
 
 ghost use Rattle.std.specs.Prelude.{◌≡◌, [], map, replicate, IfOk, OnOk};
 ghost use Rattle.std.specs.List.{range_with_len};
@@ -7,24 +7,30 @@ ghost use Rattle.dv_tree.specs.Tables.{with_link};
 
 use std::alloc::{AllocError, Global};
 
-/// A port by its place: a port of the coupled model itself, or of one of its parts.
+/// A port by its index: a port of the coupled model itself, or of one of its parts.
 #[derive(Clone, Copy, Debug, PartialEq, Eq)]
 pub enum Target {
+    /// A port of the coupled model itself, by its index.
     Own { port: usize },
+    /// A port of a part, by the indices of the part and of the port.
     OfPart { part: usize, port: usize },
 }
 
 /// What comes from a port of some model, and where it goes.
 #[derive(Clone, Copy, Debug, PartialEq, Eq)]
 pub struct Coupling {
+    /// The index of the port from which it leads.
     pub port: usize,
+    /// The port to which it leads.
     pub target: Target,
 }
 
-/// A link by the places of its two ends.
+/// A link by the indices of its two ends.
 #[derive(Clone, Copy, Debug, PartialEq, Eq)]
-pub struct PlacedLink {
+pub struct ResolvedLink {
+    /// The port from which it leads.
     pub from: Target,
+    /// The port to which it leads.
     pub to: Target,
 }
 
@@ -41,7 +47,7 @@ fn coupling_from_own(from: Target, to: Target) -> Option<Coupling>
 /// The couplings from the inputs of the model itself, in the order of the links.
 pub(crate) fn own_couplings(
     alloc: Global,
-    links: &[PlacedLink],
+    links: &[ResolvedLink],
 ) -> Result<Vec<Coupling>, AllocError>
     ensures { IfOk result (λ couplings. couplings.items ≡ own_couplings links.now) }
 {
@@ -58,7 +64,7 @@ pub(crate) fn own_couplings(
 pub(crate) fn part_couplings(
     alloc: Global,
     parts: usize,
-    links: &[PlacedLink],
+    links: &[ResolvedLink],
 ) -> Result<Vec<Vec<Coupling>>, AllocError>
     ensures { IfOk result (λ lists. map (λ list. list.items) lists.items
         ≡ map (part_couplings links.now) (range_with_len 0 parts)) }
@@ -81,7 +87,7 @@ fn empty_lists(alloc: Global, count: usize) -> Result<Vec<Vec<Coupling>>, AllocE
 }
 
 // The coupling that a link is joins those of its part.
-fn add_link(lists: &mut Vec<Vec<Coupling>>, link: &PlacedLink) -> Result<(), AllocError>
+fn add_link(lists: &mut Vec<Vec<Coupling>>, link: &ResolvedLink) -> Result<(), AllocError>
     ensures { OnOk result (map (λ list. list.items) lists.new.items
         ≡ with_link (map (λ list. list.items) lists.old.items) link.now) }
 {

@@ -3,17 +3,17 @@
 ghost use Rattle.std.specs.Prelude.{◌≡◌, [], length, map, replicate, slice_index_or, option_copied, IfOk};
 ghost use Rattle.std.specs.List.{filter_map};
 ghost use Rattle.dv_syntax.specs.Trees.{coupled_of, model_of};
-ghost use Rattle.dv_eval.specs.Scope.{place_of};
+ghost use Rattle.dv_eval.specs.Scope.{index_of};
 ghost use Rattle.dv_check.specs.Names.{numbers_of};
-ghost use Rattle.dv_tree.specs.Couplings.{place_at};
+ghost use Rattle.dv_tree.specs.Couplings.{index_at};
 ghost use Rattle.dv_tree.specs.Nodes.{level_at, nothing_in};
 ghost use Rattle.dv_tree.specs.Reached.{borrowed_models};
-ghost use Rattle.dv_tree.specs.Tables.{level_by, level_by_model, links_by, part_names, placed_by, ports_at};
+ghost use Rattle.dv_tree.specs.Tables.{level_by, level_by_model, links_by, part_names, resolved_by, ports_at};
 
 use crate::arrived::Arrived;
-use crate::couplings::{Coupling, PlacedLink, Target, own_couplings, part_couplings};
-use crate::placed_parts::{PlacedPart, part_names, placed_parts};
-use crate::places::Places;
+use crate::couplings::{Coupling, ResolvedLink, Target, own_couplings, part_couplings};
+use crate::indices::Indices;
+use crate::resolved_parts::{ResolvedPart, part_names, resolved_parts};
 use crate::tables::numbers;
 use dv_bag::Bags;
 use dv_syntax::{Coupled, End, Link, Model as ModelItem, Name};
@@ -24,7 +24,7 @@ use std::marker::Model;
 /// where they begin.
 #[derive(Drop)]
 pub struct Level {
-    parts: Vec<PlacedPart>,
+    parts: Vec<ResolvedPart>,
     outputs: usize,
     inputs: Vec<usize>,
     of_inputs: Vec<Coupling>,
@@ -50,7 +50,7 @@ impl Model for Level {
 
 impl Level {
     /// The parts in the order of the text.
-    pub fn parts(&self) -> &[PlacedPart]
+    pub fn parts(&self) -> &[ResolvedPart]
         ensures { result.now ≡ self.now.parts }
     {
         &self.parts
@@ -104,115 +104,119 @@ fn empty_bags(alloc: Global, ports: &[usize]) -> Result<Vec<Bags>, AllocError>
     Ok(bags)
 }
 
-// The place of an end of a link, by the ports of the model itself and those of each model.
-fn place_at(
+// The index of an end of a link, by the ports of the model itself and those of each model.
+fn index_at(
     end: &End,
-    own: &Places,
-    names: &Places,
-    parts: &[PlacedPart],
-    ports: &[Places],
+    own: &Indices,
+    names: &Indices,
+    parts: &[ResolvedPart],
+    ports: &[Indices],
 ) -> Option<Target>
-    ensures { result ≡ place_at own.now names.now (ports_at ports.now parts.now)
+    ensures { result ≡ index_at own.now names.now (ports_at ports.now parts.now)
         end.now.part end.now.port.number }
 {
     match end.part {
         None => {
-            let port = own.place(end.port.number)?;
+            let port = own.index_of(end.port.number)?;
             Some(Target::Own { port })
         }
         Some(name) => {
-            let part = names.place(name.number)?;
+            let part = names.index_of(name.number)?;
             let port = port_of(part, end.port.number, parts, ports)?;
             Some(Target::OfPart { part, port })
         }
     }
 }
 
-// The place of a port of a part.
-fn port_of(part: usize, port: u32, parts: &[PlacedPart], ports: &[Places]) -> Option<usize>
-    ensures { result ≡ place_of port (slice_index_or (ports_at ports.now parts.now) part []) }
+// The index of a port of a part.
+fn port_of(part: usize, port: u32, parts: &[ResolvedPart], ports: &[Indices]) -> Option<usize>
+    ensures { result ≡ index_of port (slice_index_or (ports_at ports.now parts.now) part []) }
 {
     let model = parts.get(part)?.model;
-    ports.get(model)?.place(port)
+    ports.get(model)?.index_of(port)
 }
 
 // Where the links of a coupled model lead: the ports of the model itself, its parts by their names, and the ports of
 // each model of the file.
 #[derive(Drop)]
 struct Ends<'t> {
-    own_inputs: Places,
-    own_outputs: Places,
-    names: Places,
-    parts: &'t [PlacedPart],
-    inputs: &'t [Places],
-    outputs: &'t [Places],
+    own_inputs: Indices,
+    own_outputs: Indices,
+    names: Indices,
+    parts: &'t [ResolvedPart],
+    inputs: &'t [Indices],
+    outputs: &'t [Indices],
 }
 
-fn placed_link(link: &Link, ends: &Ends) -> Option<PlacedLink>
-    ensures { result ≡ placed_by ends.now.own_inputs ends.now.own_outputs ends.now.names
+fn resolved_link(link: &Link, ends: &Ends) -> Option<ResolvedLink>
+    ensures { result ≡ resolved_by ends.now.own_inputs ends.now.own_outputs ends.now.names
         (ports_at ends.now.inputs.now ends.now.parts.now)
         (ports_at ends.now.outputs.now ends.now.parts.now) link.now }
 {
-    let from = place_at(
+    let from = index_at(
         &link.from,
         &ends.own_inputs,
         &ends.names,
         ends.parts,
         ends.outputs,
     )?;
-    let to = place_at(
+    let to = index_at(
         &link.to,
         &ends.own_outputs,
         &ends.names,
         ends.parts,
         ends.inputs,
     )?;
-    Some(PlacedLink { from, to })
+    Some(ResolvedLink { from, to })
 }
 
-// The links whose ends both have a place.
-fn placed_links(alloc: Global, links: &[Link], ends: &Ends) -> Result<Vec<PlacedLink>, AllocError>
-    ensures { IfOk result (λ placed. placed.items
-        ≡ filter_map (placed_by ends.now.own_inputs ends.now.own_outputs ends.now.names
+// The links whose ends both have an index.
+fn resolved_links(
+    alloc: Global,
+    links: &[Link],
+    ends: &Ends,
+) -> Result<Vec<ResolvedLink>, AllocError>
+    ensures { IfOk result (λ resolved. resolved.items
+        ≡ filter_map (resolved_by ends.now.own_inputs ends.now.own_outputs ends.now.names
         (ports_at ends.now.inputs.now ends.now.parts.now)
         (ports_at ends.now.outputs.now ends.now.parts.now)) links.now) }
 {
-    let mut placed = Vec::new(alloc);
+    let mut resolved = Vec::new(alloc);
     for link in links {
-        if let Some(link) = placed_link(link, ends) {
-            placed.push(link)?;
+        if let Some(link) = resolved_link(link, ends) {
+            resolved.push(link)?;
         }
     }
-    Ok(placed)
+    Ok(resolved)
 }
 
-// The places of ports by their names.
-fn places_of_ports(alloc: Global, ports: &[Name]) -> Result<Places, AllocError>
-    ensures { IfOk result (λ places. places ≡ numbers_of ports.now) }
+// The indices of ports by their names.
+fn indices_of_ports(alloc: Global, ports: &[Name]) -> Result<Indices, AllocError>
+    ensures { IfOk result (λ indices. indices ≡ numbers_of ports.now) }
 {
-    Places::of(alloc, numbers(alloc, ports)?)
+    Indices::of(alloc, numbers(alloc, ports)?)
 }
 
-// The places of parts by their names.
-fn places_of_parts(alloc: Global, parts: &[PlacedPart]) -> Result<Places, AllocError>
-    ensures { IfOk result (λ places. places ≡ part_names parts.now) }
+// The indices of parts by their names.
+fn indices_of_parts(alloc: Global, parts: &[ResolvedPart]) -> Result<Indices, AllocError>
+    ensures { IfOk result (λ indices. indices ≡ part_names parts.now) }
 {
-    Places::of(alloc, part_names(alloc, parts)?)
+    Indices::of(alloc, part_names(alloc, parts)?)
 }
 
 fn links_by(
     alloc: Global,
     coupled: &Coupled,
-    parts: &[PlacedPart],
-    inputs: &[Places],
-    outputs: &[Places],
-) -> Result<Vec<PlacedLink>, AllocError>
+    parts: &[ResolvedPart],
+    inputs: &[Indices],
+    outputs: &[Indices],
+) -> Result<Vec<ResolvedLink>, AllocError>
     ensures { IfOk result (λ links. links.items
         ≡ links_by inputs.now outputs.now parts.now (coupled_of coupled.now)) }
 {
-    let own_inputs = places_of_ports(alloc, &coupled.inputs)?;
-    let own_outputs = places_of_ports(alloc, &coupled.outputs)?;
-    let names = places_of_parts(alloc, parts)?;
+    let own_inputs = indices_of_ports(alloc, &coupled.inputs)?;
+    let own_outputs = indices_of_ports(alloc, &coupled.outputs)?;
+    let names = indices_of_parts(alloc, parts)?;
     let ends = Ends {
         own_inputs,
         own_outputs,
@@ -221,14 +225,14 @@ fn links_by(
         inputs,
         outputs,
     };
-    placed_links(alloc, &coupled.links, &ends)
+    resolved_links(alloc, &coupled.links, &ends)
 }
 
 // The number of input ports of each part.
 fn input_counts(
     alloc: Global,
-    parts: &[PlacedPart],
-    inputs: &[Places],
+    parts: &[ResolvedPart],
+    inputs: &[Indices],
 ) -> Result<Vec<usize>, AllocError>
     ensures { IfOk result (λ counts. counts.items ≡ map length (ports_at inputs.now parts.now)) }
 {
@@ -239,11 +243,11 @@ fn input_counts(
     Ok(counts)
 }
 
-fn port_count(model: usize, ports: &[Places]) -> usize
+fn port_count(model: usize, ports: &[Indices]) -> usize
     ensures { result ≡ length (slice_index_or ports.now model []) }
 {
     match ports.get(model) {
-        Some(places) => places.len(),
+        Some(indices) => indices.len(),
         None => 0,
     }
 }
@@ -252,14 +256,14 @@ fn port_count(model: usize, ports: &[Places]) -> usize
 fn make_level(
     alloc: Global,
     coupled: &Coupled,
-    models: &Places,
-    inputs: &[Places],
-    outputs: &[Places],
+    models: &Indices,
+    inputs: &[Indices],
+    outputs: &[Indices],
 ) -> Result<Level, AllocError>
     ensures { IfOk result (λ level. level
         ≡ level_by models.now inputs.now outputs.now (coupled_of coupled.now)) }
 {
-    let parts = placed_parts(alloc, &coupled.parts, models)?;
+    let parts = resolved_parts(alloc, &coupled.parts, models)?;
     let links = links_by(alloc, coupled, &parts, inputs, outputs)?;
     let counts = input_counts(alloc, &parts, inputs)?;
     let of_inputs = own_couplings(alloc, &links)?;
@@ -276,9 +280,9 @@ fn make_level(
 fn level_of_model(
     alloc: Global,
     model: &ModelItem,
-    models: &Places,
-    inputs: &[Places],
-    outputs: &[Places],
+    models: &Indices,
+    inputs: &[Indices],
+    outputs: &[Indices],
 ) -> Result<Option<Level>, AllocError>
     ensures { IfOk result (λ level. level
         ≡ level_by_model models.now inputs.now outputs.now (model_of model.now)) }
@@ -292,13 +296,13 @@ fn level_of_model(
     }
 }
 
-/// The tables of the coupled ones of these models, by their places.
+/// The tables of the coupled ones of these models, by their indices.
 pub(crate) fn levels(
     alloc: Global,
     items: &[&ModelItem],
-    models: &Places,
-    inputs: &[Places],
-    outputs: &[Places],
+    models: &Indices,
+    inputs: &[Indices],
+    outputs: &[Indices],
 ) -> Result<Vec<Option<Level>>, AllocError>
     ensures { IfOk result (λ levels. levels.items
         ≡ map (level_by_model models.now inputs.now outputs.now) (borrowed_models items.now)) }
@@ -310,11 +314,11 @@ pub(crate) fn levels(
     Ok(levels)
 }
 
-/// The table of the model at a place, where that is a coupled one.
-pub fn level_at(levels: &[Option<Level>], place: usize) -> Option<&Level>
-    ensures { option_copied result ≡ level_at levels.now place }
+/// The table of the model at an index, where that is a coupled one.
+pub fn level_at(levels: &[Option<Level>], index: usize) -> Option<&Level>
+    ensures { option_copied result ≡ level_at levels.now index }
 {
-    match levels.get(place) {
+    match levels.get(index) {
         Some(Some(level)) => Some(level),
         Some(None) | None => None,
     }

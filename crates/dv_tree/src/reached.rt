@@ -5,16 +5,16 @@ ghost use Rattle.dv_syntax.specs.Trees.{file_of, model_of};
 ghost use Rattle.dv_tree.specs.Reached.{AreMarks, AreReached, borrowed_models, marked, marking_of, with_mark, with_marks};
 ghost use Rattle.dv_tree.specs.Tables.{model_names};
 
-use crate::places::Places;
+use crate::indices::Indices;
 use crate::tables::{model_numbers, parts_inside};
 use dv_syntax::{File, Model, Part};
 use std::alloc::{AllocError, Global};
 
-/// Models of a text in its order, with their places among all of its models.
+/// Models of a text in its order, with their indices among all of its models.
 #[derive(Drop)]
 pub(crate) struct Reached<'c> {
     pub(crate) models: Vec<&'c Model>,
-    pub(crate) places: Vec<usize>,
+    pub(crate) indices: Vec<usize>,
 }
 
 impl<'c> Reached<'c> {
@@ -26,10 +26,10 @@ impl<'c> Reached<'c> {
     pub(crate) fn of(alloc: Global, file: &'c File) -> Result<Self, AllocError>
         ensures reached { IfOk result (λ r. AreReached (file_of file.now)
             (borrowed_models r.models.items)) }
-        ensures places { IfOk result (λ r. map (slice_get (file_of file.now).models) r.places.items
+        ensures indices { IfOk result (λ r. map (slice_get (file_of file.now).models) r.indices.items
             ≡ map Some (borrowed_models r.models.items)) }
     {
-        let names = Places::of(alloc, model_numbers(alloc, &file.models)?)?;
+        let names = Indices::of(alloc, model_numbers(alloc, &file.models)?)?;
         let marks = marks_of(alloc, file, &names)?;
         Reached::marked(alloc, &file.models, &marks)
     }
@@ -39,25 +39,25 @@ impl<'c> Reached<'c> {
         requires { length marks.now ≡ length models.now }
         ensures models { IfOk result (λ r. borrowed_models r.models.items
             ≡ marked marks.now (map model_of models.now)) }
-        ensures places { IfOk result
-            (λ r. map (slice_get (map model_of models.now)) r.places.items
+        ensures indices { IfOk result
+            (λ r. map (slice_get (map model_of models.now)) r.indices.items
             ≡ map Some (borrowed_models r.models.items)) }
     {
         let mut reached = Reached {
             models: Vec::new(alloc),
-            places: Vec::new(alloc),
+            indices: Vec::new(alloc),
         };
-        for (place, model) in models.iter().enumerate() {
-            if marks[place] {
+        for (index, model) in models.iter().enumerate() {
+            if marks[index] {
                 reached.models.push(model)?;
-                reached.places.push(place)?;
+                reached.indices.push(index)?;
             }
         }
         Ok(reached)
     }
 }
 
-// The marks of models, of which those have one that were reached so far, and the places of those whose parts are still to
+// The marks of models, of which those have one that were reached so far, and the indices of those whose parts are still to
 // be marked. These are never more than there are models, since a model is put among them once, with its mark.
 #[derive(Drop)]
 struct Walk {
@@ -66,34 +66,34 @@ struct Walk {
 }
 
 impl Walk {
-    // Marks the model at a place, where there is one without a mark. Its parts are then to be marked.
-    fn mark(&mut self, place: Option<usize>) -> Result<(), AllocError>
-        ensures { OnOk result (marking_of self.new ≡ with_mark place (marking_of self.old)) }
+    // Marks the model at an index, where there is one without a mark. Its parts are then to be marked.
+    fn mark(&mut self, index: Option<usize>) -> Result<(), AllocError>
+        ensures { OnOk result (marking_of self.new ≡ with_mark index (marking_of self.old)) }
     {
-        if let Some(place) = place
-            && place < self.marks.len()
-            && !self.marks[place]
+        if let Some(index) = index
+            && index < self.marks.len()
+            && !self.marks[index]
         {
-            self.waiting.push(place)?;
-            self.marks[place] = true;
+            self.waiting.push(index)?;
+            self.marks[index] = true;
         }
         Ok(())
     }
 
     // Marks the models of these parts.
-    fn mark_parts(&mut self, parts: &[Part], names: &Places) -> Result<(), AllocError>
+    fn mark_parts(&mut self, parts: &[Part], names: &Indices) -> Result<(), AllocError>
         ensures { OnOk result (marking_of self.new
             ≡ with_marks names.now parts.now (marking_of self.old)) }
     {
         for part in parts {
-            self.mark(names.place(part.model.number))?;
+            self.mark(names.index_of(part.model.number))?;
         }
         Ok(())
     }
 }
 
 // Marks for the models that the root leads to, from the names of all models. Each marked model is visited once.
-fn marks_of(alloc: Global, file: &File, names: &Places) -> Result<Vec<bool>, AllocError>
+fn marks_of(alloc: Global, file: &File, names: &Indices) -> Result<Vec<bool>, AllocError>
     requires names { names.now ≡ model_names (file_of file.now).models }
     ensures one_each { IfOk result
         (λ marks. length marks.items ≡ length (file_of file.now).models) }
@@ -103,9 +103,9 @@ fn marks_of(alloc: Global, file: &File, names: &Places) -> Result<Vec<bool>, All
         marks: vec![in alloc; false; file.models.len()]?,
         waiting: Vec::new(alloc),
     };
-    walk.mark(names.place(file.root.number))?;
-    while let Some(place) = walk.waiting.pop() {
-        walk.mark_parts(parts_inside(&file.models[place]), names)?;
+    walk.mark(names.index_of(file.root.number))?;
+    while let Some(index) = walk.waiting.pop() {
+        walk.mark_parts(parts_inside(&file.models[index]), names)?;
     }
     Ok(walk.marks)
 }

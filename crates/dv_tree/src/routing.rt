@@ -65,8 +65,8 @@ fn rise_parts<'s>(
         return Ok(sent);
     }
     let mut rest = sent;
-    for (part, placed) in level.parts().iter().enumerate() {
-        let inside = level_at(levels, placed.model);
+    for (part, resolved) in level.parts().iter().enumerate() {
+        let inside = level_at(levels, resolved.model);
         let couplings = level.couplings_of_part(part);
         rest = rise_part(
             alloc,
@@ -105,15 +105,15 @@ fn rise_part<'s>(
     match inside {
         None => add_first(couplings, sent, arrived),
         Some(level) => {
-            let place = kept.len();
+            let index = kept.len();
             let rest = rise(alloc, depth, level, levels, sent, kept)?;
-            arrived.add_bags(couplings, kept[place].own())?;
+            arrived.add_bags(couplings, kept[index].own())?;
             Ok(rest)
         }
     }
 }
 
-// One more place among what is kept, with no ports yet. Gives its place.
+// One more index among what is kept, with no ports yet. Gives its index.
 fn keep_slot(alloc: Global, kept: &mut Vec<Arrived>) -> Result<usize, AllocError>
     ensures slot { IfOk result (λ slot. slot ≡ length kept.old.items) }
     ensures kept { OnOk result (kept.new.items ≡ kept.old.items

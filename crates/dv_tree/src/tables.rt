@@ -9,7 +9,7 @@ ghost use Rattle.dv_tree.specs.Instances.{coupled_model, inputs_in, outputs_in, 
 ghost use Rattle.dv_tree.specs.Reached.{borrowed_models, parts_inside};
 ghost use Rattle.dv_tree.specs.Tables.{model_names, scope_of_model};
 
-use crate::places::Places;
+use crate::indices::Indices;
 use dv_eval::Scope;
 use dv_syntax::{Coupled, File, Model, Name, Part};
 use std::alloc::{AllocError, Global};
@@ -103,37 +103,37 @@ fn outputs_of(alloc: Global, model: &Model, scope: &Scope) -> Result<Vec<u32>, A
     }
 }
 
-/// The places of the input ports of each model.
+/// The indices of the input ports of each model.
 pub(crate) fn inputs(
     alloc: Global,
     models: &[&Model],
     scopes: &[Scope],
-) -> Result<Vec<Places>, AllocError>
+) -> Result<Vec<Indices>, AllocError>
     requires { scopes.now ≡ map scope_of_model (borrowed_models models.now) }
     ensures { IfOk result (λ inputs. inputs.items ≡ map shown_inputs (borrowed_models models.now)) }
 {
     let mut inputs = Vec::with_capacity(alloc, models.len())?;
-    for (place, model) in models.iter().enumerate() {
-        let names = inputs_of(alloc, model, &scopes[place])?;
-        inputs.push(Places::of(alloc, names)?)?;
+    for (index, model) in models.iter().enumerate() {
+        let names = inputs_of(alloc, model, &scopes[index])?;
+        inputs.push(Indices::of(alloc, names)?)?;
     }
     Ok(inputs)
 }
 
-/// The places of the output ports of each model.
+/// The indices of the output ports of each model.
 pub(crate) fn outputs(
     alloc: Global,
     models: &[&Model],
     scopes: &[Scope],
-) -> Result<Vec<Places>, AllocError>
+) -> Result<Vec<Indices>, AllocError>
     requires { scopes.now ≡ map scope_of_model (borrowed_models models.now) }
     ensures { IfOk result
         (λ outputs. outputs.items ≡ map shown_outputs (borrowed_models models.now)) }
 {
     let mut outputs = Vec::with_capacity(alloc, models.len())?;
-    for (place, model) in models.iter().enumerate() {
-        let names = outputs_of(alloc, model, &scopes[place])?;
-        outputs.push(Places::of(alloc, names)?)?;
+    for (index, model) in models.iter().enumerate() {
+        let names = outputs_of(alloc, model, &scopes[index])?;
+        outputs.push(Indices::of(alloc, names)?)?;
     }
     Ok(outputs)
 }

@@ -13,8 +13,8 @@ ghost use Rattle.dv_tree.specs.Tables.{levels_of, model_names, root_table, scope
 ghost use Rattle.dv_check.specs.Limits.{greatest_components, greatest_names};
 
 use crate::components::{Component, add_components, name_at};
+use crate::indices::Indices;
 use crate::levels::{Level, level_at, levels};
-use crate::places::Places;
 use crate::reached::Reached;
 use crate::routing::{rise, sink};
 use crate::tables::{
@@ -32,7 +32,9 @@ use std::marker::Model;
 /// What travels at one instant: what each component receives, and what leaves by the root's output ports.
 #[derive(Drop)]
 pub struct Routed {
+    /// What each component receives, in the order of their numbers.
     pub received: Vec<Bags>,
+    /// What leaves by the output ports of the root.
     pub leaving: Bags,
 }
 
@@ -79,7 +81,7 @@ impl<'c> Model for Tree<'c> {
         × (t.inputs.items ≡ root_inputs f)
         × (t.outputs.items ≡ root_outputs f)
         × AreReached f reached
-        × (map (slice_get f.models) t.reached.places.items ≡ map Some reached) };
+        × (map (slice_get f.models) t.reached.indices.items ≡ map Some reached) };
 }
 
 impl<'c> Tree<'c> {
@@ -93,10 +95,10 @@ impl<'c> Tree<'c> {
     {
         let file = &checked.file;
         let reached = Reached::of(alloc, file)?;
-        let names = Places::of(alloc, numbers_of_models(alloc, &reached.models)?)?;
+        let names = Indices::of(alloc, numbers_of_models(alloc, &reached.models)?)?;
         let scopes = scopes(alloc, &reached.models)?;
         let levels = tables_of(alloc, &reached.models, &names, &scopes)?;
-        let root = names.place(file.root.number);
+        let root = names.index_of(file.root.number);
         let components = components_of(alloc, &levels, root)?;
         let coupled = tables::root(file);
         let inputs = numbers(alloc, root_inputs(coupled))?;
@@ -120,7 +122,7 @@ impl<'c> Tree<'c> {
         &self.checked.file
     }
 
-    /// The models that the root leads to, in the order of the text. Tables go by the places of models among these.
+    /// The models that the root leads to, in the order of the text. Tables go by the indices of models among these.
     pub fn reached(&self) -> &[&'c ModelItem]
         ensures { borrowed result.now ≡ self.now.reached }
     {
@@ -166,23 +168,23 @@ impl<'c> Tree<'c> {
         ensures { slice_get (map (λ i. i.model) (instances (file_of self.now.file))) component
             ≡ Some (atomic_of result.now) }
     {
-        let place = self.components[component].model();
-        match self.reached.models[place] {
+        let index = self.components[component].model();
+        match self.reached.models[index] {
             ModelItem::Atomic(model) => model,
             ModelItem::Coupled(_) => unreachable!(),
         }
     }
 
-    /// The place of a component's model among the models of the text. Components of one model have one place.
-    pub fn model_place(&self, component: usize) -> usize
+    /// The index of a component's model among the models of the text. Components of one model have one index.
+    pub fn model_index(&self, component: usize) -> usize
         requires { component < length (instances (file_of self.now.file)) }
         ensures within { result < length (file_of self.now.file).models }
         ensures model { slice_get (map (λ i. AtomicModel i.model)
             (instances (file_of self.now.file))) component
             ≡ slice_get (file_of self.now.file).models result }
     {
-        let place = self.components[component].model();
-        self.reached.places[place]
+        let index = self.components[component].model();
+        self.reached.indices[index]
     }
 
     /// What the model of a component declares.
@@ -191,8 +193,8 @@ impl<'c> Tree<'c> {
         ensures { slice_get (map (λ i. scope_of i.model)
             (instances (file_of self.now.file))) component ≡ Some result.now }
     {
-        let place = self.components[component].model();
-        &self.scopes[place]
+        let index = self.components[component].model();
+        &self.scopes[index]
     }
 
     /// The names of the parts that lead to a component from below the root, as their numbers.
@@ -239,11 +241,11 @@ impl<'c> Tree<'c> {
         name_at(&self.checked.names, number)
     }
 
-    /// The place of the root's name in the text.
-    pub fn root_place(&self) -> u32
-        ensures { result ≡ (file_of self.now.file).root.place }
+    /// The index of the root's name in the text.
+    pub fn root_offset(&self) -> u32
+        ensures { result ≡ (file_of self.now.file).root.offset }
     {
-        self.checked.file.root.place
+        self.checked.file.root.offset
     }
 
     /// The number of input ports of the root.
@@ -313,7 +315,7 @@ impl<'c> Tree<'c> {
 fn tables_of(
     alloc: Global,
     items: &[&ModelItem],
-    models: &Places,
+    models: &Indices,
     scopes: &[Scope],
 ) -> Result<Vec<Option<Level>>, AllocError>
     requires names { models.now ≡ model_names (borrowed_models items.now) }

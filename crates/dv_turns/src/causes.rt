@@ -11,23 +11,27 @@ use std::thread::Threads;
 
 /// Where a run is stopped: before a turn of this process, at this clock.
 #[derive(Clone, Copy, PartialEq, Eq)]
-struct Place {
+struct Moment {
     process: u32,
     clock: Time,
 }
 
-/// Stops a run at one place.
+/// Stops a run at one moment.
 #[derive(Drop)]
 struct StopsAt {
-    place: Place,
+    moment: Moment,
 }
 
 impl Watch for StopsAt {
-    type Cause = Place;
+    type Cause = Moment;
 
-    fn before_turn(&self, _worker: usize, process: u32, clock: Time) -> Option<Place> {
-        let here = Place { process, clock };
-        if here == self.place { Some(here) } else { None }
+    fn before_turn(&self, _worker: usize, process: u32, clock: Time) -> Option<Moment> {
+        let here = Moment { process, clock };
+        if here == self.moment {
+            Some(here)
+        } else {
+            None
+        }
     }
 
     fn after_turn(&self, _worker: usize, _process: u32, _clock: Time) {}
@@ -52,45 +56,45 @@ impl StopsBoth {
 }
 
 impl Watch for StopsBoth {
-    type Cause = Place;
+    type Cause = Moment;
 
-    fn before_turn(&self, worker: usize, process: u32, clock: Time) -> Option<Place> {
+    fn before_turn(&self, worker: usize, process: u32, clock: Time) -> Option<Moment> {
         if worker == 0 {
             self.meet(&self.first_came, &self.second_came);
         } else {
             self.meet(&self.second_came, &self.first_came);
         }
-        Some(Place { process, clock })
+        Some(Moment { process, clock })
     }
 
     fn after_turn(&self, _worker: usize, _process: u32, _clock: Time) {}
 }
 
-// Whether a run was stopped at a place.
-fn is_stopped_at(ended: &Result<EndedByWorkers<Place>, JobError>, place: Place) -> bool {
+// Whether a run was stopped at a moment.
+fn is_stopped_at(ended: &Result<EndedByWorkers<Moment>, JobError>, moment: Moment) -> bool {
     match ended {
         Ok(
             EndedByWorkers {
                 ended: JobEnded::Partial(Why::Stopped),
                 cause: Some(cause),
             },
-        ) => *cause == place,
+        ) => *cause == moment,
         _ => false,
     }
 }
 
-// Whether a run by two workers that is stopped at a place tells it.
-fn tells_place<R: AllocGlobal + Threads + Wait + Sync>(
+// Whether a run by two workers that is stopped at a moment tells it.
+fn tells_moment<R: AllocGlobal + Threads + Wait + Sync>(
     rt: &R,
     model: &Model<'_>,
-    place: Place,
+    moment: Moment,
 ) -> bool {
     let mut bytes = Vec::new(rt.alloc());
-    let ended = run_to_a_cause(rt, model, 2, &StopsAt { place }, &mut bytes);
-    is_stopped_at(&ended, place)
+    let ended = run_to_a_cause(rt, model, 2, &StopsAt { moment }, &mut bytes);
+    is_stopped_at(&ended, moment)
 }
 
-// Whether a run by two workers, both of which are stopped, tells the place of worker 0, whose first process is 0.
+// Whether a run by two workers, both of which are stopped, tells the moment of worker 0, whose first process is 0.
 fn tells_first<R: AllocGlobal + Threads + Wait + Sync>(rt: &R, model: &Model<'_>) -> bool {
     let both = StopsBoth {
         first_came: AtomicBool::new(false),
@@ -99,18 +103,18 @@ fn tells_first<R: AllocGlobal + Threads + Wait + Sync>(rt: &R, model: &Model<'_>
     };
     let mut bytes = Vec::new(rt.alloc());
     let ended = run_to_a_cause(rt, model, 2, &both, &mut bytes);
-    let place = Place {
+    let moment = Moment {
         process: 0,
         clock: Time::ZERO,
     };
-    !both.failed.load(Ordering::SeqCst) && is_stopped_at(&ended, place)
+    !both.failed.load(Ordering::SeqCst) && is_stopped_at(&ended, moment)
 }
 
 /// Whether that is so: worker 0 owns the processes 0 and 2, and worker 1 owns process 1. The processes 0 and 1 come to tick 5 by their
 /// first turns, since nothing comes to them.
 pub fn are_told<R: AllocGlobal + Threads + Wait + Sync>(rt: &R, model: &Model<'_>) -> bool {
     let clock = Time { tick: 5, micro: 0 };
-    let of_first = tells_place(rt, model, Place { process: 0, clock });
-    let of_second = tells_place(rt, model, Place { process: 1, clock });
+    let of_first = tells_moment(rt, model, Moment { process: 0, clock });
+    let of_second = tells_moment(rt, model, Moment { process: 1, clock });
     of_first && of_second && tells_first(rt, model)
 }

@@ -1,8 +1,12 @@
-//! Runs a model by workers whose turns are watched, and compares with the plain run; runs and lists models with writers that fail;
-//! and looks how endings are told.
+//! A test that is a program: it runs a model by workers whose turns are watched, held up and stopped; it runs and
+//! lists models with writers that fail; and it looks how endings are told.
 //!
-//! The words name files: a model of three components, which is run by workers; a model, its inputs and its trace to the tick 3; and
-//! a model and its listing.
+//! The expected traces of workers are those of the plain run; of a stopped run they are the lines before the least of
+//! the clocks that it tells. What the plain run and the listing have to print stands in files. What is tested are
+//! `run_watched`, `run_bytes`, `run_plain`, `list_code` and `status` of `dv_job`.
+//!
+//! The words name files: a model of three components, which is run by workers; a model, its inputs and its trace to
+//! the tick 3; and a model and its listing.
 #![tactic(auto)]
 
 /// Workers that make their first turns at once.

@@ -20,7 +20,9 @@ pub const PROCESSES: u32 = 3;
 /// The model, and the text of its trace by the plain run.
 #[derive(Drop)]
 pub struct Model<'t> {
+    /// The text of the model.
     pub text: &'t [u8],
+    /// The text of its trace.
     pub trace: Vec<u8>,
 }
 

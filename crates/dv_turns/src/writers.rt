@@ -8,7 +8,9 @@ use std::sync::atomic::{AtomicBool, Ordering};
 /// A writer that raises a flag as it gets its first byte.
 #[derive(Drop)]
 pub struct Telling<'f> {
+    /// What was written.
     pub bytes: Vec<u8>,
+    /// Whether the first byte came.
     pub told: &'f AtomicBool,
 }
 
@@ -29,7 +31,9 @@ impl<'f> Write for Telling<'f> {
 /// A writer that takes one byte a call, and fails at a call.
 #[derive(Drop)]
 pub struct Reluctant {
+    /// What was written.
     pub bytes: Vec<u8>,
+    /// How many calls there were.
     pub calls: usize,
     fails_at: usize,
 }

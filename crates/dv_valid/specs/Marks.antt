@@ -26,27 +26,27 @@ with_top top m = mark (top ∷ m.types) m.nest
 abbrev pub IsNumbered : Stacks → Mark → Type 0
 IsNumbered stacks m = m.types < length stacks
 
--- what is kept for a place means
+-- what is kept for an address means
 abbrev pub meaning_at : Stacks → Option Mark → Meant
 meaning_at stacks None = mark [] []
 meaning_at stacks (Some m) = meaning stacks m
 
--- the mark of each place
+-- the mark of each address
 abbrev pub mark_of : Marks → ℕ → Meant
-mark_of m place = meaning_at m.stacks (slice_get m.by_place.items place)
+mark_of m address = meaning_at m.stacks (slice_get m.by_address.items address)
 
 -- each mark has the number of a stack
 abbrev pub AreNumbered : Marks → Type 0
-AreNumbered m = (place : ℕ) (found : Mark) → slice_get m.by_place.items place ≡ Some found → IsNumbered m.stacks found
+AreNumbered m = (address : ℕ) (found : Mark) → slice_get m.by_address.items address ≡ Some found → IsNumbered m.stacks found
 
--- a place of the program, with a mark for it
-abbrev pub IsPlaced : Marks → ℕ → Mark → Type 0
-IsPlaced m place here = AreNumbered m × IsNumbered m.stacks here × (place < length m.by_place.items)
+-- an address of the program, with a mark for it
+abbrev pub IsMarkAt : Marks → ℕ → Mark → Type 0
+IsMarkAt m address here = AreNumbered m × IsNumbered m.stacks here × (address < length m.by_address.items)
 
--- the place whose mark settles that of the one before the next
-abbrev pub settling_place : ℕ → Instruction → ℕ
-settling_place next (Jump to) = to
-settling_place next other = next
+-- the address whose mark settles that of the one before the next
+abbrev pub settling_address : ℕ → Instruction → ℕ
+settling_address next (Jump to) = to
+settling_address next other = next
 
 -- an instruction with this mark leads to that one, and can have no other
 abbrev pub Settles : ℕ → Instruction → Meant → Meant → Type 0
@@ -64,11 +64,11 @@ Settles next (Loop s past) here after = (b : Body) × (here.types ≡ []) × (af
 Settles next (Next first) here after = here ≡ mark [] (record { first = first; past = next } ∷ after.nest)
 Settles next End here after = ⊥
 
--- the marks behind a place, from the next one on, leave this one alone for it
+-- the marks behind an address, from the next one on, leave this one alone for it
 abbrev pub IsForced : List ValueType → ℕ → (ℕ → Meant) → ℕ → Instruction → Meant → Type 0
 IsForced left end marks next End here = here ≡ mark left []
 IsForced left end marks next i here =
-    (settling_place next i < end) × (length here.nest ≤ deepest_loops) × Settles next i here (marks (settling_place next i))
+    (settling_address next i < end) × (length here.nest ≤ deepest_loops) × Settles next i here (marks (settling_address next i))
 
 -- a mark was found, and it is this one
 abbrev pub IsFound : Stacks → Meant → Option Mark → Type 0
@@ -83,17 +83,17 @@ MayBeNumbered stacks (Some m) = IsNumbered stacks m
 -- these marks make a program valid
 pub record Fit (shape : Shape) (code : List Instruction) (marks : ℕ → Meant) : Type 0 where
   pub start : Arrives (length code) marks 0 [] []
-  pub each : (place : ℕ) (i : Instruction) → slice_get code place ≡ Some i
-      → IsFine shape (left_by shape.sort) deepest_loops (length code) marks place i
+  pub each : (address : ℕ) (i : Instruction) → slice_get code address ≡ Some i
+      → IsFine shape (left_by shape.sort) deepest_loops (length code) marks address i
 
--- the marks that are kept behind a place leave this one alone for it
+-- the marks that are kept behind an address leave this one alone for it
 abbrev pub IsForcedAt : List ValueType → Marks → ℕ → Instruction → Meant → Type 0
-IsForcedAt left m place i here = IsForced left (length m.by_place.items) (mark_of m) (place + 1) i here
+IsForcedAt left m address i here = IsForced left (length m.by_address.items) (mark_of m) (address + 1) i here
 
--- by the marks that are kept, this mark is at a place of the program
+-- by the marks that are kept, this mark is at an address of the program
 abbrev pub ArrivesAt : Marks → ℕ → Meant → Type 0
-ArrivesAt m to here = Arrives (length m.by_place.items) (mark_of m) to here.types here.nest
+ArrivesAt m to here = Arrives (length m.by_address.items) (mark_of m) to here.types here.nest
 
 -- an instruction with a mark agrees with the marks that are kept
 abbrev pub AgreesAt : Shape → Marks → ℕ → Meant → Instruction → Type 0
-AgreesAt shape m place here i = Agrees shape (left_by shape.sort) (length m.by_place.items) (mark_of m) place here.types here.nest i
+AgreesAt shape m address here i = Agrees shape (left_by shape.sort) (length m.by_address.items) (mark_of m) address here.types here.nest i

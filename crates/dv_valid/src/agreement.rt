@@ -7,7 +7,7 @@ ghost use Rattle.dv_code.specs.declared.instruction.Instruction.TheVariants.{Pus
 ghost use Rattle.dv_code.specs.declared.instruction.Instruction.TheVariants.{FalseKeep, TrueKeep, Loop, Next, End};
 ghost use Rattle.dv_valid.specs.Nests.{bodies};
 ghost use Rattle.dv_valid.specs.Stacks.{types_at};
-ghost use Rattle.dv_valid.specs.Marks.{AgreesAt, AreNumbered, ArrivesAt, Fit, IsNumbered, IsPlaced, mark_of, meaning, with_top};
+ghost use Rattle.dv_valid.specs.Marks.{AgreesAt, AreNumbered, ArrivesAt, Fit, IsNumbered, IsMarkAt, mark_of, meaning, with_top};
 ghost use Rattle.dv_code.specs.Limits.{deepest_loops};
 
 use crate::known::{is_source, knows_action, knows_deed, knows_leaf, knows_unary};
@@ -22,81 +22,81 @@ impl Marks {
     /// Whether a program is valid by these marks.
     pub fn fit(&self, shape: &Shape, code: &[Instruction]) -> bool
         requires numbered { AreNumbered self.now }
-        requires one_each { length self.now.by_place.items ≡ length code.now }
+        requires one_each { length self.now.by_address.items ≡ length code.now }
         ensures { IsTrue result ↔ Fit shape.now code.now (mark_of self.now) }
     {
         if !self.arrives(0, self.outside()) {
             return false;
         }
-        for (place, instruction) in code.iter().enumerate() {
-            if !self.is_fine(shape, place, *instruction) {
+        for (address, instruction) in code.iter().enumerate() {
+            if !self.is_fine(shape, address, *instruction) {
                 return false;
             }
         }
         true
     }
 
-    /// Whether an instruction agrees with the marks, and its own with its place.
-    fn is_fine(&self, shape: &Shape, place: usize, instruction: Instruction) -> bool
+    /// Whether an instruction agrees with the marks, and its own with its address.
+    fn is_fine(&self, shape: &Shape, address: usize, instruction: Instruction) -> bool
         requires numbered { AreNumbered self.now }
-        requires place { place < length self.now.by_place.items }
+        requires address { address < length self.now.by_address.items }
         ensures { IsTrue result ↔ IsFine shape.now (left_by shape.now.sort) deepest_loops
-            (length self.now.by_place.items) (mark_of self.now) place instruction }
+            (length self.now.by_address.items) (mark_of self.now) address instruction }
     {
-        let here = self.by_place[place];
-        here.nest.contains(place, self.by_place.len())
-            && self.agrees(shape, place, here, instruction)
+        let here = self.by_address[address];
+        here.nest.contains(address, self.by_address.len())
+            && self.agrees(shape, address, here, instruction)
     }
 
-    /// Whether an instruction with this mark agrees with the marks of the places to which it leads.
-    fn agrees(&self, shape: &Shape, place: usize, here: Mark, instruction: Instruction) -> bool
-        requires { IsPlaced self.now place here }
+    /// Whether an instruction with this mark agrees with the marks of the addresses to which it leads.
+    fn agrees(&self, shape: &Shape, address: usize, here: Mark, instruction: Instruction) -> bool
+        requires { IsMarkAt self.now address here }
         ensures { IsTrue result
-            ↔ AgreesAt shape.now self.now place (meaning self.now.stacks here) instruction }
+            ↔ AgreesAt shape.now self.now address (meaning self.now.stacks here) instruction }
     {
         match instruction {
-            Instruction::Push(leaf) => self.push_agrees(shape, place, here, leaf),
-            Instruction::Apply(unary) => self.apply_agrees(shape, place, here, unary),
-            Instruction::Combine(binary) => self.combine_agrees(place, here, binary),
-            Instruction::Perform(action) => self.perform_agrees(shape, place, here, action),
-            Instruction::Do(deed) => knows_deed(shape, deed) && self.arrives(place + 1, here),
-            Instruction::Jump(to) => self.jump_agrees(place, here, to),
-            Instruction::JumpFalse(to) => self.jump_false_agrees(place, here, to),
-            Instruction::FalseKeep(to) => self.keep_agrees(place, here, to),
-            Instruction::TrueKeep(to) => self.keep_agrees(place, here, to),
-            Instruction::Loop(source, past) => self.loop_agrees(shape, place, here, source, past),
-            Instruction::Next(first) => self.next_agrees(place, here, first),
-            Instruction::End => self.end_agrees(shape, place, here),
+            Instruction::Push(leaf) => self.push_agrees(shape, address, here, leaf),
+            Instruction::Apply(unary) => self.apply_agrees(shape, address, here, unary),
+            Instruction::Combine(binary) => self.combine_agrees(address, here, binary),
+            Instruction::Perform(action) => self.perform_agrees(shape, address, here, action),
+            Instruction::Do(deed) => knows_deed(shape, deed) && self.arrives(address + 1, here),
+            Instruction::Jump(to) => self.jump_agrees(address, here, to),
+            Instruction::JumpFalse(to) => self.jump_false_agrees(address, here, to),
+            Instruction::FalseKeep(to) => self.keep_agrees(address, here, to),
+            Instruction::TrueKeep(to) => self.keep_agrees(address, here, to),
+            Instruction::Loop(source, past) => self.loop_agrees(shape, address, here, source, past),
+            Instruction::Next(first) => self.next_agrees(address, here, first),
+            Instruction::End => self.end_agrees(shape, address, here),
         }
     }
 
     /// Whether a leaf is known, and its type comes on top.
-    fn push_agrees(&self, shape: &Shape, place: usize, here: Mark, leaf: Leaf) -> bool
-        requires { IsPlaced self.now place here }
+    fn push_agrees(&self, shape: &Shape, address: usize, here: Mark, leaf: Leaf) -> bool
+        requires { IsMarkAt self.now address here }
         ensures { IsTrue result
-            ↔ AgreesAt shape.now self.now place (meaning self.now.stacks here) (Push leaf) }
+            ↔ AgreesAt shape.now self.now address (meaning self.now.stacks here) (Push leaf) }
     {
         knows_leaf(shape, here.nest.depth(), leaf)
-            && self.arrives_with(place + 1, leaf_type(leaf), here)
+            && self.arrives_with(address + 1, leaf_type(leaf), here)
     }
 
     /// Whether an operator on one value is known, and finds its type on top.
-    fn apply_agrees(&self, shape: &Shape, place: usize, here: Mark, unary: Unary) -> bool
-        requires { IsPlaced self.now place here }
+    fn apply_agrees(&self, shape: &Shape, address: usize, here: Mark, unary: Unary) -> bool
+        requires { IsMarkAt self.now address here }
         ensures { IsTrue result
-            ↔ AgreesAt shape.now self.now place (meaning self.now.stacks here) (Apply unary) }
+            ↔ AgreesAt shape.now self.now address (meaning self.now.stacks here) (Apply unary) }
     {
         let Some(_) = without_top(&self.stacks, here, unary_type(unary)) else {
             return false;
         };
-        knows_unary(shape, unary) && self.arrives(place + 1, here)
+        knows_unary(shape, unary) && self.arrives(address + 1, here)
     }
 
     /// Whether an operator on two values finds its types on top, and leaves its own in their place.
-    fn combine_agrees(&self, place: usize, here: Mark, binary: Binary) -> bool
-        requires { IsPlaced self.now place here }
+    fn combine_agrees(&self, address: usize, here: Mark, binary: Binary) -> bool
+        requires { IsMarkAt self.now address here }
         ensures { (shape : Shape) → IsTrue result
-            ↔ AgreesAt shape self.now place (meaning self.now.stacks here) (Combine binary) }
+            ↔ AgreesAt shape self.now address (meaning self.now.stacks here) (Combine binary) }
     {
         let Some(one) = without_top(&self.stacks, here, operand_type(binary)) else {
             return false;
@@ -104,64 +104,66 @@ impl Marks {
         let Some(below) = without_top(&self.stacks, one, operand_type(binary)) else {
             return false;
         };
-        self.arrives_with(place + 1, result_type(binary), below)
+        self.arrives_with(address + 1, result_type(binary), below)
     }
 
     /// Whether an action is known, and takes its type from the top.
-    fn perform_agrees(&self, shape: &Shape, place: usize, here: Mark, action: Action) -> bool
-        requires { IsPlaced self.now place here }
+    fn perform_agrees(&self, shape: &Shape, address: usize, here: Mark, action: Action) -> bool
+        requires { IsMarkAt self.now address here }
         ensures { IsTrue result
-            ↔ AgreesAt shape.now self.now place (meaning self.now.stacks here) (Perform action) }
+            ↔ AgreesAt shape.now self.now address (meaning self.now.stacks here) (Perform action) }
     {
         let Some(below) = without_top(&self.stacks, here, action_type(action)) else {
             return false;
         };
-        knows_action(shape, action) && self.arrives(place + 1, below)
+        knows_action(shape, action) && self.arrives(address + 1, below)
     }
 
     /// Whether a jump leads forward, and what stands behind it lies in the same bodies.
-    fn jump_agrees(&self, place: usize, here: Mark, to: u32) -> bool
-        requires { IsPlaced self.now place here }
+    fn jump_agrees(&self, address: usize, here: Mark, to: u32) -> bool
+        requires { IsMarkAt self.now address here }
         ensures { (shape : Shape) → IsTrue result
-            ↔ AgreesAt shape self.now place (meaning self.now.stacks here) (Jump to) }
+            ↔ AgreesAt shape self.now address (meaning self.now.stacks here) (Jump to) }
     {
-        place < to as usize
+        address < to as usize
             && self.arrives(to as usize, here)
-            && self.has_nest(place + 1, here.nest)
+            && self.has_nest(address + 1, here.nest)
     }
 
-    /// Whether a place of the program lies in these bodies.
-    fn has_nest(&self, place: usize, nest: Nest) -> bool
-        requires { place < length self.now.by_place.items }
-        ensures { IsTrue result ↔ ((mark_of self.now place).nest ≡ bodies nest) }
+    /// Whether an address of the program lies in these bodies.
+    fn has_nest(&self, address: usize, nest: Nest) -> bool
+        requires { address < length self.now.by_address.items }
+        ensures { IsTrue result ↔ ((mark_of self.now address).nest ≡ bodies nest) }
     {
-        self.by_place[place].nest.is_same(nest)
+        self.by_address[address].nest.is_same(nest)
     }
 
     /// Whether a jump takes a truth value from the top, and leads forward.
-    fn jump_false_agrees(&self, place: usize, here: Mark, to: u32) -> bool
-        requires { IsPlaced self.now place here }
+    fn jump_false_agrees(&self, address: usize, here: Mark, to: u32) -> bool
+        requires { IsMarkAt self.now address here }
         ensures { (shape : Shape) → IsTrue result
-            ↔ AgreesAt shape self.now place (meaning self.now.stacks here) (JumpFalse to) }
+            ↔ AgreesAt shape self.now address (meaning self.now.stacks here) (JumpFalse to) }
     {
         let Some(below) = without_top(&self.stacks, here, ValueType::Truth) else {
             return false;
         };
-        place < to as usize && self.arrives(place + 1, below) && self.arrives(to as usize, below)
+        address < to as usize
+            && self.arrives(address + 1, below)
+            && self.arrives(to as usize, below)
     }
 
     /// Whether a jump that keeps a truth value finds one on top, and leads forward.
-    fn keep_agrees(&self, place: usize, here: Mark, to: u32) -> bool
-        requires { IsPlaced self.now place here }
+    fn keep_agrees(&self, address: usize, here: Mark, to: u32) -> bool
+        requires { IsMarkAt self.now address here }
         ensures false_keep { (shape : Shape) → IsTrue result
-            ↔ AgreesAt shape self.now place (meaning self.now.stacks here) (FalseKeep to) }
+            ↔ AgreesAt shape self.now address (meaning self.now.stacks here) (FalseKeep to) }
         ensures true_keep { (shape : Shape) → IsTrue result
-            ↔ AgreesAt shape self.now place (meaning self.now.stacks here) (TrueKeep to) }
+            ↔ AgreesAt shape self.now address (meaning self.now.stacks here) (TrueKeep to) }
     {
         let Some(below) = without_top(&self.stacks, here, ValueType::Truth) else {
             return false;
         };
-        place < to as usize && self.arrives(place + 1, below) && self.arrives(to as usize, here)
+        address < to as usize && self.arrives(address + 1, below) && self.arrives(to as usize, here)
     }
 
     /// Whether a loop begins on an empty stack, over a known collection, and leads into its body and
@@ -169,17 +171,17 @@ impl Marks {
     fn loop_agrees(
         &self,
         shape: &Shape,
-        place: usize,
+        address: usize,
         here: Mark,
         source: Source,
         past: u32,
     ) -> bool
-        requires { IsPlaced self.now place here }
+        requires { IsMarkAt self.now address here }
         ensures { IsTrue result
-            ↔ AgreesAt shape.now self.now place (meaning self.now.stacks here) (Loop source past) }
+            ↔ AgreesAt shape.now self.now address (meaning self.now.stacks here) (Loop source past) }
     {
         let body = Body {
-            first: place + 1,
+            first: address + 1,
             past: past as usize,
         };
         let Some(nest) = here.nest.with_inner(body) else {
@@ -191,16 +193,16 @@ impl Marks {
         };
         self.stacks.is_same(here.types, self.stacks.empty())
             && is_source(shape, source)
-            && self.arrives(place + 1, inside)
+            && self.arrives(address + 1, inside)
             && self.arrives(past as usize, here)
     }
 
     /// Whether the innermost loop's body ends here, on an empty stack, and leads to its beginning
     /// and out of it.
-    fn next_agrees(&self, place: usize, here: Mark, first: u32) -> bool
-        requires { IsPlaced self.now place here }
+    fn next_agrees(&self, address: usize, here: Mark, first: u32) -> bool
+        requires { IsMarkAt self.now address here }
         ensures { (shape : Shape) → IsTrue result
-            ↔ AgreesAt shape self.now place (meaning self.now.stacks here) (Next first) }
+            ↔ AgreesAt shape self.now address (meaning self.now.stacks here) (Next first) }
     {
         let Some((body, nest)) = here.nest.innermost() else {
             return false;
@@ -211,21 +213,21 @@ impl Marks {
         };
         self.stacks.is_same(here.types, self.stacks.empty())
             && body.first == first as usize
-            && body.past == place + 1
+            && body.past == address + 1
             && self.arrives(first as usize, here)
-            && self.arrives(place + 1, around)
+            && self.arrives(address + 1, around)
     }
 
-    /// Whether the program ends at its last place, outside all loops, with the types that it is to
+    /// Whether the program ends at its last address, outside all loops, with the types that it is to
     /// leave.
-    fn end_agrees(&self, shape: &Shape, place: usize, here: Mark) -> bool
-        requires { IsPlaced self.now place here }
+    fn end_agrees(&self, shape: &Shape, address: usize, here: Mark) -> bool
+        requires { IsMarkAt self.now address here }
         ensures { IsTrue result
-            ↔ AgreesAt shape.now self.now place (meaning self.now.stacks here) End }
+            ↔ AgreesAt shape.now self.now address (meaning self.now.stacks here) End }
     {
         are_left(&self.stacks, here.types, shape.sort())
             && here.nest.depth() == 0
-            && place + 1 == self.by_place.len()
+            && address + 1 == self.by_address.len()
     }
 
     /// The mark outside all loops, with an empty stack.
@@ -239,7 +241,7 @@ impl Marks {
         }
     }
 
-    /// Whether this mark is at a place of the program.
+    /// Whether this mark is at an address of the program.
     fn arrives(&self, to: usize, mark: Mark) -> bool
         requires numbered { AreNumbered self.now }
         requires mark { IsNumbered self.now.stacks mark }
@@ -251,7 +253,7 @@ impl Marks {
         }
     }
 
-    /// Whether this mark with one more type on top is at a place of the program.
+    /// Whether this mark with one more type on top is at an address of the program.
     fn arrives_with(&self, to: usize, top: ValueType, mark: Mark) -> bool
         requires numbered { AreNumbered self.now }
         requires mark { IsNumbered self.now.stacks mark }

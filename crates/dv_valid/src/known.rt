@@ -1,4 +1,4 @@
-//! Which places, ports and phases a shape knows.
+//! Which addresses, ports and phases a shape knows.
 
 ghost use Rattle.std.specs.Prelude.{◌≡◌, ◌↔◌, ℕ, ℤ, slice_get, IsTrue, Some};
 ghost use Rattle.dv_code.specs.Shape.{may_change, may_read_elapsed, may_receive, may_send};
@@ -39,34 +39,34 @@ fn may_read_elapsed(sort: ProgramSort) -> bool
     matches!(sort, ProgramSort::External)
 }
 
-/// What the slot of a place may hold, if there is one.
-fn slot(shape: &Shape, place: u16) -> Option<Slot>
-    ensures { result ≡ slice_get shape.now.slots place }
+/// What the slot of an address may hold, if there is one.
+fn slot(shape: &Shape, address: u16) -> Option<Slot>
+    ensures { result ≡ slice_get shape.now.slots address }
 {
-    shape.tables().slots().get(usize::from(place)).copied()
+    shape.tables().slots().get(usize::from(address)).copied()
 }
 
-/// Whether the slot of a place holds a number of a range.
-fn is_ranged(shape: &Shape, place: u16) -> bool
+/// Whether the slot of an address holds a number of a range.
+fn is_ranged(shape: &Shape, address: u16) -> bool
     ensures { IsTrue result
-        ↔ ((low high : ℤ) × (slice_get shape.now.slots place ≡ Some (Ranged low high))) }
+        ↔ ((low high : ℤ) × (slice_get shape.now.slots address ≡ Some (Ranged low high))) }
 {
-    matches!(slot(shape, place), Some(Slot::Ranged { .. }))
+    matches!(slot(shape, address), Some(Slot::Ranged { .. }))
 }
 
-/// Whether the slot of a place holds a truth value.
-fn is_flagged(shape: &Shape, place: u16) -> bool
-    ensures { IsTrue result ↔ (slice_get shape.now.slots place ≡ Some Flagged) }
+/// Whether the slot of an address holds a truth value.
+fn is_flagged(shape: &Shape, address: u16) -> bool
+    ensures { IsTrue result ↔ (slice_get shape.now.slots address ≡ Some Flagged) }
 {
-    matches!(slot(shape, place), Some(Slot::Flagged))
+    matches!(slot(shape, address), Some(Slot::Flagged))
 }
 
-/// Whether the slot of a place holds a collection of this discipline.
-fn is_holding(shape: &Shape, discipline: Discipline, place: u16) -> bool
+/// Whether the slot of an address holds a collection of this discipline.
+fn is_holding(shape: &Shape, discipline: Discipline, address: u16) -> bool
     ensures { IsTrue result
-        ↔ ((capacity : ℕ) × (slice_get shape.now.slots place ≡ Some (Holding discipline capacity))) }
+        ↔ ((capacity : ℕ) × (slice_get shape.now.slots address ≡ Some (Holding discipline capacity))) }
 {
-    matches!(slot(shape, place), Some(Slot::Holding { discipline: held, .. }) if held == discipline)
+    matches!(slot(shape, address), Some(Slot::Holding { discipline: held, .. }) if held == discipline)
 }
 
 /// Whether a program may read a collection there.
@@ -74,7 +74,7 @@ pub fn is_source(shape: &Shape, source: Source) -> bool
     ensures { IsTrue result ↔ IsSourceOf shape.now source }
 {
     match source {
-        Source::Own(discipline, place) => is_holding(shape, discipline, place),
+        Source::Own(discipline, address) => is_holding(shape, discipline, address),
         Source::Port(port) => {
             u32::from(port) < shape.tables().inputs() && may_receive(shape.sort())
         }
@@ -97,13 +97,13 @@ pub fn knows_leaf(shape: &Shape, inside: usize, leaf: Leaf) -> bool
 {
     match leaf {
         Leaf::Number(_) | Leaf::Truth(_) => true,
-        Leaf::Variable(place) => is_ranged(shape, place),
-        Leaf::Flag(place) => is_flagged(shape, place),
+        Leaf::Variable(address) => is_ranged(shape, address),
+        Leaf::Flag(address) => is_flagged(shape, address),
         Leaf::Item(number) => usize::from(number) < inside,
         Leaf::Elapsed => may_read_elapsed(shape.sort()),
         Leaf::Size(source) => is_source(shape, source),
         Leaf::Sum(source) | Leaf::Least(source) | Leaf::Most(source) => is_bag(shape, source),
-        Leaf::Front(place) => is_holding(shape, Discipline::Queue, place),
+        Leaf::Front(address) => is_holding(shape, Discipline::Queue, address),
     }
 }
 
@@ -122,10 +122,10 @@ pub fn knows_action(shape: &Shape, action: Action) -> bool
     ensures { IsTrue result ↔ KnowsAction shape.now action }
 {
     match action {
-        Action::SetVariable(place) => is_ranged(shape, place) && may_change(shape.sort()),
-        Action::SetFlag(place) => is_flagged(shape, place) && may_change(shape.sort()),
-        Action::Change(change, place) => {
-            is_holding(shape, change.discipline(), place) && may_change(shape.sort())
+        Action::SetVariable(address) => is_ranged(shape, address) && may_change(shape.sort()),
+        Action::SetFlag(address) => is_flagged(shape, address) && may_change(shape.sort()),
+        Action::Change(change, address) => {
+            is_holding(shape, change.discipline(), address) && may_change(shape.sort())
         }
         Action::Send(port) => {
             u32::from(port) < shape.tables().outputs() && may_send(shape.sort())
@@ -139,8 +139,8 @@ pub fn knows_deed(shape: &Shape, deed: Deed) -> bool
 {
     match deed {
         Deed::Go(phase) => phase < shape.tables().phases() && may_change(shape.sort()),
-        Deed::Pop(place) => {
-            is_holding(shape, Discipline::Queue, place) && may_change(shape.sort())
+        Deed::Pop(address) => {
+            is_holding(shape, Discipline::Queue, address) && may_change(shape.sort())
         }
     }
 }

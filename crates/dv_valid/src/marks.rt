@@ -1,6 +1,6 @@
 //! The marks of a program. All ways but that of `Next` lead forward, and an instruction leaves no
-//! choice about the mark of its place once the marks behind it are known. So one pass from the last
-//! place to the first finds the only marks that can fit.
+//! choice about the mark of its address once the marks behind it are known. So one pass from the last
+//! address to the first finds the only marks that can fit.
 
 ghost use Rattle.std.specs.Prelude.{◌≡◌, ◌≢◌, ℕ, ◌+◌, ◌<◌, ◌≤◌, List, [], ◌∷◌, length, slice_get, true, Some, IfOk, IfSome};
 ghost use Rattle.std.specs.Prelude.{MatchOption, OnOk};
@@ -11,7 +11,7 @@ ghost use Rattle.dv_code.specs.Valid.{Body as MeantBody, Mark as Meant, mark};
 ghost use Rattle.dv_valid.specs.Nests.{bodies};
 ghost use Rattle.dv_valid.specs.Stacks.{Keeps, types_at};
 ghost use Rattle.dv_valid.specs.Marks.{AreNumbered, Fit, IsForcedAt, IsFound, IsNumbered, MayBeNumbered, Settles, mark_of};
-ghost use Rattle.dv_valid.specs.Marks.{meaning, settling_place, with_top};
+ghost use Rattle.dv_valid.specs.Marks.{meaning, settling_address, with_top};
 ghost use Rattle.dv_code.specs.Limits.{deepest_loops};
 
 use crate::nest::{Body, Nest};
@@ -21,19 +21,23 @@ use dv_code::types::{action_type, leaf_type, operand_type, result_type};
 use dv_code::{Binary, Instruction, ProgramSort};
 use std::alloc::{AllocError, Global};
 
-/// What stands at a place by every way that leads there: the types on the stack, as the number of
-/// a stack of types, and the bodies that the place lies in.
+/// What stands at an address by every way that leads there: the types on the stack, as the number of
+/// a stack of types, and the bodies that the address lies in.
 #[derive(Clone, Copy)]
 pub struct Mark {
+    /// The number of the stack of types.
     pub types: usize,
+    /// The bodies of loops around.
     pub nest: Nest,
 }
 
-/// A mark for each place of a program.
+/// A mark for each address of a program.
 #[derive(Drop)]
 pub struct Marks {
+    /// The stacks of types, by their numbers.
     pub stacks: TypeStacks,
-    pub by_place: Vec<Mark>,
+    /// The mark of each address.
+    pub by_address: Vec<Mark>,
 }
 
 impl Marks {
@@ -49,11 +53,11 @@ impl Marks {
     ) -> Result<Option<Marks>, AllocError>
         ensures numbered { IfOk result (λ found. IfSome found AreNumbered) }
         ensures one_each { IfOk result (λ found.
-            IfSome found (λ marks. length marks.by_place.items ≡ length code.now)) }
+            IfSome found (λ marks. length marks.by_address.items ≡ length code.now)) }
         ensures only { IfOk result (λ found. (shape : Shape) (marks : ℕ → Meant)
             → shape.sort ≡ sort → Fit shape code.now marks
-            → MatchOption found ⊥ (λ these. (place : ℕ)
-            → place < length code.now → mark_of these place ≡ marks place)) }
+            → MatchOption found ⊥ (λ these. (address : ℕ)
+            → address < length code.now → mark_of these address ≡ marks address)) }
     {
         let stacks = TypeStacks::new(alloc)?;
         let outside = Mark {
@@ -62,62 +66,62 @@ impl Marks {
         };
         let mut marks = Marks {
             stacks,
-            by_place: vec![in alloc; outside; code.len()]?,
+            by_address: vec![in alloc; outside; code.len()]?,
         };
-        for place in (0..code.len()).rev() {
-            if !marks.settle(sort, place, code[place])? {
+        for address in (0..code.len()).rev() {
+            if !marks.settle(sort, address, code[address])? {
                 return Ok(None);
             }
         }
         Ok(Some(marks))
     }
 
-    /// The mark of a place, if it is one of the program.
-    pub fn mark(&self, place: usize) -> Option<Mark>
-        ensures { result ≡ slice_get self.now.by_place.items place }
+    /// The mark of an address, if it is one of the program.
+    pub fn mark(&self, address: usize) -> Option<Mark>
+        ensures { result ≡ slice_get self.now.by_address.items address }
     {
-        self.by_place.get(place).copied()
+        self.by_address.get(address).copied()
     }
 
-    /// Finds the mark of a place, once those behind it are known; `false` where none fits.
+    /// Finds the mark of an address, once those behind it are known; `false` where none fits.
     fn settle(
         &mut self,
         sort: ProgramSort,
-        place: usize,
+        address: usize,
         instruction: Instruction,
     ) -> Result<bool, AllocError>
         requires numbered { AreNumbered self.old }
-        requires place { place < length self.old.by_place.items }
+        requires address { address < length self.old.by_address.items }
         ensures numbered { OnOk result (AreNumbered self.new) }
         ensures one_each { OnOk result
-            (length self.new.by_place.items ≡ length self.old.by_place.items) }
-        ensures others { OnOk result ((other : ℕ) → other ≢ place
+            (length self.new.by_address.items ≡ length self.old.by_address.items) }
+        ensures others { OnOk result ((other : ℕ) → other ≢ address
             → mark_of self.new other ≡ mark_of self.old other) }
         ensures only { IfOk result (λ done. (here : Meant)
-            → IsForcedAt (left_by sort) self.old place instruction here
-            → (done ≡ true) × (mark_of self.new place ≡ here)) }
+            → IsForcedAt (left_by sort) self.old address instruction here
+            → (done ≡ true) × (mark_of self.new address ≡ here)) }
     {
-        let Some(mark) = self.before(sort, place, instruction)? else {
+        let Some(mark) = self.before(sort, address, instruction)? else {
             return Ok(false);
         };
-        self.by_place[place] = mark;
+        self.by_address[address] = mark;
         Ok(true)
     }
 
-    /// The mark of a place by those behind it, if one fits.
+    /// The mark of an address by those behind it, if one fits.
     fn before(
         &mut self,
         sort: ProgramSort,
-        place: usize,
+        address: usize,
         instruction: Instruction,
     ) -> Result<Option<Mark>, AllocError>
         requires numbered { AreNumbered self.old }
-        requires place { place < length self.old.by_place.items }
-        ensures places { OnOk result (self.new.by_place.items ≡ self.old.by_place.items) }
+        requires address { address < length self.old.by_address.items }
+        ensures addresses { OnOk result (self.new.by_address.items ≡ self.old.by_address.items) }
         ensures kept { OnOk result (Keeps self.old.stacks self.new.stacks) }
         ensures numbered { IfOk result (MayBeNumbered self.new.stacks) }
         ensures only { IfOk result (λ found. (here : Meant)
-            → IsForcedAt (left_by sort) self.old place instruction here
+            → IsForcedAt (left_by sort) self.old address instruction here
             → IsFound self.new.stacks here found) }
     {
         if let Instruction::End = instruction {
@@ -127,17 +131,17 @@ impl Marks {
                 nest: Nest::Outside,
             }));
         }
-        let next = place + 1;
-        match self.mark(settling_place(next, instruction)) {
+        let next = address + 1;
+        match self.mark(settling_address(next, instruction)) {
             None => Ok(None),
             Some(after) => mark_before(&mut self.stacks, next, instruction, after),
         }
     }
 }
 
-/// The place whose mark settles that of an instruction before the next one.
-fn settling_place(next: usize, instruction: Instruction) -> usize
-    ensures { result ≡ settling_place next instruction }
+/// The address whose mark settles that of an instruction before the next one.
+fn settling_address(next: usize, instruction: Instruction) -> usize
+    ensures { result ≡ settling_address next instruction }
 {
     match instruction {
         Instruction::Jump(to) => to as usize,
@@ -158,7 +162,7 @@ fn left_stack(stacks: &mut TypeStacks, sort: ProgramSort) -> Result<usize, Alloc
     }
 }
 
-/// The mark of an instruction before the next place, if one fits, by the mark that settles it.
+/// The mark of an instruction before the next address, if one fits, by the mark that settles it.
 fn mark_before(
     stacks: &mut TypeStacks,
     next: usize,

@@ -1,32 +1,38 @@
-//! The loop bodies that a place lies in.
+//! The loop bodies that an address lies in.
 
 ghost use Rattle.std.specs.Prelude.{◌≡◌, ◌↔◌, ◌<◌, ◌≤◌, [], ◌∷◌, length, IsTrue, MatchOption};
 ghost use Rattle.dv_code.specs.Valid.{LiesIn};
 ghost use Rattle.dv_valid.specs.Nests.{bodies, meant_body};
 ghost use Rattle.dv_code.specs.Limits.{deepest_loops};
 
-/// A loop's body: its first place, and the place past its end.
+/// A loop's body: its first address, and the address past its end.
 #[derive(Clone, Copy)]
 pub struct Body {
+    /// The address of its first instruction.
     pub first: usize,
+    /// The address behind its last instruction.
     pub past: usize,
 }
 
-/// The bodies that a place lies in, the innermost first. Loops lie no deeper in one another.
+/// The bodies that an address lies in, the innermost first. Loops lie no deeper in one another.
 #[derive(Clone, Copy)]
 pub enum Nest {
+    /// No body.
     Outside,
+    /// The body of one loop.
     One(Body),
+    /// The bodies of two loops, the inner one first.
     Two(Body, Body),
+    /// The bodies of three loops, the innermost first.
     Three(Body, Body, Body),
 }
 
 impl Body {
-    /// Whether a place is one of the body.
-    fn contains(self, place: usize) -> bool
-        ensures { IsTrue result ↔ ((self.first ≤ place) × (place < self.past)) }
+    /// Whether an address is one of the body.
+    fn contains(self, address: usize) -> bool
+        ensures { IsTrue result ↔ ((self.first ≤ address) × (address < self.past)) }
     {
-        self.first <= place && place < self.past
+        self.first <= address && address < self.past
     }
 
     /// Whether two bodies are the same.
@@ -92,17 +98,17 @@ impl Nest {
         }
     }
 
-    /// Whether a place lies in the innermost body, each body in the next, and all in a program of
+    /// Whether an address lies in the innermost body, each body in the next, and all in a program of
     /// so many instructions.
-    pub fn contains(self, place: usize, end: usize) -> bool
-        ensures { IsTrue result ↔ LiesIn end place (bodies self) }
+    pub fn contains(self, address: usize, end: usize) -> bool
+        ensures { IsTrue result ↔ LiesIn end address (bodies self) }
     {
         match self {
-            Nest::Outside => place < end,
-            Nest::One(a) => a.contains(place) && a.past < end,
-            Nest::Two(a, b) => a.contains(place) && b.contains(a.past) && b.past < end,
+            Nest::Outside => address < end,
+            Nest::One(a) => a.contains(address) && a.past < end,
+            Nest::Two(a, b) => a.contains(address) && b.contains(a.past) && b.past < end,
             Nest::Three(a, b, c) => {
-                a.contains(place) && b.contains(a.past) && c.contains(b.past) && c.past < end
+                a.contains(address) && b.contains(a.past) && c.contains(b.past) && c.past < end
             }
         }
     }

@@ -21,8 +21,11 @@ pub enum Stack {
 /// A stack, and the numbers of those that are one type more, where they were made.
 #[derive(Clone, Copy)]
 pub struct Node {
+    /// The stack.
     pub stack: Stack,
+    /// The number of the stack with a number on top of this one, where it was made.
     pub with_number: Option<usize>,
+    /// The number of the stack with a truth value on top of this one, where it was made.
     pub with_truth: Option<usize>,
 }
 

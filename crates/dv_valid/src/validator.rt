@@ -8,18 +8,18 @@ use crate::marks::Marks;
 use dv_code::{Instruction, Shape, Valid};
 use std::alloc::{AllocError, Global};
 
-/// How many instructions a program has at most, so that each place has a number of 32 bits.
+/// How many instructions a program has at most, so that each address has a number of 32 bits.
 const GREATEST_LENGTH: usize = 0xffff_ffff;
 
-/// The program, if it is valid for its shape: each place has a mark, which says what is on the
-/// stack and in which loops the place lies, and each instruction agrees with the marks of the
-/// places to which it leads. What is no program is let go.
+/// The program, if it is valid for its shape: each address has a mark, which says what is on the
+/// stack and in which loops the address lies, and each instruction agrees with the marks of the
+/// addresses to which it leads. What is no program is let go.
 ///
 /// It takes a time and a memory linear in the number of instructions.
 ///
 /// # Errors
 ///
-/// No memory for the marks of the places.
+/// No memory for the marks of the addresses.
 pub fn validate(
     alloc: Global,
     shape: Shape,
@@ -41,7 +41,7 @@ pub fn validate(
 ///
 /// # Errors
 ///
-/// No memory for the marks of the places.
+/// No memory for the marks of the addresses.
 fn is_program(alloc: Global, shape: &Shape, code: &[Instruction]) -> Result<bool, AllocError>
     ensures { IfOk result (λ valid.
         IsTrue valid ↔ IsProgram (record { shape = shape.now; code = code.now })) }

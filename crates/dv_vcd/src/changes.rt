@@ -9,7 +9,7 @@ use crate::values::{
     push_count, push_datum, push_nothing, push_number, push_standing, push_string, push_unknown,
 };
 use dv_bag::Input;
-use dv_trace::{Datum, Entry, Happening, Outside, Reach, Sending};
+use dv_trace::{Datum, EntryHead, Event, LineLists, Reach, Sending};
 use dv_tree::Tree;
 use indexmap::IndexMap;
 use std::alloc::{AllocError, Global};
@@ -158,35 +158,32 @@ impl<'a> Changes<'a> {
     }
 
     /// What the line of a component changes.
-    pub(crate) fn entry(&mut self, entry: Entry<'a>) -> Result<(), AllocError> {
-        let Entry {
-            time,
-            component,
-            happening,
-            sent,
-        } = entry;
-        self.advance(time.tick)?;
-        let component = component as usize;
+    pub(crate) fn entry(
+        &mut self,
+        entry: EntryHead,
+        lists: &LineLists<'a>,
+    ) -> Result<(), AllocError> {
+        self.advance(entry.time.tick)?;
+        let component = entry.component as usize;
         let Some(shown) = self.shown.components.get_mut(component) else {
             return Ok(());
         };
-        match happening {
-            Happening::Transition { phase, state, .. } => {
+        match entry.event {
+            Event::Transition { kind: _, phase } => {
                 let phase = phase_name(self.tree, component, phase);
                 move_to(&mut self.text, shown, Standing::Phase(phase))?;
-                push_state(&mut self.text, shown, &state)?;
-                shown.state = state;
+                follow_state(&mut self.text, shown, &lists.state)?;
             }
-            Happening::Fault(fault) => move_to(&mut self.text, shown, Standing::Fault(fault))?,
+            Event::Fault(fault) => move_to(&mut self.text, shown, Standing::Fault(fault))?,
         }
         let first = shown.port(0);
-        self.sent(first, &sent)
+        self.sent(first, &lists.sent)
     }
 
-    /// What leaves the model.
-    pub(crate) fn outside(&mut self, outside: &Outside<'a>) -> Result<(), AllocError> {
-        self.advance(outside.time.tick)?;
-        self.sent(self.shown.outputs, &outside.sent)
+    /// What leaves the model at a tick.
+    pub(crate) fn outside(&mut self, tick: u64, sent: &[Sending<'a>]) -> Result<(), AllocError> {
+        self.advance(tick)?;
+        self.sent(self.shown.outputs, sent)
     }
 
     // What leaves by ports whose codes are from a first one on.
@@ -255,10 +252,10 @@ fn push_ports(
 // What a component shows at the start, but for its ports.
 fn push_start(text: &mut String, shown: &Shown<'_>) -> Result<(), AllocError> {
     push_standing(text, shown.standing, shown.first)?;
-    for (place, datum) in shown.state.iter().enumerate() {
-        push_datum(text, shown.form(place), *datum, shown.variable(place))?;
+    for (index, datum) in shown.state.iter().enumerate() {
+        push_datum(text, shown.form(index), *datum, shown.variable(index))?;
         if let Datum::Held(values) = datum {
-            push_count(text, values.count, shown.size(place))?;
+            push_count(text, values.count, shown.size(index))?;
         }
     }
     Ok(())
@@ -288,29 +285,41 @@ fn move_to<'a>(
 }
 
 // Writes the variables whose values have changed.
-fn push_state(text: &mut String, shown: &Shown<'_>, state: &[Datum<'_>]) -> Result<(), AllocError> {
-    for (place, datum) in state.iter().enumerate() {
-        match shown.state.get(place) {
-            Some(before) if before == datum => {}
-            Some(before) => push_change(text, shown, place, *before, *datum)?,
-            None => {}
+fn follow_state<'a>(
+    text: &mut String,
+    shown: &mut Shown<'a>,
+    state: &[Datum<'a>],
+) -> Result<(), AllocError> {
+    for (index, datum) in state.iter().enumerate() {
+        match shown.state.get(index).copied() {
+            Some(before) if before != *datum => {
+                push_change(text, shown, index, before, *datum)?;
+                set_datum(&mut shown.state, index, *datum);
+            }
+            Some(_) | None => {}
         }
     }
     Ok(())
+}
+
+fn set_datum<'a>(state: &mut [Datum<'a>], index: usize, datum: Datum<'a>) {
+    if let Some(shown) = state.get_mut(index) {
+        *shown = datum;
+    }
 }
 
 // Writes the value of a variable, which has changed, and its size, if that has changed.
 fn push_change(
     text: &mut String,
     shown: &Shown<'_>,
-    place: usize,
+    index: usize,
     before: Datum<'_>,
     datum: Datum<'_>,
 ) -> Result<(), AllocError> {
-    push_datum(text, shown.form(place), datum, shown.variable(place))?;
+    push_datum(text, shown.form(index), datum, shown.variable(index))?;
     match (before, datum) {
         (Datum::Held(before), Datum::Held(values)) if before.count != values.count => {
-            push_count(text, values.count, shown.size(place))
+            push_count(text, values.count, shown.size(index))
         }
         (Datum::Held(_) | Datum::Number(_) | Datum::Flag(_), _) => Ok(()),
     }

@@ -9,7 +9,7 @@ use dv_bag::Inputs;
 use dv_inputs::{InputRefusal, InputsError, read_inputs};
 use dv_text::{WriteError, hand_over, hand_over_if_long};
 use dv_time::GREATEST_LIMIT;
-use dv_trace::{Reach, TraceError, TraceLine, TraceReader, TraceRefusal, read_part};
+use dv_trace::{LineHead, LineLists, Reach, TraceError, TraceReader, TraceRefusal, read_part};
 use dv_tree::Tree;
 use std::alloc::{AllocError, Global};
 use std::io::Write;
@@ -130,11 +130,10 @@ fn write_changes<'a, W: Write>(
     writer: &mut W,
 ) -> Result<(), VcdError> {
     let mut reader = TraceReader::new(alloc, tree)?;
+    let mut lists = LineLists::new(alloc);
     for line in trace.split(|byte| *byte == b'\n') {
-        match reader.read_line(line) {
-            Ok(line) => follow(&mut changes, line)?,
-            Err(error) => return Err(VcdError::from(error)),
-        }
+        let head = reader.read_into(line, &mut lists)?;
+        follow(&mut changes, head, &lists)?;
         hand_over_if_long(&mut changes.text, writer)?;
     }
     changes.finish(reach)?;
@@ -143,10 +142,14 @@ fn write_changes<'a, W: Write>(
 }
 
 // What a line changes.
-fn follow<'a>(changes: &mut Changes<'a>, line: TraceLine<'a>) -> Result<(), AllocError> {
-    match line {
-        TraceLine::Entry(entry) => changes.entry(entry),
-        TraceLine::Outside(outside) => changes.outside(&outside),
-        TraceLine::Empty | TraceLine::Whole(_) | TraceLine::Clock(_) | TraceLine::Partial => Ok(()),
+fn follow<'a>(
+    changes: &mut Changes<'a>,
+    head: LineHead,
+    lists: &LineLists<'a>,
+) -> Result<(), AllocError> {
+    match head {
+        LineHead::Entry(entry) => changes.entry(entry, lists),
+        LineHead::Outside(time) => changes.outside(time.tick, &lists.sent),
+        LineHead::Empty | LineHead::Whole(_) | LineHead::Clock(_) | LineHead::Partial => Ok(()),
     }
 }

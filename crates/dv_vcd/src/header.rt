@@ -111,11 +111,11 @@ fn push_component(
     let scope = tree.scope(component);
     // No variable and no port is named by a reserved word.
     push_variable(text, Form::Text, shown.first, "phases")?;
-    for (place, name) in scope.variables().iter().enumerate() {
-        push_held(text, shown, place, tree.name(*name))?;
+    for (index, name) in scope.variables().iter().enumerate() {
+        push_held(text, shown, index, tree.name(*name))?;
     }
-    for (place, name) in scope.outputs().iter().enumerate() {
-        let code = shown.port(place);
+    for (index, name) in scope.outputs().iter().enumerate() {
+        let code = shown.port(index);
         push_variable(text, declared.ports.form(code), code, tree.name(*name))?;
     }
     Ok(())
@@ -125,16 +125,16 @@ fn push_component(
 fn push_held(
     text: &mut String,
     shown: &Shown<'_>,
-    place: usize,
+    index: usize,
     name: &str,
 ) -> Result<(), AllocError> {
-    let form = shown.form(place);
-    push_variable(text, form, shown.variable(place), name)?;
+    let form = shown.form(index);
+    push_variable(text, form, shown.variable(index), name)?;
     if form != Form::Text {
         return Ok(());
     }
     write!(text, "$var {} ", Form::Integer)?;
-    push_code(text, shown.size(place))?;
+    push_code(text, shown.size(index))?;
     writeln!(text, " {name}$size $end")
 }
 

@@ -1,4 +1,12 @@
 //! A trace as a value change dump (VCD, IEEE 1364), for wave viewers.
+//!
+//! `write_vcd` reads a trace once to test it, and then writes for each component its phase, its variables and its
+//! ports as they change, with the inputs of the run where they are given. `WaveOptions` says how long a tick is (a
+//! `Timescale`) and whether ports hold their values until the next one. It keeps what is known of each component, and
+//! of the lines nothing.
+//!
+//! `dv_views` calls it for `pdevs vcd`. Nothing is claimed of a dump but that it is made without a fault of the
+//! program. Dumps know ticks and no microsteps: the changes at all microsteps of a tick stand at that tick.
 #![tactic(auto)]
 
 /// What arrives at the input ports of the root.

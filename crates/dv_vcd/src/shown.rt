@@ -26,25 +26,25 @@ pub(crate) struct Shown<'a> {
 }
 
 impl Shown<'_> {
-    /// The code of the variable at a place.
-    pub(crate) fn variable(&self, place: usize) -> u64 {
-        self.first.saturating_add(1).saturating_add(place as u64)
+    /// The code of the variable at an index.
+    pub(crate) fn variable(&self, index: usize) -> u64 {
+        self.first.saturating_add(1).saturating_add(index as u64)
     }
 
-    /// The code of the size of the bag or the queue at a place.
-    pub(crate) fn size(&self, place: usize) -> u64 {
+    /// The code of the size of the bag or the queue at an index.
+    pub(crate) fn size(&self, index: usize) -> u64 {
         self.variable(self.domains.len())
-            .saturating_add(place as u64)
+            .saturating_add(index as u64)
     }
 
-    /// The code of the output port at a place.
-    pub(crate) fn port(&self, place: usize) -> u64 {
-        self.size(self.domains.len()).saturating_add(place as u64)
+    /// The code of the output port at an index.
+    pub(crate) fn port(&self, index: usize) -> u64 {
+        self.size(self.domains.len()).saturating_add(index as u64)
     }
 
-    /// The form of the variable at a place.
-    pub(crate) fn form(&self, place: usize) -> Form {
-        match self.domains.get(place) {
+    /// The form of the variable at an index.
+    pub(crate) fn form(&self, index: usize) -> Form {
+        match self.domains.get(index) {
             Some(domain) => Form::of(*domain),
             None => Form::Text,
         }

@@ -4,7 +4,8 @@ use crate::ports::{Passing, Ports};
 use crate::shown::AllShown;
 use dv_bag::Input;
 use dv_trace::{
-    End, Reach, Sending, TraceError, TraceLine, TraceReader, Values, check_trace, read_part,
+    End, LineHead, LineLists, Reach, Sending, TraceError, TraceReader, Values, check_trace,
+    read_part,
 };
 use dv_tree::Tree;
 use std::alloc::Global;
@@ -41,11 +42,10 @@ pub(crate) fn survey_held(
     let mut reader = TraceReader::new(alloc, tree)?;
     let mut ports = Ports::held(alloc, shown.behind)?;
     let mut last = 0;
+    let mut lists = LineLists::new(alloc);
     for line in read_part(trace, end).split(|byte| *byte == b'\n') {
-        match reader.read_line(line) {
-            Ok(line) => watch(&mut ports, shown, &line, &mut last),
-            Err(error) => return Err(error),
-        }
+        let head = reader.read_into(line, &mut lists)?;
+        watch(&mut ports, shown, head, &lists.sent, &mut last);
     }
     let reach = reader.end(end)?;
     let behind = tick_behind(reach, last);
@@ -67,19 +67,25 @@ pub(crate) fn tick_behind(reach: Reach, last: u64) -> u64 {
 }
 
 // What passes by ports at a line. The tick of the last line is kept.
-fn watch(ports: &mut Ports, shown: &AllShown<'_>, line: &TraceLine<'_>, last: &mut u64) {
-    match line {
-        TraceLine::Entry(entry) => {
+fn watch(
+    ports: &mut Ports,
+    shown: &AllShown<'_>,
+    head: LineHead,
+    sent: &[Sending<'_>],
+    last: &mut u64,
+) {
+    match head {
+        LineHead::Entry(entry) => {
             *last = entry.time.tick;
             if let Some(shown) = shown.components.get(entry.component as usize) {
-                watch_sent(ports, *last, shown.port(0), &entry.sent);
+                watch_sent(ports, *last, shown.port(0), sent);
             }
         }
-        TraceLine::Outside(outside) => {
-            *last = outside.time.tick;
-            watch_sent(ports, *last, shown.outputs, &outside.sent);
+        LineHead::Outside(time) => {
+            *last = time.tick;
+            watch_sent(ports, *last, shown.outputs, sent);
         }
-        TraceLine::Empty | TraceLine::Whole(_) | TraceLine::Clock(_) | TraceLine::Partial => {}
+        LineHead::Empty | LineHead::Whole(_) | LineHead::Clock(_) | LineHead::Partial => {}
     }
 }
 

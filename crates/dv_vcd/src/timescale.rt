@@ -6,8 +6,11 @@ use std::str::FromStr;
 /// Of how many units a tick is. A dump knows no other counts.
 #[derive(Clone, Copy, Debug, PartialEq, Eq)]
 pub enum UnitCount {
+    /// 1 unit.
     One,
+    /// 10 units.
     Ten,
+    /// 100 units.
     Hundred,
 }
 
@@ -24,11 +27,17 @@ impl UnitCount {
 /// A unit of time, from a second down to a femtosecond.
 #[derive(Clone, Copy, Debug, PartialEq, Eq)]
 pub enum TimeUnit {
+    /// A second, `s`.
     Second,
+    /// A thousandth of a second, `ms`.
     Millisecond,
+    /// A millionth of a second, `us`.
     Microsecond,
+    /// 10^-9 seconds, `ns`.
     Nanosecond,
+    /// 10^-12 seconds, `ps`.
     Picosecond,
+    /// 10^-15 seconds, `fs`.
     Femtosecond,
 }
 
@@ -58,7 +67,9 @@ impl TimeUnit {
 /// How long a tick is: so many units of time. It is displayed as `10 us`.
 #[derive(Clone, Copy, Debug, PartialEq, Eq)]
 pub struct Timescale {
+    /// How many units a tick is.
     pub count: UnitCount,
+    /// The unit of time.
     pub unit: TimeUnit,
 }
 

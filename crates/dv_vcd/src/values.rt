@@ -37,15 +37,15 @@ const NEXT_BITS: [&str; 16] = [
 fn push_bits(text: &mut String, number: u64) -> Result<(), AllocError> {
     let digits = number.checked_ilog2().unwrap_or(0) / 4;
     text.push_str(bits_at(&FIRST_BITS, number, digits))?;
-    for place in (0..digits).rev() {
-        text.push_str(bits_at(&NEXT_BITS, number, place))?;
+    for index in (0..digits).rev() {
+        text.push_str(bits_at(&NEXT_BITS, number, index))?;
     }
     Ok(())
 }
 
-// The bits of the digit to base 16 at a place; the last one is at place 0.
-fn bits_at(table: &[&'static str; 16], number: u64, place: u32) -> &'static str {
-    let digit = number.checked_shr(place.saturating_mul(4)).unwrap_or(0) % 16;
+// The bits of the digit to base 16 at an index; the last one is at index 0.
+fn bits_at(table: &[&'static str; 16], number: u64, index: u32) -> &'static str {
+    let digit = number.checked_shr(index.saturating_mul(4)).unwrap_or(0) % 16;
     table.get(digit as usize).copied().unwrap_or("")
 }
 

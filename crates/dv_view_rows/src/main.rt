@@ -1,8 +1,12 @@
-//! Compares the views of models and of traces with those that lie beside them.
+//! A test that is a program: it compares the views of models and of traces, which `dv_views` makes, with those that
+//! lie beside them.
 //!
-//! Each word names a folder with a model, a trace and their views; the file `warned.txt` with models and what is told of them;
-//! the file `faulted.txt` with models and what is told of their faults; the file `timescales.txt` with texts of time scales; or another
-//! file (`.txt`) with traces that are refused.
+//! Most expected views were written or worked out by hand; those of the examples, and all tables, are byte for byte
+//! what a second program makes that follows the reference. `data/README.md` says it of each folder.
+//!
+//! Each word names a folder with a model, a trace and their views; the file `warned.txt` with models and what is told
+//! of them; the file `faulted.txt` with models and what is told of their faults; the file `timescales.txt` with texts
+//! of time scales; or another file (`.txt`) with traces that are refused.
 #![tactic(auto)]
 
 /// Models with faults.

@@ -82,13 +82,8 @@ fn compare<R: AllocGlobal + Print>(rt: &R, telling: &mut Telling) -> io::Result<
 /// What is answered where the numbers of a trace are asked for.
 fn counted(alloc: Global, model: &str, trace: &str) -> Result<String, AllocError> {
     let mut written = Vec::new(alloc);
-    let outcome = stats_bytes(
-        alloc,
-        model.as_bytes(),
-        trace.as_bytes(),
-        &WHOLE,
-        &mut written,
-    );
+    let mut trace = trace.as_bytes();
+    let outcome = stats_bytes(alloc, model.as_bytes(), &mut trace, &WHOLE, &mut written);
     told(alloc, outcome, written.is_empty())
 }
 

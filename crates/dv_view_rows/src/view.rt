@@ -4,8 +4,8 @@ use dv_partition::Partition;
 use dv_trace::End;
 use dv_tree::Tree;
 use dv_views::{
-    Form, GraphOptions, Shown, StatsOptions, StatsWriter, TableForm, TableOptions, TimeUnit,
-    Timescale, UnitCount, ViewError, WaveOptions, accept, graph_bytes, load, stats_bytes,
+    Form, GraphOptions, Shown, StatsOptions, TableForm, TableOptions, TimeUnit, Timescale,
+    UnitCount, ViewError, WaveOptions, accept, graph_bytes, load, numbers_of, stats_bytes,
     table_bytes, vcd_bytes, warnings_bytes,
 };
 use std::alloc::Global;
@@ -17,8 +17,11 @@ const PIECE_LENGTH: usize = 50;
 /// The model, the trace and the inputs of a folder.
 #[derive(Drop)]
 pub struct Texts {
+    /// The text of the model.
     pub model: Vec<u8>,
+    /// The text of the trace.
     pub trace: Vec<u8>,
+    /// The text of the inputs, where the folder has one.
     pub inputs: Option<Vec<u8>>,
     /// The path whose components' numbers are asked for.
     pub only: String,
@@ -35,31 +38,54 @@ impl Texts {
 /// Which view.
 #[derive(Clone, Copy)]
 pub enum View {
+    /// The graph of the model.
     Graph,
+    /// The graph of the model in two processes.
     TwoProcesses,
+    /// The overview to the depth 0.
     Whole,
+    /// The overview to the depth 1.
     Parts,
+    /// The overview to the depth 1, in two processes.
     PartsOfTwoProcesses,
+    /// The overview to the depth 2.
     TwoLevels,
+    /// The phases of one model.
     Phases,
+    /// What is told of the model.
     Warnings,
+    /// The dump.
     Dump,
+    /// The dump in which ports hold their values, with the inputs.
     HeldDump,
+    /// The dump with the inputs, a nanosecond a tick.
     InputsDump,
+    /// The dump of a trace that need not have an end.
     PartialDump,
+    /// The numbers, in columns.
     Columns,
+    /// The numbers, as comma-separated values.
     Csv,
+    /// The same, by a writer that is given the trace in pieces.
     CsvByPieces,
+    /// The numbers with quantiles.
     Quantiles,
+    /// The numbers of the ticks 5 to 11.
     Span,
+    /// The numbers of some components.
     Only,
+    /// The numbers of a trace that need not have an end.
     Partial,
+    /// The table, with the inputs.
     Table,
+    /// The table of a trace that need not have an end.
     PartialTable,
+    /// The table as JSON lines.
     JsonLines,
 }
 
 impl View {
+    /// All views.
     pub const ALL: [View; 22] = [
         View::Graph,
         View::TwoProcesses,
@@ -234,7 +260,8 @@ fn write_numbers(
         View::Partial => options.end = End::Optional,
         _ => {}
     }
-    stats_bytes(alloc, &texts.model, &texts.trace, &options, written)?;
+    let mut trace = texts.trace.as_slice();
+    stats_bytes(alloc, &texts.model, &mut trace, &options, written)?;
     Ok(())
 }
 
@@ -251,7 +278,7 @@ fn count_pieces(
     trace: &[u8],
     written: &mut Vec<u8>,
 ) -> Result<(), ViewError> {
-    let mut numbers = StatsWriter::new(alloc, tree, &WHOLE)?;
+    let mut numbers = numbers_of(alloc, tree, &WHOLE)?;
     for piece in trace.chunks(PIECE_LENGTH) {
         // Why a write failed is told at the end.
         if numbers.write_all(piece).is_err() {

@@ -11,7 +11,8 @@ use dv_text::WriteError;
 use dv_trace::TraceRefusal;
 use dv_vcd::VcdError;
 use std::alloc::AllocError;
-use std::fmt;
+use std::io::ErrorKind;
+use std::{fmt, io};
 use thiserror::Error;
 
 /// Why there is no view, or none to its end.
@@ -19,10 +20,12 @@ use thiserror::Error;
 pub enum ViewError {
     /// The model, the partition or the inputs are refused, a write failed or an allocation was refused.
     Job(JobError),
+    /// The trace can't be read to its end; nothing was written.
+    Unread(io::Error),
     /// The trace is refused; nothing was written.
     Trace(TraceRefusal),
-    /// No component has the path of which numbers are asked for; nothing was written.
-    NoPath,
+    /// No component has the path of which numbers are asked for, in words; nothing was written.
+    NoPath(String),
     /// No atomic model has the name whose phases are asked for, in words; nothing was written.
     NoPhases(String),
 }
@@ -31,9 +34,19 @@ impl fmt::Display for ViewError {
     fn fmt<W: fmt::Write>(&self, f: &mut fmt::Formatter<W>) -> fmt::Result {
         match self {
             ViewError::Job(error) => write!(f, "{error}"),
+            ViewError::Unread(error) => write!(f, "cannot read the trace: {error}"),
             ViewError::Trace(refusal) => write!(f, "{refusal}"),
-            ViewError::NoPath => f.write_str("no component of this path"),
-            ViewError::NoPhases(words) => f.write_str(words.as_str()),
+            ViewError::NoPath(words) | ViewError::NoPhases(words) => f.write_str(words.as_str()),
+        }
+    }
+}
+
+impl ViewError {
+    /// The error where a trace can't be read.
+    pub(crate) fn of_read(error: io::Error) -> Self {
+        match error.kind() {
+            ErrorKind::OutOfMemory => ViewError::Job(JobError::Memory),
+            _ => ViewError::Unread(error),
         }
     }
 }
@@ -70,7 +83,6 @@ impl From<VcdError> for ViewError {
 impl From<StatsError> for ViewError {
     fn from(error: StatsError) -> Self {
         match error {
-            StatsError::NoPath => ViewError::NoPath,
             StatsError::Refused(refusal) => ViewError::Trace(refusal),
             StatsError::Write => ViewError::Job(JobError::Write),
             StatsError::Memory => ViewError::Job(JobError::Memory),

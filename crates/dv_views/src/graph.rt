@@ -20,6 +20,7 @@ use std::io::Write;
 pub struct GraphOptions<'a> {
     /// The partition, where processes are to be shown.
     pub groups: Option<Partition<'a>>,
+    /// What of the model is shown.
     pub shown: Shown<'a>,
 }
 

@@ -1,5 +1,12 @@
-//! Views of models and of traces: from the bytes of a model and of its trace to a graph, warnings, a value change dump, numbers and
-//! a table; and from a model that is run again to where its faults came from. They only read; no trace depends on them.
+//! Views of models and of traces, from bytes to bytes.
+//!
+//! Each call takes the bytes of a model, and some of a trace, inputs or a partition, and writes one view:
+//! `graph_bytes` a graph, `vcd_bytes` a value change dump, `stats_bytes` numbers, `table_bytes` a table,
+//! `warnings_bytes` warnings; `faults_text` runs the model again and tells where its faults came from. A `ViewError`
+//! is the answer to the first of the texts that is refused.
+//!
+//! The program calls these for `graph`, `vcd`, `stats`, `table`, `check --warn` and `run --explain`. Views only read:
+//! no trace depends on them, and nothing is claimed of them but that they are made without a fault of the program.
 #![tactic(auto)]
 
 /// Why there is no view.
@@ -28,7 +35,7 @@ pub use error::ViewError;
 pub use faults::faults_text;
 pub use graph::{GraphOptions, Shown, graph_bytes};
 pub use model::{accept, load};
-pub use stats::stats_bytes;
+pub use stats::{numbers_of, stats_bytes};
 pub use table::table_bytes;
 pub use vcd::vcd_bytes;
 pub use warnings::warnings_bytes;

@@ -2,28 +2,131 @@
 
 use crate::error::ViewError;
 use crate::model::{accept, load};
-use dv_stats::{StatsOptions, write_stats};
+use dv_hints::unknown_name;
+use dv_stats::{StatsOptions, StatsWriter};
 use dv_trace::Reach;
-use std::alloc::Global;
-use std::io::Write;
+use dv_tree::Tree;
+use std::alloc::{AllocError, Global};
+use std::io::{ErrorKind, Read, Write};
+
+/// How many bytes of a trace are read at a time.
+const PIECE_LENGTH: usize = 65_536;
 
 /// Writes what a trace of the model of a text says of each component and each output of the root, in numbers, and returns how far the
-/// trace reaches.
+/// trace reaches. The trace is read to its end, piece by piece, so that without quantiles memory does not grow with it.
 ///
 /// # Errors
 ///
-/// `Job` with `Text`, the answer to the model's text; where the model is accepted, `NoPath` where no component has the path that is
-/// asked for, or else `Trace`, the answer to the trace; nothing was written then. `Job` with `Write` or `Memory`: the writer holds a
-/// beginning of the text that is not all of it, for `Memory` perhaps nothing.
-pub fn stats_bytes<W: Write>(
+/// `Unread` where no first piece of the trace can be read, and else `Job` with `Text`, the answer to the model's text; where the model is
+/// accepted, `NoPath` where no component has the path that is asked for, or else the first of `Trace`, the answer to the trace, and
+/// `Unread`; nothing was written then. `Job` with `Write` or `Memory`: the writer holds a beginning of the text that is not all of it,
+/// for `Memory` perhaps nothing.
+pub fn stats_bytes<T: Read, W: Write>(
     alloc: Global,
     model: &[u8],
-    trace: &[u8],
+    trace: &mut T,
     options: &StatsOptions<'_>,
     writer: &mut W,
 ) -> Result<Reach, ViewError> {
+    let mut piece = vec![in alloc; 0; PIECE_LENGTH]?;
+    let first = read_piece(trace, &mut piece)?;
     let checked = load(alloc, model)?;
     let tree = accept(alloc, model, &checked)?;
-    let reach = write_stats(alloc, &tree, trace, options, writer)?;
-    Ok(reach)
+    count_trace(alloc, &tree, trace, &mut piece, first, options, writer)
+}
+
+// Counts a trace, of which a first piece was read, and writes the numbers.
+fn count_trace<T: Read, W: Write>(
+    alloc: Global,
+    tree: &Tree<'_>,
+    trace: &mut T,
+    piece: &mut [u8],
+    first: usize,
+    options: &StatsOptions<'_>,
+    writer: &mut W,
+) -> Result<Reach, ViewError> {
+    let mut numbers = numbers_of(alloc, tree, options)?;
+    count_pieces(trace, piece, first, &mut numbers)?;
+    Ok(numbers.finish(writer)?)
+}
+
+/// A writer that counts a trace of the model of a tree.
+///
+/// # Errors
+///
+/// `NoPath` where only some components are asked for, and there are none; which paths are near is told. `Job` with `Memory`.
+pub fn numbers_of<'t>(
+    alloc: Global,
+    tree: &'t Tree<'t>,
+    options: &StatsOptions<'t>,
+) -> Result<StatsWriter<'t>, ViewError> {
+    match StatsWriter::new(alloc, tree, options)? {
+        Some(numbers) => Ok(numbers),
+        None => Err(no_path(alloc, tree, options.only.unwrap_or(""))?),
+    }
+}
+
+// That no component has a path, and which paths are near: of components, and of the coupled models around them.
+fn no_path(alloc: Global, tree: &Tree<'_>, path: &str) -> Result<ViewError, AllocError> {
+    let paths = all_paths(alloc, tree)?;
+    let mut names = Vec::with_capacity(alloc, paths.len())?;
+    for path in &paths {
+        names.push(path.as_str())?;
+    }
+    let words = unknown_name(alloc, path, &names)?;
+    Ok(ViewError::NoPath(format!(in alloc; "no component of this path: {words}")?))
+}
+
+// The paths of all components and of the coupled models around them, each once. The components of a coupled model follow each other.
+fn all_paths(alloc: Global, tree: &Tree<'_>) -> Result<Vec<String>, AllocError> {
+    let mut paths = Vec::new(alloc);
+    let mut before: &[u32] = &[];
+    for component in 0..tree.component_count() {
+        let path = tree.path(component);
+        for length in shared(before, path)..path.len() {
+            let mut text = String::new(alloc);
+            tree.push_path(&mut text, path.get(..=length).unwrap_or(path))?;
+            paths.push(text)?;
+        }
+        before = path;
+    }
+    Ok(paths)
+}
+
+// How many names two paths begin with that are the same.
+fn shared(one: &[u32], other: &[u32]) -> usize {
+    one.iter()
+        .zip(other)
+        .take_while(|(one, other)| one == other)
+        .count()
+}
+
+// Reads the next bytes of a trace. None are left where none were read.
+fn read_piece<T: Read>(trace: &mut T, piece: &mut [u8]) -> Result<usize, ViewError> {
+    for _ in 0..u64::MAX {
+        match trace.read(piece) {
+            Ok(length) => return Ok(length),
+            Err(error) if matches!(error.kind(), ErrorKind::Interrupted) => {}
+            Err(error) => return Err(ViewError::of_read(error)),
+        }
+    }
+    Ok(0)
+}
+
+// Counts a first piece, which was read, and the rest of the trace. Why a line is not counted is said where the numbers are asked for.
+fn count_pieces<T: Read>(
+    trace: &mut T,
+    piece: &mut [u8],
+    first: usize,
+    numbers: &mut StatsWriter<'_>,
+) -> Result<(), ViewError> {
+    let mut length = first;
+    for _ in 0..u64::MAX {
+        let bytes = piece.get(..length).unwrap_or(&[]);
+        if bytes.is_empty() || numbers.write_all(bytes).is_err() {
+            break;
+        }
+        length = read_piece(trace, piece)?;
+    }
+    Ok(())
 }

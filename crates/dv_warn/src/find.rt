@@ -121,11 +121,11 @@ fn find_in_coupled_models(
     links: &[PortLinks],
     findings: &mut Findings<'_>,
 ) -> Result<(), AllocError> {
-    for (place, model) in tree.reached().iter().enumerate() {
+    for (offset, model) in tree.reached().iter().enumerate() {
         if let Model::Coupled(coupled) = model
-            && let Some(level) = level_at(tree.levels(), place)
-            && let Some(inside) = inside.get(place)
-            && let Some(outside) = links.get(place)
+            && let Some(level) = level_at(tree.levels(), offset)
+            && let Some(inside) = inside.get(offset)
+            && let Some(outside) = links.get(offset)
         {
             find_unlinked_ports(findings, coupled, &inside.own, outside)?;
             find_unlinked_parts(findings, level.parts(), inside, links)?;

@@ -26,7 +26,7 @@ impl<'t> Findings<'t> {
         self.tree.name(name.number)
     }
 
-    /// The name of the input port at a place of the model at a place among those that the root leads to.
+    /// The name of the input port at an offset of the model at an offset among those that the root leads to.
     pub(crate) fn input_name(&self, model: usize, port: usize) -> Option<&'t str> {
         let number = match self.tree.reached().get(model)? {
             Model::Atomic(_) => *self.tree.scopes().get(model)?.inputs().get(port)?,
@@ -35,13 +35,13 @@ impl<'t> Findings<'t> {
         Some(self.tree.name(number))
     }
 
-    /// Notes a warning at a place of the text.
+    /// Notes a warning at an offset of the text.
     ///
     /// # Errors
     ///
     /// No memory for it.
-    pub(crate) fn note(&mut self, place: u32, warning: Warning<'t>) -> Result<(), AllocError> {
-        Ok(self.found.push(Found { place, warning })?)
+    pub(crate) fn note(&mut self, offset: u32, warning: Warning<'t>) -> Result<(), AllocError> {
+        Ok(self.found.push(Found { offset, warning })?)
     }
 
     /// What was found, in the order of the text.
@@ -51,7 +51,7 @@ impl<'t> Findings<'t> {
     /// No memory to sort it.
     pub(crate) fn in_order(self) -> Result<Vec<Found<'t>>, AllocError> {
         let mut found = self.found;
-        found.sort_by_key(|found| found.place)?;
+        found.sort_by_key(|found| found.offset)?;
         Ok(found)
     }
 }

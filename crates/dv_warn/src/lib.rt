@@ -1,5 +1,11 @@
-//! What is told of a model that is accepted all the same: names that nothing uses, phases that nothing reaches, rules that never
-//! run, values that are lost.
+//! What is told of a model that is accepted all the same.
+//!
+//! `find_warnings` looks for what is probably a slip: names that nothing uses, phases that nothing reaches, rules
+//! that never run, and values that are lost. Each `Warning` comes with the token that it belongs to, and
+//! `write_warnings` prints them in the order of the text, a line each.
+//!
+//! `dv_views` calls it for `check --warn`. Nothing is claimed of warnings but that they are made without a fault of
+//! the program: a model without one may have slips, and one with some may be right.
 #![tactic(auto)]
 
 /// Expressions that name nothing.

@@ -10,7 +10,7 @@ pub(crate) struct PortLinks {
     is_linked: bool,
     inputs: Vec<bool>,
     outputs: Vec<bool>,
-    /// The places of the input ports that links lead to, in ascending order.
+    /// The offsets of the input ports that links lead to, in ascending order.
     fed: Vec<usize>,
 }
 
@@ -25,7 +25,7 @@ impl PortLinks {
         !self.is_linked || is_marked(&self.outputs, port)
     }
 
-    /// The places of the input ports that links lead to, in ascending order.
+    /// The offsets of the input ports that links lead to, in ascending order.
     pub(crate) fn fed_inputs(&self) -> &[usize] {
         &self.fed
     }
@@ -70,7 +70,7 @@ fn mark_all(marks: &mut [bool], ports: &[usize]) {
     }
 }
 
-/// The ports of a part with links, by place, in ascending order, each once.
+/// The ports of a part with links, by offset, in ascending order, each once.
 #[derive(Drop)]
 pub(crate) struct PartLinks {
     pub(crate) inputs: Vec<usize>,
@@ -83,12 +83,12 @@ impl PartLinks {
         !self.inputs.is_empty() || !self.outputs.is_empty()
     }
 
-    /// Whether the input port at a place has a link.
+    /// Whether the input port at an offset has a link.
     pub(crate) fn has_input(&self, port: usize) -> bool {
         self.inputs.binary_search(&port).is_ok()
     }
 
-    /// Whether the output port at a place has a link.
+    /// Whether the output port at an offset has a link.
     pub(crate) fn has_output(&self, port: usize) -> bool {
         self.outputs.binary_search(&port).is_ok()
     }
@@ -99,19 +99,19 @@ impl PartLinks {
 pub(crate) struct InsideLinks {
     /// The ports of the model itself: its inputs from which links lead, and its outputs to which links lead.
     pub(crate) own: PartLinks,
-    /// Those of its parts, by place.
+    /// Those of its parts, by offset.
     pub(crate) parts: Vec<PartLinks>,
 }
 
-/// The links inside of each of the models that the root leads to, by place; an atomic model has none.
+/// The links inside of each of the models that the root leads to, by index; an atomic model has none.
 ///
 /// # Errors
 ///
 /// No memory for the lists.
 pub(crate) fn links_inside(alloc: Global, tree: &Tree<'_>) -> Result<Vec<InsideLinks>, AllocError> {
     let mut inside = Vec::with_capacity(alloc, tree.reached().len())?;
-    for place in 0..tree.reached().len() {
-        inside.push(match level_at(tree.levels(), place) {
+    for offset in 0..tree.reached().len() {
+        inside.push(match level_at(tree.levels(), offset) {
             Some(level) => links_in(alloc, level)?,
             None => no_links(alloc, 0)?,
         })?;
@@ -191,7 +191,7 @@ fn sort_ports(links: &mut PartLinks) {
     links.outputs.dedup();
 }
 
-/// Which ports of each of the models that the root leads to have links, by place.
+/// Which ports of each of the models that the root leads to have links, by offset.
 ///
 /// # Errors
 ///
@@ -202,8 +202,8 @@ pub(crate) fn port_links(
     inside: &[InsideLinks],
 ) -> Result<Vec<PortLinks>, AllocError> {
     let mut links = unlinked(alloc, tree)?;
-    for (place, inside) in inside.iter().enumerate() {
-        if let Some(level) = level_at(tree.levels(), place) {
+    for (offset, inside) in inside.iter().enumerate() {
+        if let Some(level) = level_at(tree.levels(), offset) {
             add_parts(&mut links, level, inside);
         }
     }

@@ -22,7 +22,7 @@ pub(crate) fn find_unreached_models<'t>(
         let name = name_of(model);
         if !reached.contains(&name.number) {
             let model = findings.name(name);
-            findings.note(name.place, Warning::UnreachedModel { model })?;
+            findings.note(name.offset, Warning::UnreachedModel { model })?;
         }
     }
     Ok(())

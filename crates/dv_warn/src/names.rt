@@ -123,7 +123,7 @@ fn find_unused_variable<'t>(
     } else {
         Warning::UnusedVariable { sort, name }
     };
-    findings.note(variable.place, warning)
+    findings.note(variable.offset, warning)
 }
 
 // Where a rule takes whatever comes, no input port is unread.
@@ -146,7 +146,7 @@ fn find_unused_input<'t>(
             port,
         },
     };
-    findings.note(input.place, warning)
+    findings.note(input.offset, warning)
 }
 
 fn find_unused_output<'t>(
@@ -168,5 +168,5 @@ fn find_unused_output<'t>(
             port,
         },
     };
-    findings.note(output.place, warning)
+    findings.note(output.offset, warning)
 }

@@ -4,7 +4,7 @@ use crate::findings::Findings;
 use crate::links::{InsideLinks, PartLinks, PortLinks};
 use crate::warning::{Direction, Warning};
 use dv_syntax::{Coupled, Name};
-use dv_tree::PlacedPart;
+use dv_tree::ResolvedPart;
 use std::alloc::AllocError;
 
 /// Notes the ports of a coupled model that no link has inside of it, or from outside at any part of the model.
@@ -18,14 +18,14 @@ pub(crate) fn find_unlinked_ports(
     inside: &PartLinks,
     outside: &PortLinks,
 ) -> Result<(), AllocError> {
-    for (place, port) in coupled.inputs.iter().enumerate() {
-        let is_inside = inside.has_input(place);
-        let is_outside = outside.is_input_linked(Some(place));
+    for (offset, port) in coupled.inputs.iter().enumerate() {
+        let is_inside = inside.has_input(offset);
+        let is_outside = outside.is_input_linked(Some(offset));
         find_unlinked_input(findings, coupled.name, *port, is_inside, is_outside)?;
     }
-    for (place, port) in coupled.outputs.iter().enumerate() {
-        let is_inside = inside.has_output(place);
-        let is_outside = outside.is_output_linked(Some(place));
+    for (offset, port) in coupled.outputs.iter().enumerate() {
+        let is_inside = inside.has_output(offset);
+        let is_outside = outside.is_output_linked(Some(offset));
         find_unlinked_output(findings, coupled.name, *port, is_inside, is_outside)?;
     }
     Ok(())
@@ -51,7 +51,7 @@ fn find_unlinked_input(
         },
         (false, false) => Warning::UnusedPort { direction, port },
     };
-    findings.note(input.place, warning)
+    findings.note(input.offset, warning)
 }
 
 fn find_unlinked_output(
@@ -74,7 +74,7 @@ fn find_unlinked_output(
         },
         (false, false) => Warning::UnusedPort { direction, port },
     };
-    findings.note(output.place, warning)
+    findings.note(output.offset, warning)
 }
 
 /// Notes the parts of a coupled model without links, and those of whose inputs some have no links.
@@ -84,7 +84,7 @@ fn find_unlinked_output(
 /// No memory for a warning.
 pub(crate) fn find_unlinked_parts(
     findings: &mut Findings<'_>,
-    parts: &[PlacedPart],
+    parts: &[ResolvedPart],
     inside: &InsideLinks,
     links: &[PortLinks],
 ) -> Result<(), AllocError> {
@@ -98,7 +98,7 @@ pub(crate) fn find_unlinked_parts(
 
 fn find_in_part(
     findings: &mut Findings<'_>,
-    part: &PlacedPart,
+    part: &ResolvedPart,
     links: &PartLinks,
     model: &PortLinks,
 ) -> Result<(), AllocError> {
@@ -106,7 +106,7 @@ fn find_in_part(
         find_unfed_input(findings, part, links, model)
     } else if model.has_ports() {
         let name = findings.name(part.name);
-        findings.note(part.name.place, Warning::UnlinkedPart { part: name })
+        findings.note(part.name.offset, Warning::UnlinkedPart { part: name })
     } else {
         Ok(())
     }
@@ -115,7 +115,7 @@ fn find_in_part(
 // Inputs of a part to which no link leads, where links lead to those of other parts of the model. The first of them is named.
 fn find_unfed_input(
     findings: &mut Findings<'_>,
-    part: &PlacedPart,
+    part: &ResolvedPart,
     links: &PartLinks,
     model: &PortLinks,
 ) -> Result<(), AllocError> {
@@ -125,7 +125,7 @@ fn find_unfed_input(
         let name = findings.name(part.name);
         let unfed = model.fed_inputs().len().saturating_sub(links.inputs.len());
         findings.note(
-            part.name.place,
+            part.name.offset,
             Warning::UnfedPart {
                 part: name,
                 port,
@@ -138,8 +138,8 @@ fn find_unfed_input(
 
 // The first of some ports that is not among others, which are some of them, both in ascending order.
 fn first_lacking(ports: &[usize], others: &[usize]) -> Option<usize> {
-    for (place, port) in ports.iter().enumerate() {
-        if others.get(place) != Some(port) {
+    for (offset, port) in ports.iter().enumerate() {
+        if others.get(offset) != Some(port) {
             return Some(*port);
         }
     }

@@ -96,8 +96,8 @@ fn add_names(alloc: Global, phases: &mut Vec<Phase<'_>>, names: &[Name]) -> Resu
 
 fn add_holds(phases: &mut [Phase<'_>], holds: &[Hold], scope: &Scope, nowhere: &Nowhere) {
     for hold in holds {
-        if let Some(place) = scope.phase(hold.phase.number)
-            && let Some(phase) = phases.get_mut(place as usize)
+        if let Some(offset) = scope.phase(hold.phase.number)
+            && let Some(phase) = phases.get_mut(offset as usize)
         {
             phase.length = length_of(&hold.ticks, nowhere);
             phase.held = hold.phase;
@@ -119,8 +119,8 @@ fn add_rules<'a>(
     scope: &Scope,
 ) -> Result<(), AllocError> {
     for rule in rules {
-        if let Some(place) = scope.phase(rule.rule.phase.number)
-            && let Some(phase) = phases.get_mut(place as usize)
+        if let Some(offset) = scope.phase(rule.rule.phase.number)
+            && let Some(phase) = phases.get_mut(offset as usize)
         {
             phase.rules.push(rule)?;
         }

@@ -6,7 +6,7 @@ use dv_eval::Scope;
 use dv_syntax::{Atomic, RuleSort};
 use std::alloc::{AllocError, Global};
 
-/// Of each phase by place, whether it is the start or rules lead from the start to it.
+/// Of each phase by offset, whether it is the start or rules lead from the start to it.
 ///
 /// # Errors
 ///
@@ -26,17 +26,17 @@ pub(crate) fn reached_phases(
     }
     // Each phase waits once.
     for _phase in phases {
-        let Some(place) = walk.waiting.pop() else {
+        let Some(offset) = walk.waiting.pop() else {
             break;
         };
-        if let Some(phase) = phases.get(place) {
+        if let Some(phase) = phases.get(offset) {
             walk.follow(&phase.rules, scope)?;
         }
     }
     Ok(walk.reached)
 }
 
-// Which phases are reached so far, and the places of those whose rules are still to be followed.
+// Which phases are reached so far, and the offsets of those whose rules are still to be followed.
 #[derive(Drop)]
 struct Walk {
     reached: Vec<bool>,
@@ -46,12 +46,12 @@ struct Walk {
 impl Walk {
     // A phase is reached; it waits if it was not reached before.
     fn reach(&mut self, phase: Option<u32>) -> Result<(), AllocError> {
-        if let Some(place) = phase
-            && let Some(reached) = self.reached.get_mut(place as usize)
+        if let Some(offset) = phase
+            && let Some(reached) = self.reached.get_mut(offset as usize)
             && !*reached
         {
             *reached = true;
-            self.waiting.push(place as usize)?;
+            self.waiting.push(offset as usize)?;
         }
         Ok(())
     }
@@ -74,7 +74,7 @@ impl Walk {
     }
 }
 
-/// Of each phase by place, whether its external rule can follow an internal rule at one instant: an internal transition can end
+/// Of each phase by offset, whether its external rule can follow an internal rule at one instant: an internal transition can end
 /// there, of a phase that is reached, is not held forever and has no confluent rule.
 ///
 /// # Errors
@@ -87,9 +87,9 @@ pub(crate) fn phases_behind_internal_rules(
     reached: &[bool],
 ) -> Result<Vec<bool>, AllocError> {
     let mut behind = vec![in alloc; false; phases.len()]?;
-    for (place, phase) in phases.iter().enumerate() {
-        if is_left_by_internal_rule(phase, reached.get(place)) {
-            mark_ends(&mut behind, scope, place, phase);
+    for (offset, phase) in phases.iter().enumerate() {
+        if is_left_by_internal_rule(phase, reached.get(offset)) {
+            mark_ends(&mut behind, scope, offset, phase);
         }
     }
     Ok(behind)
@@ -103,9 +103,9 @@ fn is_left_by_internal_rule(phase: &Phase<'_>, reached: Option<&bool>) -> bool {
 }
 
 // Marks the phases in which an internal transition of a phase can end.
-fn mark_ends(marks: &mut [bool], scope: &Scope, place: usize, phase: &Phase<'_>) {
+fn mark_ends(marks: &mut [bool], scope: &Scope, offset: usize, phase: &Phase<'_>) {
     if phase.may_stay() {
-        mark(marks, place);
+        mark(marks, offset);
     }
     if let Some(rule) = phase.rule(RuleSort::Internal) {
         for mention in &rule.mentions {
@@ -118,8 +118,8 @@ fn mark_ends(marks: &mut [bool], scope: &Scope, place: usize, phase: &Phase<'_>)
     }
 }
 
-fn mark(marks: &mut [bool], place: usize) {
-    if let Some(mark) = marks.get_mut(place) {
+fn mark(marks: &mut [bool], offset: usize) {
+    if let Some(mark) = marks.get_mut(offset) {
         *mark = true;
     }
 }

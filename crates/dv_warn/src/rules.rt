@@ -41,7 +41,7 @@ pub(crate) fn find_in_phase<'t>(
 ) -> Result<(), AllocError> {
     if !standing.is_reached {
         let name = findings.name(phase.name);
-        return findings.note(phase.name.place, Warning::UnreachedPhase { phase: name });
+        return findings.note(phase.name.offset, Warning::UnreachedPhase { phase: name });
     }
     find_endless_hold(findings, phase)?;
     find_lost_values(findings, phase, around, standing)?;
@@ -59,11 +59,11 @@ fn find_endless_hold<'t>(findings: &mut Findings<'t>, phase: &Phase<'_>) -> Resu
         return Ok(());
     }
     let name = findings.name(phase.name);
-    let place = match phase.rule(RuleSort::Internal) {
-        Some(rule) => rule.rule.phase.place,
-        None => phase.held.place,
+    let offset = match phase.rule(RuleSort::Internal) {
+        Some(rule) => rule.rule.phase.offset,
+        None => phase.held.offset,
     };
-    findings.note(place, Warning::EndlessPhase { phase: name })
+    findings.note(offset, Warning::EndlessPhase { phase: name })
 }
 
 // A phase without an external rule, where another phase has one. In a phase of hold 0 nothing can arrive; but what arrives as
@@ -82,9 +82,9 @@ fn find_lost_values<'t>(
     }
     let name = findings.name(phase.name);
     if phase.length != Length::Zero {
-        findings.note(phase.name.place, Warning::LostValues { phase: name })
+        findings.note(phase.name.offset, Warning::LostValues { phase: name })
     } else if standing.is_behind_internal_rule {
-        findings.note(phase.name.place, Warning::LostOnArrival { phase: name })
+        findings.note(phase.name.offset, Warning::LostOnArrival { phase: name })
     } else {
         Ok(())
     }
@@ -118,7 +118,7 @@ fn note_idle_rule<'t>(
 ) -> Result<(), AllocError> {
     let phase = findings.name(rule.rule.phase);
     findings.note(
-        rule.rule.phase.place,
+        rule.rule.phase.offset,
         Warning::IdleRule {
             sort: rule.rule.sort,
             phase,
@@ -138,28 +138,28 @@ pub(crate) fn find_constant_conditions(
     nowhere: &Nowhere,
 ) -> Result<(), AllocError> {
     for statement in &rule.statements {
-        if let Some((place, condition)) = condition_of(statement)
+        if let Some((offset, condition)) = condition_of(statement)
             && let Some(Value::Truth(value)) = nowhere.value(condition)
         {
-            findings.note(place, Warning::ConstantCondition { value })?;
+            findings.note(offset, Warning::ConstantCondition { value })?;
         }
     }
     Ok(())
 }
 
-// The condition of a statement that has one, with the place of its `if`.
+// The condition of a statement that has one, with the offset of its `if`.
 fn condition_of(statement: &Stmt) -> Option<(u32, &Expr)> {
     match statement {
         Stmt::If {
-            place,
+            offset,
             condition,
             ..
         }
         | Stmt::IfElse {
-            place,
+            offset,
             condition,
             ..
-        } => Some((*place, condition)),
+        } => Some((*offset, condition)),
         _ => None,
     }
 }

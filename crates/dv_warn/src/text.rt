@@ -6,24 +6,24 @@ use dv_tree::Tree;
 use std::alloc::Global;
 use std::io::Write;
 
-/// A place of a text: how many bytes come before it, its line, and its column in characters, both counted from 1.
+/// An offset of a text: how many bytes come before it, its line, and its column in characters, both counted from 1.
 #[derive(Clone, Copy)]
 struct Spot {
-    place: usize,
+    offset: usize,
     line: u64,
     column: u64,
 }
 
 impl Spot {
     const START: Spot = Spot {
-        place: 0,
+        offset: 0,
         line: 1,
         column: 1,
     };
 
-    // Goes on to a place that is not before it.
-    fn advance(&mut self, text: &[u8], place: usize) {
-        for byte in text.get(self.place..place).unwrap_or(&[]) {
+    // Goes on to an offset that is not before it.
+    fn advance(&mut self, text: &[u8], offset: usize) {
+        for byte in text.get(self.offset..offset).unwrap_or(&[]) {
             if *byte == b'\n' {
                 self.line = self.line.saturating_add(1);
                 self.column = 1;
@@ -31,7 +31,7 @@ impl Spot {
                 self.column = self.column.saturating_add(1);
             }
         }
-        self.place = place;
+        self.offset = offset;
     }
 }
 
@@ -58,7 +58,7 @@ pub fn write_warnings<W: Write>(
     let mut lines = String::new(alloc);
     let mut spot = Spot::START;
     for found in &warnings {
-        spot.advance(text, found.place as usize);
+        spot.advance(text, found.offset as usize);
         let Spot { line, column, .. } = spot;
         writeln!(lines, "{name}:{line}:{column}: warning: {}", found.warning)?;
         hand_over_if_long(&mut lines, writer)?;

@@ -6,9 +6,13 @@ use std::fmt;
 /// What a state variable is.
 #[derive(Clone, Copy)]
 pub enum StateSort {
+    /// It holds a number.
     Variable,
+    /// It holds a truth value.
     Flag,
+    /// It holds a bag.
     Bag,
+    /// It holds a queue.
     Queue,
 }
 
@@ -26,7 +30,9 @@ impl fmt::Display for StateSort {
 /// Which way values go through a port.
 #[derive(Clone, Copy)]
 pub enum Direction {
+    /// Values arrive by it.
     Input,
+    /// Values are sent by it.
     Output,
 }
 
@@ -55,80 +61,106 @@ pub enum NeverRuns {
 pub enum Warning<'a> {
     /// The root does not lead to a model.
     UnreachedModel {
+        /// The name of the model.
         model: &'a str,
     },
     /// Neither a rule nor a hold has the name of a state variable.
     UnusedVariable {
+        /// What the state variable is.
         sort: StateSort,
+        /// Its name.
         name: &'a str,
     },
     /// Rules set or change a state variable, and nothing reads it.
     UnreadVariable {
+        /// What the state variable is.
         sort: StateSort,
+        /// Its name.
         name: &'a str,
     },
     /// No rule has the name of a port of an atomic model, and no link has it from outside.
     UnusedPort {
+        /// Whether it is an input or an output port.
         direction: Direction,
+        /// The name of the port.
         port: &'a str,
     },
     /// No rule reads an input port, and each rule for what arrives reads another one.
     UnreadInput {
+        /// The name of the port.
         port: &'a str,
     },
     /// No rule sends from an output port.
     UnsentOutput {
+        /// The name of the port.
         port: &'a str,
     },
     /// No link leads to an input port of any part of a model.
     UnfedInput {
+        /// The name of the port.
         port: &'a str,
     },
     /// No link leads from an output port of any part of a model.
     UntakenOutput {
+        /// The name of the port.
         port: &'a str,
     },
     /// No link inside of a coupled model has one of its ports.
     UnlinkedInside {
+        /// Whether it is an input or an output port.
         direction: Direction,
+        /// The name of the coupled model.
         model: &'a str,
+        /// The name of the port.
         port: &'a str,
     },
     /// No link leads to or from a part that has ports.
     UnlinkedPart {
+        /// The name of the part.
         part: &'a str,
     },
     /// No link leads to an input port of a part, and to so many others of its inputs, where links lead to those of other
     /// parts of its model.
     UnfedPart {
+        /// The name of the part.
         part: &'a str,
+        /// The name of its first input port to which no link leads.
         port: &'a str,
+        /// How many others of its input ports no link leads to.
         others: usize,
     },
     /// No rules lead from the start to a phase.
     UnreachedPhase {
+        /// The name of the phase.
         phase: &'a str,
     },
     /// A phase without an external rule, where another phase has one.
     LostValues {
+        /// The name of the phase.
         phase: &'a str,
     },
     /// The same of a phase that is left at once: what arrives as an internal rule leads to it is lost.
     LostOnArrival {
+        /// The name of the phase.
         phase: &'a str,
     },
     /// A rule that never runs.
     IdleRule {
+        /// The sort of the rule.
         sort: RuleSort,
+        /// The phase that has it.
         phase: &'a str,
+        /// Why it never runs.
         reason: NeverRuns,
     },
     /// A phase of hold 0 that no rule leaves.
     EndlessPhase {
+        /// The name of the phase.
         phase: &'a str,
     },
     /// A condition that names nothing.
     ConstantCondition {
+        /// What it always is.
         value: bool,
     },
 }
@@ -297,9 +329,11 @@ fn sort_word(sort: RuleSort) -> &'static str {
     }
 }
 
-/// A warning, and the place of the token to which it belongs: the number of the bytes of the text before it.
+/// A warning, and the offset of the token to which it belongs: the number of the bytes of the text before it.
 #[derive(Clone, Copy)]
 pub struct Found<'a> {
-    pub place: u32,
+    /// The offset of the token, in bytes of the text.
+    pub offset: u32,
+    /// The warning.
     pub warning: Warning<'a>,
 }

@@ -12,14 +12,14 @@ use Rattle.std.proofs.lemmas.Option.{get_or_from_slice_get, slice_get_within}
 pub first_more : {X : Type 0} (P : X → Type 0) (xs : List X) (i : ℕ) (y : X) → i < length xs
     → ((k : ℕ) (d : X) → k < i → P (slice_index_or xs k d)) → P y
     → (k : ℕ) (d : X) → k < i + 1 → P (slice_index_or (set xs i y) k d)
-first_more P xs i y within before own k d lt = by_place (nat_eq k i) refl
+first_more P xs i y within before own k d lt = by_index (nat_eq k i) refl
   where
-    by_place : (t : Bool) → nat_eq k i ≡ t → P (slice_index_or (set xs i y) k d)
-    by_place true same = subst P (sym (get_or-set_at xs i k y d (eqb-true k i same) within)) own
-    by_place false other =
+    by_index : (t : Bool) → nat_eq k i ≡ t → P (slice_index_or (set xs i y) k d)
+    by_index true same = subst P (sym (get_or-set_at xs i k y d (eqb-true k i same) within)) own
+    by_index false other =
         let earlier : k < i = grind (arith, nat_tests) in
         subst P (sym (get_or-set_other xs i k y d (eqb-false k i other))) (before k d earlier)
 
--- what is so of all items is so of the one at a place
-pub at_place : {X : Type 0} (P : X → Type 0) (xs : List X) (p : ℕ) (x : X) → All P xs → slice_get xs p ≡ Some x → P x
-at_place P xs p x all at = subst P (get_or_from_slice_get xs p x x at) (all p x (slice_get_within xs p x at))
+-- what is so of all items is so of the one at an index
+pub at_index : {X : Type 0} (P : X → Type 0) (xs : List X) (p : ℕ) (x : X) → All P xs → slice_get xs p ≡ Some x → P x
+at_index P xs p x all at = subst P (get_or_from_slice_get xs p x x at) (all p x (slice_get_within xs p x at))

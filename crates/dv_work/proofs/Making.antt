@@ -56,13 +56,13 @@ get_last (x ∷ xs) v = get_last xs v
 -- what is so of each item, and of one more, is so of each of them all
 pub snoc_each : {X : Type 0} (Q : ℕ → X → Type 0) (xs ys : List X) (v : X) → ys ≡ xs ++ v ∷ []
     → ((p : ℕ) (x : X) → slice_get xs p ≡ Some x → Q p x) → Q (length xs) v → (p : ℕ) (x : X) → slice_get ys p ≡ Some x → Q p x
-snoc_each {X} Q xs ys v is all last p x e = by_place (get_snoc xs v p x (subst (λ (l : List X). slice_get l p ≡ Some x) is e))
+snoc_each {X} Q xs ys v is all last p x e = by_index (get_snoc xs v p x (subst (λ (l : List X). slice_get l p ≡ Some x) is e))
   where
-    by_place : (slice_get xs p ≡ Some x) ⊎ ((p ≡ length xs) × (v ≡ x)) → Q p x
-    by_place (inl at) = all p x at
-    by_place (inr here) = subst (λ (n : ℕ). Q n x) (sym here.0) (subst (Q (length xs)) here.1 last)
+    by_index : (slice_get xs p ≡ Some x) ⊎ ((p ≡ length xs) × (v ≡ x)) → Q p x
+    by_index (inl at) = all p x at
+    by_index (inr here) = subst (λ (n : ℕ). Q n x) (sym here.0) (subst (Q (length xs)) here.1 last)
 
--- what stands at a place
+-- what stands at an index
 pub stands_at : {X : Type 0} (xs : List X) (n : ℕ) (d : X) → n < length xs → slice_get xs n ≡ Some (get_or xs n d)
 stands_at [] n d lt = absurd (omega arith)
 stands_at (x ∷ xs) zero d lt = refl
@@ -78,19 +78,19 @@ nothing_there xs k y none e = at_none (ap (λ (l : List _). slice_get l k) (sym 
 apart_more : {X : Type 0} (number : X → ℕ) (xs : List X) (v : X) → ((i : ℕ) (x : X) → slice_get xs i ≡ Some x → number x < number v)
     → ((i j : ℕ) (x y : X) → slice_get xs i ≡ Some x → slice_get xs j ≡ Some y → number x ≡ number y → i ≡ j)
     → (i j : ℕ) (x y : X) → slice_get (xs ++ v ∷ []) i ≡ Some x → slice_get (xs ++ v ∷ []) j ≡ Some y → number x ≡ number y → i ≡ j
-apart_more {X} number xs v below apart i j x y ex ey same = by_places (get_snoc xs v i x ex) (get_snoc xs v j y ey)
+apart_more {X} number xs v below apart i j x y ex ey same = by_indices (get_snoc xs v i x ex) (get_snoc xs v j y ey)
   where
-    by_places : (slice_get xs i ≡ Some x) ⊎ ((i ≡ length xs) × (v ≡ x)) → (slice_get xs j ≡ Some y) ⊎ ((j ≡ length xs) × (v ≡ y)) → i ≡ j
-    by_places (inl a) (inl b) = apart i j x y a b same
-    by_places (inl a) (inr b) =
+    by_indices : (slice_get xs i ≡ Some x) ⊎ ((i ≡ length xs) × (v ≡ x)) → (slice_get xs j ≡ Some y) ⊎ ((j ≡ length xs) × (v ≡ y)) → i ≡ j
+    by_indices (inl a) (inl b) = apart i j x y a b same
+    by_indices (inl a) (inr b) =
         let less = below i x a in
         let last : number v ≡ number y = ap number b.1 in
         absurd (omega arith)
-    by_places (inr a) (inl b) =
+    by_indices (inr a) (inl b) =
         let less = below j y b in
         let last : number v ≡ number x = ap number a.1 in
         absurd (omega arith)
-    by_places (inr a) (inr b) = a.0 ∙ sym b.0
+    by_indices (inr a) (inr b) = a.0 ∙ sym b.0
 
 zero_rank : (limit : ℕ) → 0 ≡ rank limit first_time
 zero_rank limit = omega arith

@@ -35,16 +35,16 @@ use Rattle.dv_work.proofs.Speaking.{sent_fed, sent_here, speaks, turned_fed, tur
 each_after : {X : Type 0} (P : ℕ → X → Type 0) (xs : List X) (i : ℕ) (x y : X) → slice_get xs i ≡ Some x
     → ((j : ℕ) (z : X) → nat_eq j i ≡ false → slice_get xs j ≡ Some z → P j z) → P i y
     → (j : ℕ) (z : X) → slice_get (set xs i y) j ≡ Some z → P j z
-each_after {X} P xs i x y there others own j z e = by_place (nat_eq j i) refl
+each_after {X} P xs i x y there others own j z e = by_index (nat_eq j i) refl
   where
-    by_place : (t : Bool) → nat_eq j i ≡ t → P j z
-    by_place true same =
-        let place = same_number j i same in
-        let now : slice_get (set xs i y) i ≡ Some z = subst (λ (n : ℕ). slice_get (set xs i y) n ≡ Some z) place e in
+    by_index : (t : Bool) → nat_eq j i ≡ t → P j z
+    by_index true same =
+        let index = same_number j i same in
+        let now : slice_get (set xs i y) i ≡ Some z = subst (λ (n : ℕ). slice_get (set xs i y) n ≡ Some z) index e in
         let is = sym (set_same xs i x y there) ∙ now in
         let value : y ≡ z = cc in
-        subst (λ (n : ℕ). P n z) (sym place) (subst (P i) value own)
-    by_place false other = others j z other (sym (set_other xs i j y other) ∙ e)
+        subst (λ (n : ℕ). P n z) (sym index) (subst (P i) value own)
+    by_index false other = others j z other (sym (set_other xs i j y other) ∙ e)
 
 -- no two items have the same number
 abbrev AreApart : {X : Type 0} → (X → ℕ) → List X → Type 0
@@ -58,8 +58,8 @@ module _ {X : Type 0} (number : X → ℕ) (xs : List X) (i : ℕ) (x : X) (ther
       by_test : (t : Bool) → nat_eq (number z) (number x) ≡ t → nat_eq (number z) (number x) ≡ false
       by_test false h = h
       by_test true h =
-          let place : j ≡ i = apart j i z x e there (same_number (number z) (number x) h) in
-          let same : nat_eq j i ≡ true = subst (λ (n : ℕ). nat_eq j n ≡ true) place (number_itself j) in
+          let index : j ≡ i = apart j i z x e there (same_number (number z) (number x) h) in
+          let same : nat_eq j i ≡ true = subst (λ (n : ℕ). nat_eq j n ≡ true) index (number_itself j) in
           absurd (cc)
 
   pub still_apart : (y : X) → number y ≡ number x → AreApart number (set xs i y)

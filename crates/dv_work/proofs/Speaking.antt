@@ -150,10 +150,10 @@ module _ (job : Job) (p : ℕ) (x : ProcessState) (fed : IsFedTruly job p x) whe
     true_now : (m : ℕ) (d : Channel) → slice_get job.channels m ≡ Some d → (t : Bool) → nat_eq m l ≡ t
         → AreTrue job m d first_time (y.received m)
     true_now m d e true own =
-        let place : m ≡ l = same_number m l own in
-        let at : slice_get job.channels l ≡ Some d = subst (λ (n : ℕ). slice_get job.channels n ≡ Some d) place e in
+        let index : m ≡ l = same_number m l own in
+        let at : slice_get job.channels l ≡ Some d = subst (λ (n : ℕ). slice_get job.channels n ≡ Some d) index e in
         let same : c ≡ d = cc in
-        subst (λ (n : ℕ). AreTrue job n d first_time (y.received n)) (sym place)
+        subst (λ (n : ℕ). AreTrue job n d first_time (y.received n)) (sym index)
         (subst (λ (ps : List Packet). AreTrue job l d first_time ps) (sym now_received)
         (subst (λ (b : Channel). AreTrue job l b first_time (x.received l ++ packet ∷ [])) same truth))
     true_now m d e false other = subst (AreTrue job m d first_time) (sym (others_received m other)) (fed.truth m d e)
@@ -161,8 +161,8 @@ module _ (job : Job) (p : ℕ) (x : ProcessState) (fed : IsFedTruly job p x) whe
     rises : (m : ℕ) (t : Bool) → nat_eq m l ≡ t
         → rank job.limit (channel_clock (x.received m)) ≤ rank job.limit (channel_clock (y.received m))
     rises m true own =
-        let place : m ≡ l = same_number m l own in
-        subst (λ (n : ℕ). rank job.limit (channel_clock (x.received n)) ≤ rank job.limit (channel_clock (y.received n))) (sym place)
+        let index : m ≡ l = same_number m l own in
+        subst (λ (n : ℕ). rank job.limit (channel_clock (x.received n)) ≤ rank job.limit (channel_clock (y.received n))) (sym index)
         (subst (λ (ps : List Packet). rank job.limit (channel_clock (x.received l)) ≤ rank job.limit (channel_clock ps)) (sym now_received)
         (clock_rises job l c (x.received l) packet truth))
     rises m false other =
@@ -235,9 +235,9 @@ module _ (job : Job) (p : ℕ) (x : ProcessState) (fed : IsFedTruly job p x) whe
     sent_here o q packet gives here number stood is =
         let was : prepared x o ≡ given o ++ packet ∷ []
         = ap (λ (n : ℕ). given o ++ packets_in (x.position.standing n)) here ∙ ap (λ (s : Option Packet). given o ++ packets_in s) stood in
-        let place : q.number ≡ l = number ∙ here in
+        let index : q.number ≡ l = number ∙ here in
         let now : prepared y q ≡ given q
-        = ap (λ (n : ℕ). given q ++ packets_in (y.position.standing n)) place
+        = ap (λ (n : ℕ). given q ++ packets_in (y.position.standing n)) index
         ∙ ap (λ (s : Option Packet). given q ++ packets_in s) sent.free ∙ append-nil (given q) in
         let same : prepared x o ≡ prepared y q = was ∙ sym is ∙ sym now in record {
           channel = gives.channel;

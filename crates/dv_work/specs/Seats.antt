@@ -74,10 +74,10 @@ holds_packet o = is_some o.held
 abbrev pub HoldsNone : {P : Type 0} → Seat P → Type 0
 HoldsNone s = list_any holds_packet s.outs.items ≡ false
 
--- the end of the same link, which was at that place, held a packet
-pub record HeldAt {P : Type 0} (before : Seat P) (place : ℕ) (o : Out) : Type 0 where
+-- the end of the same link, which was at that index, held a packet
+pub record HeldAt {P : Type 0} (before : Seat P) (index : ℕ) (o : Out) : Type 0 where
   pub end : Out
-  pub there : slice_get before.outs.items place ≡ Some end
+  pub there : slice_get before.outs.items index ≡ Some end
   pub same_link : end.number ≡ o.number
   pub holds : holds_packet end ≡ true
 
@@ -91,13 +91,13 @@ IsNull p = p.events ≡ []
 abbrev pub HasEvents : Packet → Type 0
 HasEvents p = p.events ≢ []
 
--- No packet of a kind is kept back at a place: where one stands afterwards, the end there held a packet before.
+-- No packet of a kind is kept back at an index: where one stands afterwards, the end there held a packet before.
 abbrev pub KeepsNoneBackAt : {P : Type 0} → (Packet → Type 0) → (P → ProcessState) → ℕ → (before after : Seat P) → Type 0
-KeepsNoneBackAt IsOfKind state place before after =
-    (o : Out) (p : Packet) → slice_get after.outs.items place ≡ Some o → (state after.process).position.standing o.number ≡ Some p
-    → IsOfKind p → HeldAt before place o
+KeepsNoneBackAt IsOfKind state index before after =
+    (o : Out) (p : Packet) → slice_get after.outs.items index ≡ Some o → (state after.process).position.standing o.number ≡ Some p
+    → IsOfKind p → HeldAt before index o
 
--- nor at any place
+-- nor at any index
 abbrev pub KeepsNoneBack : {P : Type 0} → (Packet → Type 0) → (P → ProcessState) → (before after : Seat P) → Type 0
 KeepsNoneBack IsOfKind state before after = (i : ℕ) → KeepsNoneBackAt IsOfKind state i before after
 
@@ -106,9 +106,9 @@ abbrev pub EachKeepsNoneBack : {P : Type 0} → (Packet → Type 0) → (P → P
 EachKeepsNoneBack {P} IsOfKind state before after =
     (k : ℕ) (s t : Seat P) → slice_get before k ≡ Some s → slice_get after k ≡ Some t → KeepsNoneBack IsOfKind state s t
 
--- the ends at other places are as before
+-- the ends at other indices are as before
 abbrev pub OthersStay : {P : Type 0} → ℕ → (before after : Seat P) → Type 0
-OthersStay place before after = (i : ℕ) → nat_eq i place ≡ false → slice_get after.outs.items i ≡ slice_get before.outs.items i
+OthersStay index before after = (i : ℕ) → nat_eq i index ≡ false → slice_get after.outs.items i ≡ slice_get before.outs.items i
 
 -- no packet stands for a link that did not stand for it before
 abbrev pub NoneIsNew : (before after : ProcessState) → Type 0

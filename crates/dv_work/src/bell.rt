@@ -11,7 +11,7 @@ use std::sync::{Condvar, Mutex, OnceLock, OnceToken, Wait};
 // other threads had the processor. Together they take about as long as falling asleep and being woken.
 const LOOKS_BEFORE_SLEEP: u32 = 16;
 
-/// A place where a thread waits for work. It counts its rings, so that a ring between a look and the wait is not lost:
+/// An index where a thread waits for work. It counts its rings, so that a ring between a look and the wait is not lost:
 /// the waiting thread reads the count, looks for work, and waits only while the count is still the one that it read.
 /// Whoever has work for it provides the work first and rings afterwards.
 #[derive(Drop)]

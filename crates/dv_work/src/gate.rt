@@ -8,6 +8,7 @@ pub trait Gate<P>: Sync {
     /// A cause stops the run: the turn is not made, and each worker ends before its next one.
     fn before_turn(&self, worker: usize, process: u32, state: &P) -> Option<Self::Cause>;
 
+    /// The turn was made, and left the process so.
     fn after_turn(&self, worker: usize, process: u32, state: &P);
 }
 

@@ -1,5 +1,14 @@
 //! Logical processes on threads: each worker owns its processes and the ends of their links.
 //!
+//! `run_streamed` starts the workers of a job. A worker visits its processes one after the other: at each visit it
+//! takes a packet from each link that leads there, lets the process turn, and puts what it prepared; now and then it
+//! posts what was committed to the board of a `Stream`, and it waits at its `Bell` where nothing moved. A `Gate` is
+//! asked before each turn, and may stop the run. For any timing of the threads, what a process posts and what is left
+//! in the `Report` is its part of the trace, and a run is reported whole exactly where every clock is at the end.
+//!
+//! `dv_stream` runs plans by it, and takes and writes what is posted. That workers come to an end is tested and not
+//! proved; the sections below say why they do. Processes are never moved from worker to worker.
+//!
 //! # Why no ring of a bell is lost, and why not all wait
 //!
 //! A worker reads the count of its bell, then visits all its processes, and waits only while the count is still the one that it

@@ -19,6 +19,7 @@ pub const ROUNDS_TO_A_POST: u64 = 64;
 /// Where workers post what their processes committed, and how whoever takes that holds them back.
 #[derive(Drop)]
 pub struct Stream<'a, N: OfJob> {
+    /// Where what was committed is posted.
     pub board: &'a Board<N>,
     /// Rings after what was posted.
     pub news: &'a Bell,

@@ -38,8 +38,11 @@ pub enum Ended<C> {
 /// that the caller raised the flag to stop it, if that was so when all workers had ended.
 #[derive(Drop)]
 pub struct Report<'a, N: OfJob, C> {
+    /// What each process committed and did not post, by its number.
     pub rest: Vec<Piece<N>>,
+    /// How the run ended.
     pub ended: Ended<C>,
+    /// What shows that the caller raised the flag, if that was so when all workers had ended.
     pub stopped: Option<Raised<'a>>,
 }
 
@@ -69,8 +72,8 @@ fn enter<N: OfJob, P: ProcessHandsOver<N>>(rest: &mut Vec<Piece<N>>, seat: Seat<
 {
     let mut seat = seat;
     let piece = seat.piece::<N>();
-    let place = piece.process as usize;
-    rest[place] = piece;
+    let index = piece.process as usize;
+    rest[index] = piece;
 }
 
 // Enters what the processes of a worker committed and did not post.

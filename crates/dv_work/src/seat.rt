@@ -25,35 +25,50 @@ use std::sync::Wait;
 /// process to which it leads.
 #[derive(Drop)]
 pub struct Out {
+    /// The number of the link.
     pub number: u32,
+    /// The pass to put with.
     pub pass: SendPass,
+    /// A packet that found no room yet.
     pub held: Option<Packet>,
+    /// The number of the worker of the process to which the link leads.
     pub receiver: usize,
 }
 
 /// The end of a link that leads here: its number, the pass to take with, and the worker of the process from which it comes.
 #[derive(Drop)]
 pub struct In {
+    /// The number of the link.
     pub number: u32,
+    /// The pass to take with.
     pub pass: TakePass,
+    /// The number of the worker of the process from which the link leads.
     pub sender: usize,
 }
 
 /// A process, by its number, with the ends of its links, and the time up to which what it committed was moved out of it.
 #[derive(Drop)]
 pub struct Seat<P> {
+    /// The number of the process.
     pub number: u32,
+    /// The process.
     pub process: P,
+    /// The ends of the links that lead away from it.
     pub outs: Vec<Out>,
+    /// The ends of the links that lead to it.
     pub ins: Vec<In>,
+    /// The time before which all that it committed was moved out of it.
     pub posted: Time,
 }
 
 /// All that a worker's visits need of the others: the links, the flag, and where they post, with the bells.
 #[derive(Drop)]
 pub struct Floor<'a, N: OfJob> {
+    /// The links of the job, by their numbers.
     pub links: &'a [Link<N>],
+    /// Raised once a worker ends before its processes are done; the others end then.
     pub flag: &'a Flag,
+    /// Where pieces are posted.
     pub stream: Stream<'a, N>,
 }
 
@@ -100,7 +115,7 @@ fn put_held<N: OfJob, R: Wait>(rt: &R, links: &[Link<N>], end: &mut Out) -> bool
 }
 
 impl<P: LogicalProcess> Seat<P> {
-    /// Takes the packet at the front of the link at a place, if there is one, and gives it to the process.
+    /// Takes the packet at the front of the link at an index, if there is one, and gives it to the process.
     ///
     /// # Errors
     ///
@@ -109,16 +124,16 @@ impl<P: LogicalProcess> Seat<P> {
         &mut self,
         rt: &R,
         floor: &Floor<'_, N>,
-        place: usize,
+        index: usize,
     ) -> Result<bool, AllocError>
         requires sits { Sits N.job P.state P.handed P.valid floor.now.links.now self.old }
-        requires place { place < length self.old.ins.items }
+        requires index { index < length self.old.ins.items }
         ensures ok { OnOk result (Sits N.job P.state P.handed P.valid floor.now.links.now self.new) }
         ensures err { OnErr result (Reports N.job P.state P.handed P.valid self.new) }
         ensures ends { length self.new.ins.items ≡ length self.old.ins.items }
         ensures outs { self.new.outs ≡ self.old.outs }
     {
-        let end = &mut self.ins[place];
+        let end = &mut self.ins[index];
         let Some(packet) = take_from(rt, floor.links, end) else {
             return Ok(false);
         };
@@ -147,20 +162,20 @@ impl<P: LogicalProcess> Seat<P> {
         self.process.turn(work)
     }
 
-    // Holds the packet that stands on the link at a place, if none is held there yet.
-    fn hold<N: OfJob>(&mut self, floor: &Floor<'_, N>, place: usize)
+    // Holds the packet that stands on the link at an index, if none is held there yet.
+    fn hold<N: OfJob>(&mut self, floor: &Floor<'_, N>, index: usize)
         requires sits { Sits N.job P.state P.handed P.valid floor.now.links.now self.old }
-        requires place { place < length self.old.outs.items }
+        requires index { index < length self.old.outs.items }
         ensures sits { Sits N.job P.state P.handed P.valid floor.now.links.now self.new }
         ensures ends { length self.new.outs.items ≡ length self.old.outs.items }
-        ensures told { HasToldAtFirst P.state place self.old
-            → HasToldAtFirst P.state (place + 1) self.new }
-        ensures others { OthersStay place self.old self.new }
+        ensures told { HasToldAtFirst P.state index self.old
+            → HasToldAtFirst P.state (index + 1) self.new }
+        ensures others { OthersStay index self.old self.new }
         ensures standing { NoneIsNew (P.state self.old.process) (P.state self.new.process) }
-        ensures kept { KeepsNoneBackAt IsAny P.state place self.old self.new }
+        ensures kept { KeepsNoneBackAt IsAny P.state index self.old self.new }
     {
         let _ = floor.links.len();
-        let end = &mut self.outs[place];
+        let end = &mut self.outs[index];
         let None = end.held else {
             return;
         };
@@ -170,13 +185,13 @@ impl<P: LogicalProcess> Seat<P> {
         end.held = Some(self.process.sent(end.number));
     }
 
-    /// Whether the packet that the link at a place gets next is a null message that is not held.
-    pub fn has_null(&self, place: usize) -> bool
-        requires { place < length self.now.outs.items }
-        ensures { (end : Out) → slice_get self.now.outs.items place ≡ Some end
+    /// Whether the packet that the link at an index gets next is a null message that is not held.
+    pub fn has_null(&self, index: usize) -> bool
+        requires { index < length self.now.outs.items }
+        ensures { (end : Out) → slice_get self.now.outs.items index ≡ Some end
             → (IsTrue result ↔ HasNull (P.state self.now.process) end) }
     {
-        let end = &self.outs[place];
+        let end = &self.outs[index];
         let None = end.held else {
             return false;
         };
@@ -186,22 +201,22 @@ impl<P: LogicalProcess> Seat<P> {
         standing.events.is_empty()
     }
 
-    /// Puts the packet that stands on the link at a place, or that is held there, where the link has room. Tells whether it was
+    /// Puts the packet that stands on the link at an index, or that is held there, where the link has room. Tells whether it was
     /// put. Where it was not, all that the process prepared there was put, or a packet is held there. One still stands there only
     /// behind a packet that was held before.
-    pub fn put<N: OfJob, R: Wait>(&mut self, rt: &R, floor: &Floor<'_, N>, place: usize) -> bool
+    pub fn put<N: OfJob, R: Wait>(&mut self, rt: &R, floor: &Floor<'_, N>, index: usize) -> bool
         requires sits { Sits N.job P.state P.handed P.valid floor.now.links.now self.old }
-        requires place { place < length self.old.outs.items }
+        requires index { index < length self.old.outs.items }
         ensures sits { Sits N.job P.state P.handed P.valid floor.now.links.now self.new }
         ensures ends { length self.new.outs.items ≡ length self.old.outs.items }
-        ensures told { result ≡ false → HasToldAtFirst P.state place self.old
-            → HasToldAtFirst P.state (place + 1) self.new }
-        ensures others { OthersStay place self.old self.new }
+        ensures told { result ≡ false → HasToldAtFirst P.state index self.old
+            → HasToldAtFirst P.state (index + 1) self.new }
+        ensures others { OthersStay index self.old self.new }
         ensures standing { NoneIsNew (P.state self.old.process) (P.state self.new.process) }
-        ensures kept { KeepsNoneBackAt IsAny P.state place self.old self.new }
+        ensures kept { KeepsNoneBackAt IsAny P.state index self.old self.new }
     {
-        self.hold(floor, place);
-        let end = &mut self.outs[place];
+        self.hold(floor, index);
+        let end = &mut self.outs[index];
         if !put_held(rt, floor.links, end) {
             return false;
         }

@@ -33,7 +33,9 @@ pub enum Halt<C> {
 /// What a worker leaves.
 #[derive(Drop)]
 pub struct Worked<P, C> {
+    /// Its processes, with the ends of their links.
     pub seats: Vec<Seat<P>>,
+    /// Why it ended before its processes were done; none where they are done.
     pub halt: Option<Halt<C>>,
 }
 
@@ -49,38 +51,38 @@ fn take_all<N: OfJob, P: LogicalProcess, R: Wait>(
     ensures outs { seat.new.outs ≡ seat.old.outs }
 {
     let mut moved = false;
-    for place in 0..seat.ins.len() {
-        if seat.take(rt, floor, place)? {
+    for index in 0..seat.ins.len() {
+        if seat.take(rt, floor, index)? {
             moved = true;
         }
     }
     Ok(moved)
 }
 
-// Puts what stands on the link at a place or is held there, but no null message that stands where none is due. Tells whether it
+// Puts what stands on the link at an index or is held there, but no null message that stands where none is due. Tells whether it
 // was put.
 fn put_next<N: OfJob, P: LogicalProcess, R: Wait>(
     rt: &R,
     floor: &Floor<'_, N>,
     seat: &mut Seat<P>,
-    place: usize,
+    index: usize,
     are_nulls_due: bool,
 ) -> bool
     requires sits { Sits N.job P.state P.handed P.valid floor.now.links.now seat.old }
-    requires place { place < length seat.old.outs.items }
+    requires index { index < length seat.old.outs.items }
     ensures sits { Sits N.job P.state P.handed P.valid floor.now.links.now seat.new }
     ensures ends { length seat.new.outs.items ≡ length seat.old.outs.items }
-    ensures told { are_nulls_due ≡ true → result ≡ false → HasToldAtFirst P.state place seat.old
-        → HasToldAtFirst P.state (place + 1) seat.new }
-    ensures others { OthersStay place seat.old seat.new }
+    ensures told { are_nulls_due ≡ true → result ≡ false → HasToldAtFirst P.state index seat.old
+        → HasToldAtFirst P.state (index + 1) seat.new }
+    ensures others { OthersStay index seat.old seat.new }
     ensures standing { NoneIsNew (P.state seat.old.process) (P.state seat.new.process) }
-    ensures nulls { are_nulls_due ≡ true → KeepsNoneBackAt IsNull P.state place seat.old seat.new }
-    ensures events { KeepsNoneBackAt HasEvents P.state place seat.old seat.new }
+    ensures nulls { are_nulls_due ≡ true → KeepsNoneBackAt IsNull P.state index seat.old seat.new }
+    ensures events { KeepsNoneBackAt HasEvents P.state index seat.old seat.new }
 {
-    if !are_nulls_due && seat.has_null(place) {
+    if !are_nulls_due && seat.has_null(index) {
         return false;
     }
-    seat.put(rt, floor, place)
+    seat.put(rt, floor, index)
 }
 
 // Puts a packet on each link that leads away, where one stands or is held; a null message that stands only where such are due.
@@ -98,8 +100,8 @@ fn put_all<N: OfJob, P: LogicalProcess, R: Wait>(
     ensures events { KeepsNoneBack HasEvents P.state seat.old seat.new }
 {
     let mut moved = false;
-    for place in 0..seat.outs.len() {
-        if put_next(rt, floor, seat, place, are_nulls_due) {
+    for index in 0..seat.outs.len() {
+        if put_next(rt, floor, seat, index, are_nulls_due) {
             moved = true;
         }
     }

@@ -17,6 +17,7 @@ pub const STANDARD_INPUT: &str = "-";
 pub struct FileBytes<'a> {
     /// Its name, as it is told.
     pub name: &'a str,
+    /// What it holds.
     pub bytes: Vec<u8>,
 }
 
@@ -52,8 +53,11 @@ impl FileBytes<'_> {
 /// A model, a trace of it, and the inputs of the run where they are given.
 #[derive(Drop)]
 pub struct TraceBytes<'a> {
+    /// The model.
     pub model: FileBytes<'a>,
+    /// The trace.
     pub trace: FileBytes<'a>,
+    /// The inputs of the run, where they are given.
     pub inputs: Option<FileBytes<'a>>,
 }
 
@@ -75,11 +79,14 @@ impl TraceBytes<'_> {
 /// How a model is divided: by the text of a file, or into so many processes.
 #[derive(Drop)]
 pub enum Parting {
+    /// By the text of a partition.
     Text(Vec<u8>),
+    /// Into so many processes.
     Count(u32),
 }
 
 impl Parting {
+    /// The same, as `dv_job` takes it.
     pub fn partition(&self) -> Partition<'_> {
         match self {
             Parting::Text(text) => Partition::Json(text.as_slice()),

@@ -8,6 +8,7 @@ use std::time::Clock;
 /// A writer of the lines of a run, beside which is told how far they are.
 #[derive(Drop)]
 pub struct Lines<'a, W, R> {
+    /// Where the lines go.
     pub writer: W,
     /// How far the lines are, where that is told.
     pub progress: Option<Progress<'a, R>>,

@@ -1,5 +1,13 @@
-//! The program: checks model texts, runs them and prints their traces, prints their programs, plans and graphs, prints traces
-//! as wave forms, in numbers and as tables, and explains refusals and faults.
+//! The program: from the words of a command line to files, streams and a status.
+//!
+//! It checks model texts, runs them and prints their traces, prints their programs, plans and graphs, prints traces
+//! as wave forms, in numbers and as tables, and explains refusals and faults. `main` has the words read by
+//! `dv_command`; the modules open the files, call `dv_job` for what is proved of traces and `dv_views` for what only
+//! reads, and tell errors by `dv_cause` on standard error. A run by workers tells its progress here too.
+//!
+//! What files hold and what a terminal shows no contract says: the claims of `dv_job` end at the writer. Nothing is
+//! computed here. Its test is the first model of the README (`stdout`); what the other commands print, crates of
+//! tests and scripts compare.
 #![tactic(auto)]
 
 /// Where the faults of a run came from.

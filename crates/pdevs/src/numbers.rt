@@ -9,7 +9,7 @@ use crate::told::tell_error;
 use dv_command::StatsChoice;
 use dv_job::{JobEnded, JobError, status};
 use dv_trace::End;
-use dv_views::{Form, StatsOptions, StatsWriter, Tree, ViewError, accept, load};
+use dv_views::{Form, StatsOptions, StatsWriter, Tree, ViewError, accept, load, numbers_of};
 use std::sync::Wait;
 use std::thread::Threads;
 use std::time::Clock;
@@ -74,7 +74,7 @@ fn count_run<R: AllocGlobal + Clock + Print + Eprint + Threads + Wait + Sync>(
 ) -> Result<u8, ViewError> {
     let options = stats_options(choice, counted.only.as_ref(), End::Required);
     let mut lines = Lines {
-        writer: StatsWriter::new(rt.alloc(), &counted.tree, &options)?,
+        writer: numbers_of(rt.alloc(), &counted.tree, &options)?,
         progress,
     };
     let ended = run_job(rt, job, &mut lines);

@@ -32,11 +32,11 @@ fn partition_text(alloc: Global, plan: &Value) -> Result<Option<Vec<u8>>, AllocE
     };
     let mut text = Vec::new(alloc);
     text.extend_from_slice(b"{\"processes\":[")?;
-    for (place, process) in processes.iter().enumerate() {
+    for (index, process) in processes.iter().enumerate() {
         let Some(components) = process.get("components") else {
             return Ok(None);
         };
-        if place > 0 {
+        if index > 0 {
             text.push(b',')?;
         }
         text.extend_from_slice(&components.to_vec(alloc)?)?;

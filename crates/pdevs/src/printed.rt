@@ -14,6 +14,7 @@ use std::time::Clock;
 /// What became of something that was to be printed.
 #[derive(Drop)]
 pub struct Printed<T, E> {
+    /// What the printing answered.
     pub result: Result<T, E>,
     /// Why the first write that failed did, where one did.
     pub reason: Option<io::Error>,

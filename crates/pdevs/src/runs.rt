@@ -8,7 +8,7 @@ use crate::progress::Progress;
 use crate::told::{Texts, tell_error, tell_view_error};
 use crate::{FAULTED, REFUSED, USAGE};
 use dv_command::Run;
-use dv_job::{JobEnded, JobError, Options, run_by_workers, run_bytes, status};
+use dv_job::{Driver, JobEnded, JobError, Options, run_by_workers, run_bytes, status};
 use dv_partition::Partition;
 use std::io;
 use std::io::Write;
@@ -23,8 +23,11 @@ const LINK_CAPACITY: u32 = 16;
 /// What is run.
 #[derive(Clone, Copy)]
 pub struct Job<'a> {
+    /// The model and its inputs.
     pub texts: Texts<'a>,
+    /// How the model is divided.
     pub groups: Partition<'a>,
+    /// How far to run, and how.
     pub options: &'a Options,
     /// Whether a refusal or a failure is explained.
     pub is_explained: bool,
@@ -38,8 +41,8 @@ pub fn run_job<R: AllocGlobal + Threads + Wait + Sync, W: Write>(
 ) -> Result<JobEnded, JobError> {
     let model = job.texts.model.bytes;
     let inputs = job.texts.inputs.bytes;
-    match job.options.workers {
-        Some(workers) => run_by_workers(
+    match job.options.driver {
+        Driver::Workers(workers) => run_by_workers(
             rt,
             rt.alloc(),
             model,
@@ -49,7 +52,7 @@ pub fn run_job<R: AllocGlobal + Threads + Wait + Sync, W: Write>(
             workers,
             writer,
         ),
-        None => run_bytes(rt.alloc(), model, inputs, job.groups, job.options, writer),
+        Driver::Rounds(_) => run_bytes(rt.alloc(), model, inputs, job.groups, job.options, writer),
     }
 }
 

@@ -10,6 +10,7 @@ use std::io::ErrorKind;
 /// The texts of which a refusal can be.
 #[derive(Clone, Copy)]
 pub struct Texts<'a> {
+    /// The text of the model.
     pub model: Source<'a>,
     /// It has no name and no bytes where there are no inputs.
     pub inputs: Source<'a>,

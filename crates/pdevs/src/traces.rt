@@ -96,13 +96,8 @@ pub fn count_trace<R: AllocGlobal + Files + Input + Print + Eprint>(
     );
     let alloc = rt.alloc();
     let printed = print_through(rt, |writer| {
-        stats_bytes(
-            alloc,
-            &bytes.model.bytes,
-            &bytes.trace.bytes,
-            &options,
-            writer,
-        )
+        let mut trace: &[u8] = &bytes.trace.bytes;
+        stats_bytes(alloc, &bytes.model.bytes, &mut trace, &options, writer)
     });
     Ok(status_of_view(rt, &bytes, &printed, stats.files.explained))
 }

@@ -31,9 +31,9 @@ pub fn inputs_come_at_their_times()
         → inputs_at limit ports (front ++ i ∷ back) n ≡ inputs_at limit ports (front ++ back) n }
 {}
 
-/// The place of a rank is that of the first input that a run comes to there or later. It never falls, and is the same up
+/// The index of a rank is that of the first input that a run comes to there or later. It never falls, and is the same up
 /// to that input's rank.
-pub fn places_follow_times()
+pub fn indices_follow_times()
     ensures next { (limit : ℕ) (inputs : List Input) (t : Time)
         → time_at inputs (inputs_before limit inputs t) ≡ next_from limit inputs t }
     ensures of_run { (limit : ℕ) (inputs : List Input) (t : Time)

@@ -102,8 +102,8 @@ pub fn next_instant_is_the_least_next_time<I>()
 /// A component that is imminent and not quiet has an entry at that instant, under its number.
 pub fn imminent_components_have_entries<I>()
     ensures { (limit : ℕ) (net : Network I) (now : ℕ) (input : I) (cs : List Component)
-        (place k : ℕ) (c : Component) → place < length net.behaviours
-        → slice_get net.numbers place ≡ Some k → slice_get cs place ≡ Some c
+        (index k : ℕ) (c : Component) → index < length net.behaviours
+        → slice_get net.numbers index ≡ Some k → slice_get cs index ≡ Some c
         → IsFalse c.quiet → IsTrue (is_imminent now c)
         → HasEntry (part_of_instant limit net now input cs).entries limit now k }
 {}

@@ -1,10 +1,10 @@
 use Rattle.std.specs.Prelude.{[]}
 use Rattle.std.proofs.lemmas.Result.{IfOk-at_ok}
-use Rattle.dv_accepted.proofs.Typed.{OfType, place_typed, value_typed}
+use Rattle.dv_accepted.proofs.Typed.{OfType, index_typed, value_typed}
 use Rattle.dv_accepted.proofs.laws.accepted_values_are_of_their_types.Goals as goal
 
 pub returns-clause-typed : goal.returns-clause-typed
-returns-clause-typed c = place_typed
+returns-clause-typed c = index_typed
 
 pub returns-clause-value : goal.returns-clause-value
 returns-clause-value c = λ m rule arrivals s e t v fit typed is.

@@ -12,4 +12,4 @@ returns-clause-goto c = λ m body arrivals s e fit is.
     (IfOk-at_ok (Fits (scope_of m)) is (effect_fits (scope_of m) body arrivals s fit)).goto
 
 pub returns-clause-phase : goal.returns-clause-phase
-returns-clause-phase c = λ m s place fit within. phase_fits (scope_of m) s place fit within
+returns-clause-phase c = λ m s index fit within. phase_fits (scope_of m) s index fit within

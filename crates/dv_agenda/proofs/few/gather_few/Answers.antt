@@ -10,8 +10,8 @@ on_err : {T E P : Type 0} (r : Result T E) → P → OnErr r P
 on_err (Ok x) h = tt
 on_err (Err e) h = h
 
-pub loop-place-init : goal.loop-place-init
-loop-place-init c = record {
+pub loop-index-init : goal.loop-index-init
+loop-index-init c = record {
   capacity = omega arith;
   due = sym (ap (λ (ps : List ℕ). c.args.into.now.items ++ ps) (due_none c.args.time c.args.waits.now) ∙ append-nil c.args.into.now.items);
 }
@@ -19,34 +19,34 @@ loop-place-init c = record {
 pub returns-in_err-push_due-clause-full : goal.returns-in_err-push_due-clause-full
 returns-in_err-push_due-clause-full c =
     let then : length c.args.into.now.items ≡ vec_len c.args.into.now = sym c.args.into.now.ok.0 in
-    let room : vec_capacity c.args.into.now ≤ vec_capacity c.loop-place.into = c.loop-place.invariant.capacity in
-    let full : vec_capacity c.loop-place.into < length c.args.into.now.items + length (due_at c.args.time c.args.waits.now) =
-    c.in_err-push_due.ensures.full c.args.into.now.items c.loop-place.invariant.due in
+    let room : vec_capacity c.args.into.now ≤ vec_capacity c.loop-index.into = c.loop-index.invariant.capacity in
+    let full : vec_capacity c.loop-index.into < length c.args.into.now.items + length (due_at c.args.time c.args.waits.now) =
+    c.in_err-push_due.ensures.full c.args.into.now.items c.loop-index.invariant.due in
     on_err c.from_residual.result (omega arith)
 
-pub loop-place-preserved-then-not-is_due : goal.loop-place-preserved-then-not-is_due
-loop-place-preserved-then-not-is_due c =
-    let due : List ℕ = due_at c.args.time (take c.loop-place.place c.args.waits.now) in
+pub loop-index-preserved-then-not-is_due : goal.loop-index-preserved-then-not-is_due
+loop-index-preserved-then-not-is_due c =
+    let due : List ℕ = due_at c.args.time (take c.loop-index.index c.args.waits.now) in
     record {
-      capacity = c.loop-place.invariant.capacity;
-      due = c.loop-place.invariant.due
+      capacity = c.loop-index.invariant.capacity;
+      due = c.loop-index.invariant.due
           ∙ ap (λ (ps : List ℕ). c.args.into.now.items ++ ps)
           (sym (append-nil due)
-          ∙ ap (λ (b : Bool). due ++ one_due b c.loop-place.place) (sym (sym c.is_due.ensures.due ∙ c.if-not-is_due.true))
-          ∙ sym (due_more c.args.time c.args.waits.now c.loop-place.place));
+          ∙ ap (λ (b : Bool). due ++ one_due b c.loop-index.index) (sym (sym c.is_due.ensures.due ∙ c.if-not-is_due.true))
+          ∙ sym (due_more c.args.time c.args.waits.now c.loop-index.index));
     }
 
-pub loop-place-preserved : goal.loop-place-preserved
-loop-place-preserved c =
-    let room : vec_capacity c.args.into.now ≤ vec_capacity c.loop-place.into = c.loop-place.invariant.capacity in
-    let more : vec_capacity c.loop-place.into ≤ vec_capacity c.push_due.new.into = c.push_due.ensures.capacity in
+pub loop-index-preserved : goal.loop-index-preserved
+loop-index-preserved c =
+    let room : vec_capacity c.args.into.now ≤ vec_capacity c.loop-index.into = c.loop-index.invariant.capacity in
+    let more : vec_capacity c.loop-index.into ≤ vec_capacity c.push_due.new.into = c.push_due.ensures.capacity in
     record {
       capacity = omega arith;
-      due = c.in_ok-push_due.ensures.due c.args.into.now.items c.loop-place.invariant.due;
+      due = c.in_ok-push_due.ensures.due c.args.into.now.items c.loop-index.invariant.due;
     }
 
 pub returns-clause-due : goal.returns-clause-due
 returns-clause-due c =
-    c.loop-place.invariant.due
+    c.loop-index.invariant.due
     ∙ ap (λ (vs : List (Option Time)). c.args.into.now.items ++ due_at c.args.time vs)
-    (take_whole c.args.waits.now c.loop-place.place (omega arith))
+    (take_whole c.args.waits.now c.loop-index.index (omega arith))

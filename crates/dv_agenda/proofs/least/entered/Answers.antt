@@ -10,5 +10,5 @@ pub returns-in-Known-clause-low : goal.returns-in-Known-clause-low
 returns-in-Known-clause-low c = λ s w h.
     let known : least_at c.args.leasts.now c.args.at ≡ Known c.in-Known.least =
     get_or_default c.args.leasts.now c.args.at Unknown _ c.requires ∙ c.in-Known.is in
-    subst (λ (f : Option Time). IsLow (least_at (set c.args.leasts.now c.args.at (Known f)) s) w) (sym c.sooner.ensures)
+    subst (λ (f : Option Time). IsLow (least_at (set c.args.leasts.now c.args.at (Known f)) s) w) (sym c.earliest.ensures)
     (low_entered c.args.leasts.now c.args.at s c.in-Known.least w c.args.time c.requires known h)

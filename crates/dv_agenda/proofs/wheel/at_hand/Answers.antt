@@ -10,18 +10,18 @@ same_known : (v w : Option Time) → Known v ≡ Known w → w ≡ v
 same_known v w e = cc
 
 pub returns-then-at-eq641 : goal.returns-then-at-eq641
-returns-then-at-eq641 c = λ waits now places span first kept e.
+returns-then-at-eq641 c = λ waits now indices span first kept e.
     let end : c.next-at.result ≡ 641 = c.if-at-eq641.true in
-    same_known None first e ∙ none_used waits now c.args.used.now places c.args.leasts.now span kept
+    same_known None first e ∙ none_used waits now c.args.used.now indices c.args.leasts.now span kept
     (λ p lt. c.next-at.ensures.none p (omega arith) (omega arith))
 
 pub returns-in-Some : goal.returns-in-Some
-returns-in-Some c = λ waits now places span first kept e.
+returns-in-Some c = λ waits now indices span first kept e.
     let high : c.next-at.result ≤ 641 = c.next-at.ensures.high in
     let room : 641 ≤ length c.args.leasts.now = c.requires.known in
     let lt : c.next-at.result < length c.args.leasts.now = omega (arith, c.if-at-eq641.false) in
     let known : least_at c.args.leasts.now c.next-at.result ≡ Known (Some c.in-Some.time) =
     get_or_default c.args.leasts.now c.next-at.result Unknown _ lt ∙ c.in-Known.is ∙ ap Known c.in-Some.is in
     same_known (Some c.in-Some.time) first e
-    ∙ known_lowest waits now c.args.used.now places c.args.leasts.now span c.next-at.result c.in-Some.time kept
+    ∙ known_lowest waits now c.args.used.now indices c.args.leasts.now span c.next-at.result c.in-Some.time kept
     (λ p less. c.next-at.ensures.none p (omega arith) less) known

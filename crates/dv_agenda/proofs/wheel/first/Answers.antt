@@ -10,10 +10,10 @@ use Rattle.dv_agenda.proofs.Wheels.{in_at, lowest_empty, lowest_first}
 use Rattle.dv_agenda.proofs.wheel.first.Goals as goal
 
 -- a slot of a wait is in use
-used_slot : (ws : List (Option Time)) (now : ℕ) (used places : List ℕ) (leasts : List Least) (span p : ℕ) (t : Time)
-    → IsKept ws now used places leasts span
+used_slot : (ws : List (Option Time)) (now : ℕ) (used indices : List ℕ) (leasts : List Least) (span p : ℕ) (t : Time)
+    → IsKept ws now used indices leasts span
     → get_or ws p None ≡ Some t → has used (slot t.tick now) ≡ 1
-used_slot ws now used places leasts span p t h e = (in_at ws now used places leasts span p t h e).0
+used_slot ws now used indices leasts span p t h e = (in_at ws now used indices leasts span p t h e).0
 
 pub loop-slot-init : goal.loop-slot-init
 loop-slot-init c = record {
@@ -21,7 +21,7 @@ loop-slot-init c = record {
   none = λ p t e. elim (cases_lt (slot t.tick c.args.now) c.next-slot.result) [
     | inl lt ↦
         let one : has c.args.used.now (slot t.tick c.args.now) ≡ 1 =
-        used_slot c.args.waits.now c.args.now c.args.used.now c.args.places.now c.args.leasts.now c.args.span p t c.requires e in
+        used_slot c.args.waits.now c.args.now c.args.used.now c.args.indices.now c.args.leasts.now c.args.span p t c.requires e in
         let zero : has c.args.used.now (slot t.tick c.args.now) ≡ 0 = c.next-slot.ensures.none (slot t.tick c.args.now) (omega arith) lt in
         absurd (omega arith)
     | inr le ↦ le
@@ -35,10 +35,10 @@ loop-slot-preserved c = record {
     | inl lt ↦
         let low : c.loop-slot.slot ≤ slot t.tick c.args.now = c.loop-slot.invariant.none p t e in
         let one : has c.args.used.now (slot t.tick c.args.now) ≡ 1 =
-        used_slot c.args.waits.now c.args.now c.args.used.now c.args.places.now c.args.leasts.now c.args.span p t c.requires e in
+        used_slot c.args.waits.now c.args.now c.args.used.now c.args.indices.now c.args.leasts.now c.args.span p t c.requires e in
         elim (cases_eq (slot t.tick c.args.now) c.loop-slot.slot) [
           | inl d ↦
-              absurd (lowest_empty c.args.waits.now c.args.now c.args.used.now c.args.places.now c.args.leasts.now c.args.span
+              absurd (lowest_empty c.args.waits.now c.args.now c.args.used.now c.args.indices.now c.args.leasts.now c.args.span
               c.loop-slot.slot c.least_of-least.result c.requires c.loop-slot.invariant.none c.least_of-least.ensures.above
               (λ q u d is. c.least_of-least.ensures.below c.args.now c.args.used.now q u c.requires d is)
               (sym c.in_slot.ensures ∙ c.if-in_slot.false) p t e d)
@@ -53,7 +53,7 @@ loop-slot-preserved c = record {
 
 pub returns-then-in_slot : goal.returns-then-in_slot
 returns-then-in_slot c =
-    lowest_first c.args.waits.now c.args.now c.args.used.now c.args.places.now c.args.leasts.now c.args.span c.loop-slot.slot
+    lowest_first c.args.waits.now c.args.now c.args.used.now c.args.indices.now c.args.leasts.now c.args.span c.loop-slot.slot
     c.least_of-least.result
     c.requires c.loop-slot.invariant.none c.least_of-least.ensures.above
     (λ q u d is. c.least_of-least.ensures.below c.args.now c.args.used.now q u c.requires d is)

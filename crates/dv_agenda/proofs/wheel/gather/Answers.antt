@@ -17,7 +17,7 @@ returns-then-time-now-clause-due c =
     let nothing : due_at c.args.time ws ≡ [] =
     ap (due_at c.args.time) (sym (take_whole ws (length ws) (omega arith)))
     ∙ due_skip c.args.time ws 0 (length ws) (omega arith)
-    (λ p le lt. past ws c.args.now c.args.used.now c.args.places.now c.requires.kept.0 c.args.span p c.args.time c.requires.kept.1
+    (λ p le lt. past ws c.args.now c.args.used.now c.args.indices.now c.requires.kept.0 c.args.span p c.args.time c.requires.kept.1
     c.if-time-now.true)
     ∙ due_none c.args.time ws in
     sym (ap (λ (ps : List ℕ). c.args.into.now.items ++ ps) nothing ∙ append-nil c.args.into.now.items)
@@ -35,8 +35,8 @@ loop-at-init c =
       capacity = omega arith;
       due = sym (ap (λ (ps : List ℕ). c.args.into.now.items ++ ps)
           (due_skip c.args.time ws 0 (64 * (c.next_word-at.result - s * (c.args.span / 64))) (omega arith)
-          (λ p le lt. not_due ws c.args.now c.args.used.now c.args.places.now c.requires.kept.0 c.args.span p c.args.time c.requires.kept.1
-          (ap (λ (x : ℕ). has c.args.places.now (x * c.args.span + p)) (sym c.slot_of.ensures.slot)
+          (λ p le lt. not_due ws c.args.now c.args.used.now c.args.indices.now c.requires.kept.0 c.args.span p c.args.time c.requires.kept.1
+          (ap (λ (x : ℕ). has c.args.indices.now (x * c.args.span + p)) (sym c.slot_of.ensures.slot)
           ∙ c.next_word-at.ensures.none (c.slot_of.result * c.args.span + p) (omega arith) (omega arith)))
           ∙ due_none c.args.time ws)
           ∙ append-nil c.args.into.now.items);
@@ -50,12 +50,12 @@ gather_word-requires-clause-others c = λ p lt nil.
     let low : c.slot_of.result * (c.args.span / 64) ≤ c.loop-at.at = c.loop-at.invariant.low in
     let n : c.slot_of.result * c.args.span + (64 * (c.loop-at.at - c.slot_of.result * (c.args.span / 64)) + p) ≡ 64 * c.loop-at.at + p =
     omega arith in
-    not_due c.args.waits.now c.args.now c.args.used.now c.args.places.now c.requires.kept.0 c.args.span
+    not_due c.args.waits.now c.args.now c.args.used.now c.args.indices.now c.requires.kept.0 c.args.span
     (64 * (c.loop-at.at - s * (c.args.span / 64)) + p)
     c.args.time c.requires.kept.1
-    (ap (λ (x : ℕ). has c.args.places.now (x * c.args.span + (64 * (c.loop-at.at - s * (c.args.span / 64)) + p)))
+    (ap (λ (x : ℕ). has c.args.indices.now (x * c.args.span + (64 * (c.loop-at.at - s * (c.args.span / 64)) + p)))
     (sym c.slot_of.ensures.slot)
-    ∙ ap (has c.args.places.now) n ∙ has_word c.args.places.now c.loop-at.at p lt
+    ∙ ap (has c.args.indices.now) n ∙ has_word c.args.indices.now c.loop-at.at p lt
     ∙ ap (λ (x : ℕ). bit_at x p) (sym c.word.ensures) ∙ nil)
 
 on_err : {T E P : Type 0} (r : Result T E) → P → OnErr r P
@@ -88,8 +88,8 @@ loop-at-preserved c =
       due = c.in_ok-gather_word.ensures.due c.args.into.now.items c.loop-at.invariant.due
           ∙ ap (λ (ps : List ℕ). c.args.into.now.items ++ ps)
           (sym (due_skip c.args.time ws (64 * (c.loop-at.at - base) + 64) (64 * (c.next_word-at-in-loop-at.result - base)) (omega arith)
-          (λ p le lt. not_due ws c.args.now c.args.used.now c.args.places.now c.requires.kept.0 c.args.span p c.args.time c.requires.kept.1
-          (ap (λ (x : ℕ). has c.args.places.now (x * c.args.span + p)) (sym c.slot_of.ensures.slot)
+          (λ p le lt. not_due ws c.args.now c.args.used.now c.args.indices.now c.requires.kept.0 c.args.span p c.args.time c.requires.kept.1
+          (ap (λ (x : ℕ). has c.args.indices.now (x * c.args.span + p)) (sym c.slot_of.ensures.slot)
           ∙ c.next_word-at-in-loop-at.ensures.none (c.slot_of.result * c.args.span + p) (omega arith) (omega arith)))));
     }
 

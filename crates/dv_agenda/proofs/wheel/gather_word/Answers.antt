@@ -10,7 +10,7 @@ use Rattle.dv_agenda.proofs.FirstWaits.{due_skip}
 use Rattle.dv_agenda.proofs.Sets.{below_lowest, lowest_above, lowest_high}
 use Rattle.dv_agenda.proofs.wheel.gather_word.Goals as goal
 
--- places whose bits are not set are passed over
+-- indices whose bits are not set are passed over
 past : (t : Time) (ws : List (Option Time)) (word base i j : ℕ) → i ≤ j → j ≤ 64
     → ((p : ℕ) → p < 64 → bit_at word p ≡ 0 → ends_at t (get_or ws (base + p) None) ≡ false)
     → ((p : ℕ) → i ≤ p → p < j → bit_at word p ≡ 0)
@@ -47,7 +47,7 @@ loop-rest-init c = record {
       c.requires.others (λ p low lt. below_lowest c.args.word p (omega arith) lt)));
 }
 
--- what a list has before a place is looked at
+-- what a list has before an index is looked at
 so_far : (t : Time) (ws : List (Option Time)) (items : List ℕ) (base k tz : ℕ) (before : List ℕ) → k ≡ tz
     → items ≡ before ++ due_at t (take (base + tz) ws) → items ≡ before ++ due_at t (take (base + k) ws)
 so_far t ws items base k tz before e h = h ∙ ap (λ (i : ℕ). before ++ due_at t (take (base + i) ws)) (sym e)

@@ -1,9 +1,10 @@
 use Rattle.std.proofs.Common.{◌≡◌, inl, inr, ℕ, ◌+◌, ◌-◌, ◌*◌, ◌/◌, ◌≤◌, None, get_or, sym, ap, subst, arith, ◌∙◌}
 use Rattle.std.proofs.lemmas.Bool.{cases_lt}
 use Rattle.std.specs.Int.{bit_at}
-use Rattle.dv_agenda.specs.Waits.{first_of, sooner}
+use Rattle.dv_time.specs.Time.{earliest}
+use Rattle.dv_agenda.specs.Waits.{first_of}
 use Rattle.dv_agenda.specs.Wheel.{has}
-use Rattle.dv_agenda.proofs.OrderOfWaits.{sooner-none}
+use Rattle.dv_agenda.proofs.OrderOfWaits.{earliest-none}
 use Rattle.dv_agenda.proofs.Sets.{has_word}
 use Rattle.dv_agenda.proofs.Wheels.{aligned}
 use Rattle.dv_agenda.proofs.wheel.least_in.Goals as goal
@@ -15,9 +16,9 @@ loop-at-init c =
     record {
       low = low;
       high = c.next_word-at.ensures.high;
-      above = sooner-none (first_of c.args.waits.now);
+      above = earliest-none (first_of c.args.waits.now);
       below = λ p lt one.
-          let nil : has c.args.places.now (c.args.slot * c.args.span + p) ≡ 0 =
+          let nil : has c.args.indices.now (c.args.slot * c.args.span + p) ≡ 0 =
           c.next_word-at.ensures.none (c.args.slot * c.args.span + p) (omega arith) (omega arith) in
           absurd (omega arith);
     }
@@ -42,12 +43,12 @@ loop-at-preserved c =
               ≡ p = omega arith in
               let n : c.args.slot * c.args.span + p ≡ 64 * c.loop-at.at + (p - 64 * (c.loop-at.at - c.args.slot * (c.args.span / 64))) =
               omega arith in
-              subst (λ (i : ℕ). sooner c.least_of_word-least.result (get_or c.args.waits.now i None) ≡ c.least_of_word-least.result) e
+              subst (λ (i : ℕ). earliest c.least_of_word-least.result (get_or c.args.waits.now i None) ≡ c.least_of_word-least.result) e
               (c.least_of_word-least.ensures.below j (omega arith)
-              (ap (λ (x : ℕ). bit_at x j) c.word.ensures ∙ sym (has_word c.args.places.now at j (omega arith))
-              ∙ ap (has c.args.places.now) (sym n) ∙ one))
+              (ap (λ (x : ℕ). bit_at x j) c.word.ensures ∙ sym (has_word c.args.indices.now at j (omega arith))
+              ∙ ap (has c.args.indices.now) (sym n) ∙ one))
           | inr past ↦
-              let nil : has c.args.places.now (c.args.slot * c.args.span + p) ≡ 0 =
+              let nil : has c.args.indices.now (c.args.slot * c.args.span + p) ≡ 0 =
               c.next_word-at-in-loop-at.ensures.none (c.args.slot * c.args.span + p) (omega arith) (omega arith) in
               absurd (omega arith)
         ]

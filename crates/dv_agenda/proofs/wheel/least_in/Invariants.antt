@@ -1,5 +1,6 @@
 use Rattle.std.proofs.Common.{◌≡◌, ℕ, ◌+◌, ◌-◌, ◌*◌, ◌<◌, ◌≤◌, None, get_or}
-use Rattle.dv_agenda.specs.Waits.{first_of, sooner}
+use Rattle.dv_time.specs.Time.{earliest}
+use Rattle.dv_agenda.specs.Waits.{first_of}
 use Rattle.dv_agenda.specs.Wheel.{has}
 use Rattle.dv_agenda.proofs.wheel.least_in.Given as goal
 
@@ -7,9 +8,9 @@ abbrev pub invariant-loop-at : goal.invariant-loop-at
 invariant-loop-at l = record {
   low : l.base ≤ l.at;
   high : l.at ≤ l.end;
-  above : sooner (first_of l.waits) l.least ≡ first_of l.waits;
-  below : (p : ℕ) → p < 64 * (l.at - l.base) → has l.places (l.slot * l.span + p) ≡ 1
-      → sooner l.least (get_or l.waits p None) ≡ l.least;
+  above : earliest (first_of l.waits) l.least ≡ first_of l.waits;
+  below : (p : ℕ) → p < 64 * (l.at - l.base) → has l.indices (l.slot * l.span + p) ≡ 1
+      → earliest l.least (get_or l.waits p None) ≡ l.least;
 }
 
 abbrev pub decreases-loop-at : goal.decreases-loop-at

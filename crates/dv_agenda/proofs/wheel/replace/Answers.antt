@@ -4,16 +4,16 @@ use Rattle.dv_agenda.proofs.wheel.replace.Goals as goal
 
 pub returns-then-is_from-clause-kept : goal.returns-then-is_from-clause-kept
 returns-then-is_from-clause-kept c =
-    kept_after c.args.waits.now c.args.now c.args.used.now c.leave.new.used c.put.new.used c.args.places.now c.leave.new.places
-    c.put.new.places c.args.leasts.now c.leave.new.leasts c.put.new.leasts c.args.span c.args.place c.args.wait c.requires.kept
-    c.requires.place (c.is_from.ensures c.if-is_from.true) c.put.ensures.room
+    kept_after c.args.waits.now c.args.now c.args.used.now c.leave.new.used c.put.new.used c.args.indices.now c.leave.new.indices
+    c.put.new.indices c.args.leasts.now c.leave.new.leasts c.put.new.leasts c.args.span c.args.index c.args.wait c.requires.kept
+    c.requires.index (c.is_from.ensures c.if-is_from.true) c.put.ensures.room
     c.leave.ensures.others c.put.ensures.used c.put.ensures.others c.put.ensures.low c.put.ensures.there
-    (c.put.ensures.held (set c.args.waits.now c.args.place c.args.wait)
-    (get_or-set_same c.args.waits.now c.args.place c.args.wait None c.requires.place)
-    (c.leave.ensures.held c.args.waits.now c.args.wait c.requires.place refl c.requires.kept.held))
+    (c.put.ensures.held (set c.args.waits.now c.args.index c.args.wait)
+    (get_or-set_same c.args.waits.now c.args.index c.args.wait None c.requires.index)
+    (c.leave.ensures.held c.args.waits.now c.args.wait c.requires.index refl c.requires.kept.held))
 
 pub returns-clause-kept : goal.returns-clause-kept
 returns-clause-kept c =
-    kept_anew c.args.waits.now c.args.now c.put_anew.result c.args.used.now c.put_anew.new.used c.args.places.now c.put_anew.new.places
-    c.args.leasts.now c.put_anew.new.leasts c.args.span c.args.place c.args.wait c.requires.kept c.requires.place c.put_anew.ensures.low
+    kept_anew c.args.waits.now c.args.now c.put_anew.result c.args.used.now c.put_anew.new.used c.args.indices.now c.put_anew.new.indices
+    c.args.leasts.now c.put_anew.new.leasts c.args.span c.args.index c.args.wait c.requires.kept c.requires.index c.put_anew.ensures.low
     c.put_anew.ensures.from c.put_anew.ensures.room c.put_anew.ensures.there c.put_anew.ensures.held

@@ -11,13 +11,13 @@ loop-at-init c =
     record {
       low = c.next_word-at.ensures.low;
       high = c.next_word-at.ensures.high;
-      room = room_after c.args.used.now c.remove.new.self c.args.places.now c.args.places.now c.args.leasts.now
+      room = room_after c.args.used.now c.remove.new.self c.args.indices.now c.args.indices.now c.args.leasts.now
           (set c.args.leasts.now c.slot_of-slot.result (Known None)) c.args.span c.requires.kept.sets
           c.remove.ensures.size refl (length-set c.args.leasts.now c.slot_of-slot.result (Known None));
       held = λ q. held_started c.args.waits.now c.args.before c.args.now c.args.leasts.now c.slot_of-slot.result q c.requires.on
           (omega (arith, c.slot_of-slot.ensures.high, c.requires.kept.sets.known)) c.requires.from c.slot_of-slot.ensures.slot
           c.requires.kept.held;
-      spread = λ p t e. started c.args.waits.now c.args.before c.args.now c.args.used.now c.remove.new.self c.args.places.now
+      spread = λ p t e. started c.args.waits.now c.args.before c.args.now c.args.used.now c.remove.new.self c.args.indices.now
           c.args.leasts.now c.args.span c.slot_of-slot.result (64 * c.next_word-at.result) p t c.requires.kept c.requires.on
           (tick_from c.args.now (get_or c.args.waits.now p None) t e (c.requires.from p)) c.slot_of-slot.ensures.slot e
           c.remove.ensures.others (λ q le lt. c.next_word-at.ensures.none q (omega arith) lt);
@@ -36,7 +36,7 @@ loop-at-preserved c =
       spread = λ p t e.
           let lt : p < length c.args.waits.now = within c.args.waits.now p t e in
           moved_on c.args.waits.now c.args.now c.args.span c.slot_of-slot.result c.loop-at.at c.next_word-at-in-loop-at.result p
-          c.loop-at.used c.spread_word.new.used c.loop-at.places c.take_word-word.new.self c.spread_word.new.places
+          c.loop-at.used c.spread_word.new.used c.loop-at.indices c.take_word-word.new.self c.spread_word.new.indices
           c.loop-at.leasts c.spread_word.new.leasts t
           c.requires.kept.sets.whole from (omega arith) e (omega arith) c.take_word-word.ensures.others
           (λ j small one. c.spread_word.ensures.there j small (ap (λ (x : ℕ). bit_at x j) c.take_word-word.ensures.word ∙ one))
@@ -56,7 +56,7 @@ returns c =
         sets = c.loop-at.invariant.room;
         fits = c.requires.kept.fits;
         from = c.requires.from;
-        there = all_moved c.args.waits.now c.args.now c.loop-at.used c.loop-at.places c.loop-at.leasts c.args.span
+        there = all_moved c.args.waits.now c.args.now c.loop-at.used c.loop-at.indices c.loop-at.leasts c.args.span
             c.slot_of-slot.result (64 * c.loop-at.at)
             (omega arith) c.loop-at.invariant.spread;
         held = c.loop-at.invariant.held;

@@ -8,11 +8,11 @@ abbrev pub invariant-loop-at : goal.invariant-loop-at
 invariant-loop-at l = record {
   low : l.base ≤ l.at;
   high : l.at ≤ l.end;
-  room : HasRoom l.used l.places l.leasts l.span;
+  room : HasRoom l.used l.indices l.leasts l.span;
   held : (s : ℕ) → IsHeld l.waits l.now s (least_at l.leasts s);
   spread : (p : ℕ) (t : Time) → get_or l.waits p None ≡ Some t
-      → (IsIn l.now l.used l.places l.leasts l.span p (Some t))
-      ⊎ ((64 * l.at ≤ l.slot * l.span + p) × (has l.places (l.slot * l.span + p) ≡ 1));
+      → (IsIn l.now l.used l.indices l.leasts l.span p (Some t))
+      ⊎ ((64 * l.at ≤ l.slot * l.span + p) × (has l.indices (l.slot * l.span + p) ≡ 1));
 }
 
 abbrev pub decreases-loop-at : goal.decreases-loop-at

@@ -26,15 +26,15 @@ loop-rest-preserved c = record {
   there = λ p lt one. elim (c.loop-rest.invariant.there p lt one) [
     | inl r ↦ elim (cases_eq p c.take_least.result) [
       | inl e ↦
-          inr (subst (λ (i : ℕ). IsIn c.args.now c.put.new.used c.put.new.places c.put.new.leasts c.args.span (c.args.base + i)
+          inr (subst (λ (i : ℕ). IsIn c.args.now c.put.new.used c.put.new.indices c.put.new.leasts c.args.span (c.args.base + i)
           (get_or c.args.waits.now (c.args.base + i) None)) (sym e)
-          (subst (IsIn c.args.now c.put.new.used c.put.new.places c.put.new.leasts c.args.span (c.args.base + c.take_least.result))
+          (subst (IsIn c.args.now c.put.new.used c.put.new.indices c.put.new.leasts c.args.span (c.args.base + c.take_least.result))
           c.wait_at.ensures
           c.put.ensures.there))
       | inr ne ↦ inl (c.take_least.ensures.others p lt ne ∙ r)
     ]
     | inr h ↦
-        inr (in_more c.args.now c.loop-rest.used c.put.new.used c.loop-rest.places c.put.new.places c.loop-rest.leasts c.put.new.leasts
+        inr (in_more c.args.now c.loop-rest.used c.put.new.used c.loop-rest.indices c.put.new.indices c.loop-rest.leasts c.put.new.leasts
         c.args.span (c.args.base + p)
         (get_or c.args.waits.now (c.args.base + p) None) c.put.ensures.used c.put.ensures.others c.put.ensures.low h)
   ];

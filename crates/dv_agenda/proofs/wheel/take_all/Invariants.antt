@@ -1,8 +1,8 @@
 use Rattle.std.proofs.Common.{◌≡◌, length}
 use Rattle.dv_agenda.proofs.wheel.take_all.Given as goal
 
-abbrev pub invariant-loop-place : goal.invariant-loop-place
-invariant-loop-place l = record {
+abbrev pub invariant-loop-index : goal.invariant-loop-index
+invariant-loop-index l = record {
   used : length l.used ≡ length l.fn.used;
-  places : length l.places ≡ length l.fn.places;
+  indices : length l.indices ≡ length l.fn.indices;
 }

@@ -2,8 +2,8 @@ use Rattle.std.proofs.Common.{◌≡◌, length, take}
 use Rattle.dv_bag.proofs.state.copy_all.Given as goal
 
 -- so far each datum was copied
-abbrev pub invariant-loop-place : goal.invariant-loop-place
-invariant-loop-place l = record {
+abbrev pub invariant-loop-index : goal.invariant-loop-index
+invariant-loop-index l = record {
   count : length l.to ≡ length l.from;
-  copied : take l.place l.to ≡ take l.place l.from;
+  copied : take l.index l.to ≡ take l.index l.from;
 }

@@ -5,6 +5,6 @@ use Rattle.dv_check.proofs.ports.push_before.Given as goal
 
 abbrev pub invariant-loop-index : goal.invariant-loop-index
 invariant-loop-index l =
-    (l.ports.items ++ map Out (names_before l.place (drop l.index l.outputs))
-    ≡ l.initial.ports.items ++ map Out (names_before l.place l.outputs))
-    × (names_from l.place (drop l.index l.outputs) ≡ names_from l.place l.outputs)
+    (l.ports.items ++ map Out (names_before l.offset (drop l.index l.outputs))
+    ≡ l.initial.ports.items ++ map Out (names_before l.offset l.outputs))
+    × (names_from l.offset (drop l.index l.outputs) ≡ names_from l.offset l.outputs)

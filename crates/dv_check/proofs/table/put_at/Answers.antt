@@ -4,5 +4,5 @@ use Rattle.dv_check.proofs.table.put_at.Goals as goal
 
 pub returns : goal.returns
 returns g c q =
-    value_put c.lengthen.new.places.items c.args.index c.args.value q c.in_ok-lengthen.ensures.reaches
+    value_put c.lengthen.new.entries.items c.args.index c.args.value q c.in_ok-lengthen.ensures.reaches
     ∙ ap (λ o. if c.args.index == q then Some c.args.value else o) (c.lengthen.ensures.values q)

@@ -13,7 +13,7 @@ use Rattle.dv_code.proofs.rows.a_program_and_its_marks.Goals as goal
 abbrev Fine : ℕ → Instruction → Type 0
 Fine = IsFine sender [] deepest_loops (length each_sent.code) each_sent_marks
 
-fine_at : (place : ℕ) (i : Instruction) → slice_get each_sent.code place ≡ Some i → Fine place i
+fine_at : (address : ℕ) (i : Instruction) → slice_get each_sent.code address ≡ Some i → Fine address i
 fine_at zero i e = subst (Fine 0) (same_Some _ i e) (record {
   lies = omega arith;
   shallow = omega arith;
@@ -39,14 +39,14 @@ fine_at (suc (suc (suc (suc zero)))) i e = subst (Fine 4) (same_Some _ i e) (rec
   shallow = omega arith;
   agrees = (refl, refl, refl);
 })
-fine_at (suc (suc (suc (suc (suc place))))) i e = absurd (cc)
+fine_at (suc (suc (suc (suc (suc address))))) i e = absurd (cc)
 
 small : AreSmall sender.slots
 small zero d capacity e =
     let same : Holding discipline.Bag 8 ≡ Holding d capacity = same_Some (Holding discipline.Bag 8) (Holding d capacity) e in
     let eight : 8 ≡ capacity = cc in
     (omega (arith, eight), omega (arith, eight))
-small (suc place) d capacity e = absurd (cc)
+small (suc address) d capacity e = absurd (cc)
 
 pub returns : goal.returns
 returns c = (

@@ -53,4 +53,4 @@ loop-component-preserved c =
 pub returns-clause-once : goal.returns-clause-once
 returns-clause-once c =
     let known = c.loop-component.invariant.known in
-    omega (arith, count-within c.loop-component.models.places.items, known.once, known.count)
+    omega (arith, count-within c.loop-component.models.indices.items, known.once, known.count)

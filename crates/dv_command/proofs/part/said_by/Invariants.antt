@@ -7,4 +7,4 @@ abbrev pub invariant-loop-word : goal.invariant-loop-word
 invariant-loop-word l =
     said_by l.subcommand Ready (map string_bytes l.words)
     ≡ option_map (λ more. map said_in l.parts.items ++ more)
-    (said_by l.subcommand (reading_of l.place) (map string_bytes (drop l.word-index l.words)))
+    (said_by l.subcommand (reading_of l.index) (map string_bytes (drop l.word-index l.words)))

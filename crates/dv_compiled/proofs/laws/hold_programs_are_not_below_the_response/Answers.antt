@@ -26,6 +26,6 @@ returns c = λ m elapsed ticks bags s change compilable few fit is goes numbers 
     let went = goes_by_effect (effect_of scope (rule_body External phase m.rules) arrivals s) change by_rule goes in
     let kept = IfOk-at_ok (λ (c' : Change). IsTrue (fits m c'.state)) by_rule (keeps.external elapsed bags s fit refl passed) in
     let held = agrees.hold change.state kept ∙ hold in
-    c.holds_are_not_below_the_response.ensures m phase went.place ticks arrivals s went.left fit went.is went.to
+    c.holds_are_not_below_the_response.ensures m phase went.index ticks arrivals s went.left fit went.is went.to
     (subst (λ (t : State). HoldsNumbers t.variables) went.state numbers)
     (subst (λ (t : State). hold_of scope (hold_ticks (phase_name scope t.phase) m.holds) t ≡ Ok (Some ticks)) went.state held)

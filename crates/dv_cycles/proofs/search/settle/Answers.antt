@@ -27,8 +27,8 @@ index_mut-requires c =
     let some : c.args.first < l.path.len = omega arith in
     let next : last + 1 ≡ l.path.len = omega (arith, c.truncate.ensures.len) in
     let on : l.path.len ≤ old.len = omega (arith, l.invariant.shorter) in
-    let place : c.len-last.result - 1 ≡ last = omega arith in
-    let read = subst (λ n. v ≡ get_or l.path.items n v) place c.index-node.ensures in
+    let index : c.len-last.result - 1 ≡ last = omega arith in
+    let read = subst (λ n. v ≡ get_or l.path.items n v) index c.index-node.ensures in
     let node : node_at old.items last ≡ v =
     front_node old.items l.path.items l.path.len last v l.invariant.kept (omega arith) (omega (arith, old.ok.0)) read in
     let within : v < length l.marks.items =
@@ -46,9 +46,9 @@ loop-path-preserved c =
     let some : c.args.first < l.path.len = omega arith in
     let next : less.len + 1 ≡ l.path.len = omega (arith, c.truncate.ensures.len) in
     let on : l.path.len ≤ old.len = omega (arith, l.invariant.shorter) in
-    let place : c.len-last.result - 1 ≡ less.len = omega arith in
-    let read = subst (λ n. v ≡ get_or l.path.items n v) place c.index-node.ensures in
-    let front = subst (λ n. less.items ≡ take n l.path.items) place c.truncate.ensures.items in
+    let index : c.len-last.result - 1 ≡ less.len = omega arith in
+    let read = subst (λ n. v ≡ get_or l.path.items n v) index c.index-node.ensures in
+    let front = subst (λ n. less.items ≡ take n l.path.items) index c.truncate.ensures.items in
     let node : node_at old.items less.len ≡ v =
     front_node old.items l.path.items l.path.len less.len v l.invariant.kept (omega arith) (omega (arith, old.ok.0)) read in
     record {

@@ -29,48 +29,48 @@ run-loop-statement-preserved t c =
 
 pub run_statement-returns-then-truth_of : goal.run_statement-returns-then-truth_of
 run_statement-returns-then-truth_of t c =
-    let place = c.in-If.place in
+    let offset = c.in-If.offset in
     let e = c.in-If.condition in
     let block = statements_of c.deref.result.now in
     let tree =
     ap (λ s. statement_before s Done) c.in-If.is
-    ∙ c.trees_keep_blocks.ensures.alone place e c.in-If.then_block Done
-    ∙ ap (λ items. If place (expression_of e) (statements_of items) Done) (sym c.deref.ensures.value) in
+    ∙ c.trees_keep_blocks.ensures.alone offset e c.in-If.then_block Done
+    ∙ ap (λ items. If offset (expression_of e) (statements_of items) Done) (sym c.deref.ensures.value) in
     let holds = sym c.truth_of.ensures ∙ c.if-truth_of.true in
     let value = c.in_ok-condition-in-If in
-    let taken = run-If c.args.scope.now (context_of c.args.context.now) c.args.statement.now place c.args.effect (expression_of e) block
+    let taken = run-If c.args.scope.now (context_of c.args.context.now) c.args.statement.now offset c.args.effect (expression_of e) block
     value.condition tree (sym value.ensures) holds in
     subst (Gives c.run.result) (sym taken) c.run.ensures
 
 pub run_statement-returns-then-truth_of-2 : goal.run_statement-returns-then-truth_of-2
 run_statement-returns-then-truth_of-2 t c =
-    let place = c.in-IfElse.place in
+    let offset = c.in-IfElse.offset in
     let e = c.in-IfElse.condition in
     let block = statements_of c.deref-then-truth_of-2.result.now in
     let other = statements_of c.in-IfElse.else_block.statements.items in
     let tree =
     ap (λ s. statement_before s Done) c.in-IfElse.is
-    ∙ c.trees_keep_blocks.ensures.with_else place e c.in-IfElse.then_block c.in-IfElse.else_block Done
-    ∙ ap (λ items. IfElse place (expression_of e) (statements_of items) other Done) (sym c.deref-then-truth_of-2.ensures.value) in
+    ∙ c.trees_keep_blocks.ensures.with_else offset e c.in-IfElse.then_block c.in-IfElse.else_block Done
+    ∙ ap (λ items. IfElse offset (expression_of e) (statements_of items) other Done) (sym c.deref-then-truth_of-2.ensures.value) in
     let holds = sym c.truth_of-in-IfElse.ensures ∙ c.if-truth_of-2.true in
     let value = c.in_ok-condition-in-IfElse in
-    let taken = run-IfElse c.args.scope.now (context_of c.args.context.now) c.args.statement.now place c.args.effect (expression_of e) block
+    let taken = run-IfElse c.args.scope.now (context_of c.args.context.now) c.args.statement.now offset c.args.effect (expression_of e) block
     other value.condition true tree (sym value.ensures) holds in
     subst (Gives c.run-then-truth_of-2.result) (sym taken) c.run-then-truth_of-2.ensures
 
 pub run_statement-returns-else-truth_of-2 : goal.run_statement-returns-else-truth_of-2
 run_statement-returns-else-truth_of-2 t c =
-    let place = c.in-IfElse.place in
+    let offset = c.in-IfElse.offset in
     let e = c.in-IfElse.condition in
     let block = statements_of c.in-IfElse.then_block.statements.items in
     let other = statements_of c.deref-else-truth_of-2.result.now in
     let tree =
     ap (λ s. statement_before s Done) c.in-IfElse.is
-    ∙ c.trees_keep_blocks.ensures.with_else place e c.in-IfElse.then_block c.in-IfElse.else_block Done
-    ∙ ap (λ items. IfElse place (expression_of e) block (statements_of items) Done) (sym c.deref-else-truth_of-2.ensures.value) in
+    ∙ c.trees_keep_blocks.ensures.with_else offset e c.in-IfElse.then_block c.in-IfElse.else_block Done
+    ∙ ap (λ items. IfElse offset (expression_of e) block (statements_of items) Done) (sym c.deref-else-truth_of-2.ensures.value) in
     let fails = sym c.truth_of-in-IfElse.ensures ∙ c.if-truth_of-2.false in
     let value = c.in_ok-condition-in-IfElse in
-    let taken = run-IfElse c.args.scope.now (context_of c.args.context.now) c.args.statement.now place c.args.effect (expression_of e) block
+    let taken = run-IfElse c.args.scope.now (context_of c.args.context.now) c.args.statement.now offset c.args.effect (expression_of e) block
     other value.condition false tree (sym value.ensures) fails in
     subst (Gives c.run-else-truth_of-2.result) (sym taken) c.run-else-truth_of-2.ensures
 
@@ -118,7 +118,7 @@ run_loop-loop-pair-preserved t c =
 
 pub run_statement-returns-in_ok-pairs-in-For : goal.run_statement-returns-in_ok-pairs-in-For
 run_statement-returns-in_ok-pairs-in-For t c =
-    let place = c.in-For.place in
+    let offset = c.in-For.offset in
     let v = c.in-For.variable in
     let b = c.in-For.bag in
     let block = statements_of c.deref-in-For-2.result.now in
@@ -126,26 +126,26 @@ run_statement-returns-in_ok-pairs-in-For t c =
     let context = context_of c.args.context.now in
     let tree =
     ap (λ s. statement_before s Done) c.in-For.is
-    ∙ c.trees_keep_blocks.ensures.repeated place v b c.in-For.block Done
-    ∙ ap (λ items. For place v b (statements_of items) Done) (sym c.deref-in-For-2.ensures.value) in
+    ∙ c.trees_keep_blocks.ensures.repeated offset v b c.in-For.block Done
+    ∙ ap (λ items. For offset v b (statements_of items) Done) (sym c.deref-in-For-2.ensures.value) in
     let walked :
     values_of c.deref-in-For.result.now
     ≡ values_in (collection_of_name scope (moment_in context c.args.effect.state) b.number) =
     ap values_of c.deref-in-For.ensures.value ∙ c.in_ok-pairs-in-For.ensures in
     let whole =
     ap (λ values. repetition (λ n. run scope (in_loop (v.number, n) context) block) values c.args.effect) walked
-    ∙ sym (run-For scope context c.args.statement.now place c.args.effect v b block tree) in
+    ∙ sym (run-For scope context c.args.statement.now offset c.args.effect v b block tree) in
     subst (Gives c.run_loop.result) whole c.run_loop.ensures
 
 pub run_statement-returns-in-Command : goal.run_statement-returns-in-Command
 run_statement-returns-in-Command t c =
-    let whole = run-Command c.args.scope.now (context_of c.args.context.now) c.args.statement.now c.in-Command.place c.args.effect
+    let whole = run-Command c.args.scope.now (context_of c.args.context.now) c.args.statement.now c.in-Command.offset c.args.effect
     c.in-Command.command c.in-Command.name c.in-Command.is in
     subst (Gives c.obey.result) (sym whole) c.obey.ensures
 
 pub run_statement-returns-in-Change : goal.run_statement-returns-in-Change
 run_statement-returns-in-Change t c =
-    let whole = run-Change c.args.scope.now (context_of c.args.context.now) c.args.statement.now c.in-Change.place c.args.effect
+    let whole = run-Change c.args.scope.now (context_of c.args.context.now) c.args.statement.now c.in-Change.offset c.args.effect
     c.in-Change.change c.in-Change.value c.in-Change.collection c.in-Change.is in
     subst (Gives c.run_step-in-Change.result) (sym whole) c.run_step-in-Change.ensures
 
@@ -157,6 +157,6 @@ run_statement-returns-in-Assign t c =
 
 pub run_statement-returns-in-Send : goal.run_statement-returns-in-Send
 run_statement-returns-in-Send t c =
-    let whole = run-Send c.args.scope.now (context_of c.args.context.now) c.args.statement.now c.in-Send.place c.args.effect c.in-Send.port
+    let whole = run-Send c.args.scope.now (context_of c.args.context.now) c.args.statement.now c.in-Send.offset c.args.effect c.in-Send.port
     c.in-Send.value c.in-Send.is in
     subst (Gives c.run_step-in-Send.result) (sym whole) c.run_step-in-Send.ensures

@@ -1,5 +1,5 @@
 use Rattle.std.proofs.Common.{◌≡◌, take}
 use Rattle.dv_flat.proofs.limit.are_same.Given as goal
 
-abbrev pub invariant-loop-place : goal.invariant-loop-place
-invariant-loop-place l = take l.place l.left ≡ take l.place l.right
+abbrev pub invariant-loop-index : goal.invariant-loop-index
+invariant-loop-index l = take l.index l.left ≡ take l.index l.right

@@ -2,7 +2,7 @@ use Rattle.std.proofs.Common.{◌≡◌, drop, replicate}
 use Rattle.dv_flat.specs.Ways.{output_ways, part_ways}
 use Rattle.dv_flat.proofs.limit.output_ways.Given as goal
 
-abbrev pub invariant-loop-place : goal.invariant-loop-place
-invariant-loop-place l =
-    output_ways (drop l.place l.level.of_parts) (part_ways l.below (drop l.place l.part-items)) l.ways.items
+abbrev pub invariant-loop-index : goal.invariant-loop-index
+invariant-loop-index l =
+    output_ways (drop l.index l.level.of_parts) (part_ways l.below (drop l.index l.part-items)) l.ways.items
     ≡ output_ways l.level.of_parts (part_ways l.below l.part-items) (replicate l.level.outputs 0)

@@ -4,17 +4,17 @@ use Rattle.dv_flat.specs.Ends.{port_at}
 use Rattle.dv_flat.proofs.ports.chosen.Goals as goal
 use Rattle.dv_flat.proofs.ports.chosen.Goals.{then-is_set+in_ok-push, else-is_set}
 
-pub loop-place-preserved : goal.loop-place-preserved
-loop-place-preserved c =
+pub loop-index-preserved : goal.loop-index-preserved
+loop-index-preserved c =
     let ports = c.args.ports.now in
-    let at = c.loop-place in
+    let at = c.loop-index in
     elim c.if-is_set.branch [
       | then-is_set+in_ok-push w ↦
-          one_chosen at.place c.args.flags.now ports at.chosen.items c.if-is_set.chosen.items _ (port_at 0 0)
-          c.loop-place-test.true
+          one_chosen at.index c.args.flags.now ports at.chosen.items c.if-is_set.chosen.items _ (port_at 0 0)
+          c.loop-index-test.true
           at.invariant (sym c.is_set.ensures ∙ w.if-is_set.true) (ap (λ v. v.items) w.chosen-is ∙ w.in_ok-push.ensures.items)
       | else-is_set w ↦
-          none_chosen at.place c.args.flags.now ports at.chosen.items c.if-is_set.chosen.items _ (port_at 0 0)
-          c.loop-place-test.true
+          none_chosen at.index c.args.flags.now ports at.chosen.items c.if-is_set.chosen.items _ (port_at 0 0)
+          c.loop-index-test.true
           at.invariant (sym c.is_set.ensures ∙ w.if-is_set.false) (ap (λ v. v.items) w.chosen-is)
     ]

@@ -8,20 +8,20 @@ use Rattle.dv_gen.proofs.expression.+expression.Goals as goal
 
 pub emit_second-replace-requires : goal.emit_second-replace-requires
 emit_second-replace-requires t c =
-    jump_within c.args.draft.now _ c.emit_expression.new.draft _ _ c.place-jump.ensures _ c.in_ok-push-in-IfTrue.ensures
+    jump_within c.args.draft.now _ c.emit_expression.new.draft _ _ c.address-jump.ensures _ c.in_ok-push-in-IfTrue.ensures
     c.in_ok-emit_expression-in-IfTrue.ensures.code
 
 pub emit_second-replace-requires-in-IfFalse : goal.emit_second-replace-requires-in-IfFalse
 emit_second-replace-requires-in-IfFalse t c =
-    jump_within c.args.draft.now _ c.emit_expression-in-IfFalse.new.draft _ _ c.place-jump.ensures _ c.in_ok-push-in-IfFalse.ensures
+    jump_within c.args.draft.now _ c.emit_expression-in-IfFalse.new.draft _ _ c.address-jump.ensures _ c.in_ok-push-in-IfFalse.ensures
     c.in_ok-emit_expression-in-IfFalse.ensures.code
 
 pub emit_second-returns-in_ok-emit_expression-in-IfTrue-clause-code :
     goal.emit_second-returns-in_ok-emit_expression-in-IfTrue-clause-code
 emit_second-returns-in_ok-emit_expression-in-IfTrue-clause-code t c = λ before left so_far.
     let right = resolved c.args.names.now (loops_of c.args.loops.now) (expression_of c.args.right.now) in
-    let whole = with_expression-And before c.args.draft.now _ c.emit_expression.new.draft _ _ _ _ left right so_far c.place-jump.ensures
-    c.in_ok-push-in-IfTrue.ensures c.in_ok-emit_expression-in-IfTrue.ensures.code c.place.ensures c.replace.ensures in
+    let whole = with_expression-And before c.args.draft.now _ c.emit_expression.new.draft _ _ _ _ left right so_far c.address-jump.ensures
+    c.in_ok-push-in-IfTrue.ensures c.in_ok-emit_expression-in-IfTrue.ensures.code c.address.ensures c.replace.ensures in
     whole ∙ ap (λ j. with_expression before (junction j left right)) (sym c.in-IfTrue.is)
 
 pub emit_second-returns-in_ok-emit_expression-in-IfFalse-clause-code :
@@ -29,8 +29,8 @@ pub emit_second-returns-in_ok-emit_expression-in-IfFalse-clause-code :
 emit_second-returns-in_ok-emit_expression-in-IfFalse-clause-code t c = λ before left so_far.
     let right = resolved c.args.names.now (loops_of c.args.loops.now) (expression_of c.args.right.now) in
     let whole = with_expression-Or before c.args.draft.now _ c.emit_expression-in-IfFalse.new.draft _ _ _ _ left right so_far
-    c.place-jump.ensures
-    c.in_ok-push-in-IfFalse.ensures c.in_ok-emit_expression-in-IfFalse.ensures.code c.place-in-IfFalse.ensures
+    c.address-jump.ensures
+    c.in_ok-push-in-IfFalse.ensures c.in_ok-emit_expression-in-IfFalse.ensures.code c.address-in-IfFalse.ensures
     c.replace-in-IfFalse.ensures in
     whole ∙ ap (λ j. with_expression before (junction j left right)) (sym c.in-IfFalse.is)
 

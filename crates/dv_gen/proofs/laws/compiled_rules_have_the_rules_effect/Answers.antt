@@ -26,7 +26,7 @@ returns-clause-rules c m ok k d within arrivals s fit =
     let shape = rule_shape (scope_of m) r.sort in
     ends_alike ending (λ n. run shape (program_of (rule_tree m r.body)) arrivals n (begins shape s))
     (rule_effect shape arrivals (rule_tree m r.body) s) (effect_of (scope_of m) r.body arrivals s)
-    (c.places_mean_what_names_mean.ensures.rules m ok k d within arrivals s fit)
+    (c.indices_mean_what_names_mean.ensures.rules m ok k d within arrivals s fit)
     (c.generated_programs_do_what_the_tree_means.ensures.rule shape _ (rule_tree m r.body)
     (c.accepted_rules_are_well_typed.ensures.rules m ok k d within) arrivals s (c.states_fit_the_tables.ensures.fits m s fit))
 
@@ -40,4 +40,4 @@ returns-clause-holds c m ok k d within =
     (c.generated_programs_do_what_the_tree_means.ensures.hold shape (hold_tree m e) typed.1 nothing_arrived s
     (c.states_fit_the_tables.ensures.fits m s fit)))
     (get_or m.holds k d).ticks (c.accepted_rules_are_well_typed.ensures.holds m ok k d within)
-    (c.places_mean_what_names_mean.ensures.holds m ok k d within)
+    (c.indices_mean_what_names_mean.ensures.holds m ok k d within)

@@ -21,7 +21,7 @@ emit_when-emit_statements-requires t c = (search rules, omega arith)
 
 pub emit_when-replace-requires : goal.emit_when-replace-requires
 emit_when-replace-requires t c =
-    jump_within_block c.emit_expression.new.draft _ c.emit_statements.new.draft _ _ c.place-test.ensures _ c.in_ok-push.ensures
+    jump_within_block c.emit_expression.new.draft _ c.emit_statements.new.draft _ _ c.address-test.ensures _ c.in_ok-push.ensures
     c.in_ok-emit_statements.ensures
 
 pub emit_when-returns : goal.emit_when-returns
@@ -30,12 +30,12 @@ emit_when-returns t c =
     let block = all_resolved c.args.names.now (loops_of c.args.loops.now) (statements_of c.args.block.now) in
     with_statements-When c.args.draft.now c.emit_expression.new.draft c.push.new.self c.emit_statements.new.draft _ _ _ _
     condition block
-    c.in_ok-emit_expression.ensures.code c.place-test.ensures c.in_ok-push.ensures c.in_ok-emit_statements.ensures c.place.ensures
+    c.in_ok-emit_expression.ensures.code c.address-test.ensures c.in_ok-push.ensures c.in_ok-emit_statements.ensures c.address.ensures
     c.replace.ensures
 
 pub emit_loop-replace-requires : goal.emit_loop-replace-requires
 emit_loop-replace-requires t c =
-    let within = jump_within_block c.args.draft.now _ c.emit_statements.new.draft _ _ c.place-entry.ensures _ c.in_ok-push.ensures
+    let within = jump_within_block c.args.draft.now _ c.emit_statements.new.draft _ _ c.address-entry.ensures _ c.in_ok-push.ensures
     c.in_ok-emit_statements.ensures in
     jump_within_more c.emit_statements.new.draft _ _ _ within c.in_ok-push-2.ensures
 
@@ -43,12 +43,12 @@ pub emit_loop-returns : goal.emit_loop-returns
 emit_loop-returns t c =
     let block = all_resolved c.args.names.now (loops_of c.args.loops.now) (statements_of c.args.block.now) in
     with_statements-For c.args.draft.now c.push.new.self c.emit_statements.new.draft c.push-2.new.self _ _ _ _ _ c.args.source block
-    c.place-entry.ensures c.in_ok-push.ensures c.place-first.ensures c.in_ok-emit_statements.ensures c.in_ok-push-2.ensures
-    c.place.ensures c.replace.ensures
+    c.address-entry.ensures c.in_ok-push.ensures c.address-first.ensures c.in_ok-emit_statements.ensures c.in_ok-push-2.ensures
+    c.address.ensures c.replace.ensures
 
 pub emit_first_block-replace-requires : goal.emit_first_block-replace-requires
 emit_first_block-replace-requires t c =
-    let within = jump_within_block c.emit_expression.new.draft _ c.emit_statements.new.draft _ _ c.place-test.ensures _
+    let within = jump_within_block c.emit_expression.new.draft _ c.emit_statements.new.draft _ _ c.address-test.ensures _
     c.in_ok-push.ensures c.in_ok-emit_statements.ensures in
     jump_within_more c.emit_statements.new.draft _ _ _ within c.in_ok-push-2.ensures
 
@@ -59,19 +59,19 @@ emit_first_block-returns-clause-code t c =
     with_statements-If c.args.draft.now c.emit_expression.new.draft c.push.new.self c.emit_statements.new.draft c.push-2.new.self
     _ _ _ _
     _ _ condition block
-    c.in_ok-emit_expression.ensures.code c.place-test.ensures c.in_ok-push.ensures c.in_ok-emit_statements.ensures
-    c.place-jump.ensures
+    c.in_ok-emit_expression.ensures.code c.address-test.ensures c.in_ok-push.ensures c.in_ok-emit_statements.ensures
+    c.address-jump.ensures
     c.in_ok-push-2.ensures
-    c.place.ensures c.replace.ensures
+    c.address.ensures c.replace.ensures
 
 pub emit_first_block-returns-clause-within : goal.emit_first_block-returns-clause-within
 emit_first_block-returns-clause-within t c =
-    jump_behind_within c.emit_statements.new.draft c.push-2.new.self _ _ _ _ _ c.place-jump.ensures c.in_ok-push-2.ensures
+    jump_behind_within c.emit_statements.new.draft c.push-2.new.self _ _ _ _ _ c.address-jump.ensures c.in_ok-push-2.ensures
     c.replace.ensures
 
 pub emit_other_block-returns : goal.emit_other_block-returns
 emit_other_block-returns t c =
-    with_branch-is c.args.draft.now c.emit_statements.new.draft _ _ _ _ c.in_ok-emit_statements.ensures c.place.ensures
+    with_branch-is c.args.draft.now c.emit_statements.new.draft _ _ _ _ c.in_ok-emit_statements.ensures c.address.ensures
     c.replace.ensures
 
 pub emit_other_block-replace-requires : goal.emit_other_block-replace-requires

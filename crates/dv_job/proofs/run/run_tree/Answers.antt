@@ -27,7 +27,7 @@ returns-clause-ended g c =
     (g.W.Write.contents c.write_end.new.writer)
     (subst (λ (n : ℕ). IsRunOf tree.names (file_of tree.file) setup.inputs setup.groups o.horizon o.limit o.capacity n
     (g.W.Write.contents c.args.writer.now) (g.W.Write.contents c.compiled_run.new.writer) c.in_ok-ran.ran)
-    c.granted-rounds.ensures c.in_ok-ran.ensures.run)
+    c.granted.ensures c.in_ok-ran.ensures.run)
     c.write_end.result c.write_end.ensures.ending c.write_end.ensures.text
 
 pub returns-clause-error : goal.returns-clause-error

@@ -31,7 +31,7 @@ returns-then-is_ascii_digit-clause-token c names =
       range = c.in-Some.ensures.1;
       table = refl;
       kind = ap (λ n. Some (kind.Number n)) (sym c.in-Some.ensures.0);
-      at_place = refl;
+      at_offset = refl;
     }
 
 -- a symbol
@@ -50,5 +50,5 @@ returns-clause-token c names = record {
   range = tt;
   table = refl;
   kind = refl;
-  at_place = refl;
+  at_offset = refl;
 }

@@ -27,7 +27,7 @@ loop-first-smaller c =
 pub loop-first-preserved : goal.loop-first-preserved
 loop-first-preserved c =
     let token : ReadsToken _ c.loop-first.rest.now c.loop-first.names c.token.new.names c.in-Ok.read.0 c.in-Ok.read.1.now =
-    rw c.place_of-place.ensures at c.in-Ok.ensures.token in
+    rw c.offset_of-offset.ensures at c.in-Ok.ensures.token in
     let read = subst (λ (ts : List Token). HasRead c.args.text.now c.token.new.names ts c.in-Ok.read.1.now) (sym c.in_ok-push.ensures.items)
     (HasRead-token c.args.text.now c.loop-first.names c.loop-first.tokens.items c.loop-first.rest.now c.loop-first.invariant.0
     c.token.new.names c.in-Ok.read.0 c.in-Ok.read.1.now token) in
@@ -39,4 +39,4 @@ returns-in-Err-clause-refused c r was =
     let token = c.in-Err.ensures.refused r (ap Err same) in
     let begins : BeginsWith c.in-Some.first c.loop-first.rest.now = (c.in-Some.after.now, c.in-Some.ensures) in
     refused_there c.args.text.now _ _ c.loop-first.rest.now c.requires c.loop-first.invariant.0 c.in-Some.first begins r
-    (token.0 ∙ c.place_of-place.ensures, token.1)
+    (token.0 ∙ c.offset_of-offset.ensures, token.1)

@@ -24,5 +24,5 @@ returns-then-starts_name-clause-token c =
       range = word_in_range c.in_ok-kind.ensures.0 class;
       table = c.in_ok-kind.ensures.2;
       kind = c.in_ok-kind.ensures.3;
-      at_place = refl;
+      at_offset = refl;
     }

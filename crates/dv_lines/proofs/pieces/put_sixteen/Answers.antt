@@ -1,4 +1,4 @@
--- The bytes of a word stand behind what stood in front of the place.
+-- The bytes of a word stand behind what stood in front of the index.
 use Rattle.std.proofs.Common.{rules, ◌≡◌, ◌+◌, ◌≤◌, ◌++◌, take, drop, length, ℕ, ◌-◌, List, sym, ap, ◌∙◌, arith, take-take}
 use Rattle.std.proofs.lemmas.List.{take-append-le, length-take}
 use Rattle.std.proofs.Math.Seq.{take-append-add}

@@ -11,8 +11,8 @@ use Rattle.dv_text.proofs.Taking.{TakesFront-left, TakesFront-nothing, TakesFron
 use Rattle.dv_lines.proofs.Rounds.{entry_handed, fails_at_entry, fails_before_entry, fails_behind_entry, fails_in_groups, groups_taken}
 use Rattle.dv_lines.proofs.trace_writer.write_merged.Goals as goal
 
-pub loop-place-init : goal.loop-place-init
-loop-place-init g c =
+pub loop-index-init : goal.loop-index-init
+loop-index-init g c =
     let all = tree_names c.args.words.now in
     let names = tree_ports c.args.words.now in
     let part = c.args.part.now in
@@ -27,45 +27,45 @@ pub returns-in_err-outer-clause-err : goal.returns-in_err-outer-clause-err
 returns-in_err-outer-clause-err g c =
     let items = c.args.part.now.entries in
     let e = c.entry-entry.result.now in
-    let is = sym (get_or_from_slice_get items c.loop-place.place e e c.entry-entry.ensures) in
+    let is = sym (get_or_from_slice_get items c.loop-index.index e e c.entry-entry.ensures) in
     OnErr-always _
-    (fails_before_entry (tree_names c.args.words.now) items c.loop-place.place e
-    (groups_of (tree_ports c.args.words.now) c.loop-place.outer.now) _
-    (omega arith) is refl c.loop-place.lines c.loop-place.invariant (rw c.time.ensures at c.in_err-outer.ensures.err))
+    (fails_before_entry (tree_names c.args.words.now) items c.loop-index.index e
+    (groups_of (tree_ports c.args.words.now) c.loop-index.outer.now) _
+    (omega arith) is refl c.loop-index.lines c.loop-index.invariant (rw c.time.ensures at c.in_err-outer.ensures.err))
 
 pub returns-in_err-put-clause-err : goal.returns-in_err-put-clause-err
 returns-in_err-put-clause-err g c =
     let items = c.args.part.now.entries in
     let e = c.entry-entry.result.now in
-    let is = sym (get_or_from_slice_get items c.loop-place.place e e c.entry-entry.ensures) in
+    let is = sym (get_or_from_slice_get items c.loop-index.index e e c.entry-entry.ensures) in
     OnErr-always _
-    (fails_at_entry (tree_names c.args.words.now) items c.loop-place.place e
-    (groups_of (tree_ports c.args.words.now) c.loop-place.outer.now) _
-    (omega arith) is (rw c.time.ensures at c.in_ok-outer.ensures.left) c.loop-place.lines c.loop-place.invariant
+    (fails_at_entry (tree_names c.args.words.now) items c.loop-index.index e
+    (groups_of (tree_ports c.args.words.now) c.loop-index.outer.now) _
+    (omega arith) is (rw c.time.ensures at c.in_ok-outer.ensures.left) c.loop-index.lines c.loop-index.invariant
     c.write_before.new.lines (rw c.time.ensures at c.in_ok-outer.ensures.ok))
 
 pub returns-in_err-hand_over_if_long-clause-err : goal.returns-in_err-hand_over_if_long-clause-err
 returns-in_err-hand_over_if_long-clause-err g c =
     let items = c.args.part.now.entries in
     let e = c.entry-entry.result.now in
-    let is = sym (get_or_from_slice_get items c.loop-place.place e e c.entry-entry.ensures) in
+    let is = sym (get_or_from_slice_get items c.loop-index.index e e c.entry-entry.ensures) in
     OnErr-always _
-    (fails_behind_entry (tree_names c.args.words.now) items c.loop-place.place e
-    (groups_of (tree_ports c.args.words.now) c.loop-place.outer.now) _
-    (omega arith) is (rw c.time.ensures at c.in_ok-outer.ensures.left) c.loop-place.lines c.loop-place.invariant
+    (fails_behind_entry (tree_names c.args.words.now) items c.loop-index.index e
+    (groups_of (tree_ports c.args.words.now) c.loop-index.outer.now) _
+    (omega arith) is (rw c.time.ensures at c.in_ok-outer.ensures.left) c.loop-index.lines c.loop-index.invariant
     c.write_before.new.lines (rw c.time.ensures at c.in_ok-outer.ensures.ok)
     c.put.new.self (c.in_ok-put.ensures.ok
     ∙ ap (λ (t : List ℕ). c.write_before.new.lines ++ t) (c.line.ensures ∙ sym (c.requires e)))
     (AppendsBeginning-short c.in_err-hand_over_if_long.ensures.err))
 
-pub loop-place-preserved : goal.loop-place-preserved
-loop-place-preserved g c =
+pub loop-index-preserved : goal.loop-index-preserved
+loop-index-preserved g c =
     let items = c.args.part.now.entries in
     let e = c.entry-entry.result.now in
-    let is = sym (get_or_from_slice_get items c.loop-place.place e e c.entry-entry.ensures) in
-    entry_handed (tree_names c.args.words.now) items c.loop-place.place e
-    (groups_of (tree_ports c.args.words.now) c.loop-place.outer.now) _
-    (omega arith) is (rw c.time.ensures at c.in_ok-outer.ensures.left) c.loop-place.lines c.loop-place.invariant
+    let is = sym (get_or_from_slice_get items c.loop-index.index e e c.entry-entry.ensures) in
+    entry_handed (tree_names c.args.words.now) items c.loop-index.index e
+    (groups_of (tree_ports c.args.words.now) c.loop-index.outer.now) _
+    (omega arith) is (rw c.time.ensures at c.in_ok-outer.ensures.left) c.loop-index.lines c.loop-index.invariant
     c.write_before.new.lines (rw c.time.ensures at c.in_ok-outer.ensures.ok)
     c.put.new.self (c.in_ok-put.ensures.ok
     ∙ ap (λ (t : List ℕ). c.write_before.new.lines ++ t) (c.line.ensures ∙ sym (c.requires e)))
@@ -74,16 +74,16 @@ loop-place-preserved g c =
 pub returns-in_err-write_groups-clause-err : goal.returns-in_err-write_groups-clause-err
 returns-in_err-write_groups-clause-err g c =
     OnErr-always _
-    (fails_in_groups (tree_names c.args.words.now) c.args.part.now.entries c.loop-place.place
-    (groups_of (tree_ports c.args.words.now) c.loop-place.outer.now) (omega arith) c.loop-place.lines
-    c.loop-place.invariant c.in_err-write_groups.ensures.err)
+    (fails_in_groups (tree_names c.args.words.now) c.args.part.now.entries c.loop-index.index
+    (groups_of (tree_ports c.args.words.now) c.loop-index.outer.now) (omega arith) c.loop-index.lines
+    c.loop-index.invariant c.in_err-write_groups.ensures.err)
 
 pub returns-clause-ok : goal.returns-clause-ok
 returns-clause-ok g c =
     let taken =
-    groups_taken (tree_names c.args.words.now) c.args.part.now.entries c.loop-place.place
-    (groups_of (tree_ports c.args.words.now) c.loop-place.outer.now) (omega arith) c.loop-place.lines
-    c.loop-place.invariant c.write_groups.new.lines c.in_ok-write_groups.ensures.ok in
+    groups_taken (tree_names c.args.words.now) c.args.part.now.entries c.loop-index.index
+    (groups_of (tree_ports c.args.words.now) c.loop-index.outer.now) (omega arith) c.loop-index.lines
+    c.loop-index.invariant c.write_groups.new.lines c.in_ok-write_groups.ensures.ok in
     on_ok_weaker c.hand_over.result
     (λ (p : Appends (g.W.Write.contents c.write_groups.new.writer)
     (g.W.Write.contents c.hand_over.new.writer) c.as_bytes.result.now). Appends-from_taken
@@ -92,9 +92,9 @@ returns-clause-ok g c =
 pub returns-clause-err : goal.returns-clause-err
 returns-clause-err g c =
     let taken =
-    groups_taken (tree_names c.args.words.now) c.args.part.now.entries c.loop-place.place
-    (groups_of (tree_ports c.args.words.now) c.loop-place.outer.now) (omega arith) c.loop-place.lines
-    c.loop-place.invariant c.write_groups.new.lines c.in_ok-write_groups.ensures.ok in
+    groups_taken (tree_names c.args.words.now) c.args.part.now.entries c.loop-index.index
+    (groups_of (tree_ports c.args.words.now) c.loop-index.outer.now) (omega arith) c.loop-index.lines
+    c.loop-index.invariant c.write_groups.new.lines c.in_ok-write_groups.ensures.ok in
     on_err_weaker c.hand_over.result
     (λ (p : StopsShort (g.W.Write.contents c.write_groups.new.writer)
     (g.W.Write.contents c.hand_over.new.writer) c.as_bytes.result.now). AppendsBeginning-after taken

@@ -20,7 +20,7 @@ no_sending = record { port = 0; value = pos 0; copies = 0 }
 abbrev no_word : Word
 no_word = record { start = 0; length = 0 }
 
--- the sending at a place, whatever stands past the end
+-- the sending at an index, whatever stands past the end
 port_is : (ss : List Sending) (i : ℕ) → i < length ss → (d : Sending) → (get_or ss i d).port ≡ (get_or ss i no_sending).port
 port_is ss i early d =
     ap (λ (s : Sending). s.port) (get_or_from_slice_get ss i (get_or ss i no_sending) d (slice_get-get_or ss i no_sending early))
@@ -30,7 +30,7 @@ port_within ports [] within i d lt = absurd (omega arith)
 port_within ports (s ∷ ss) within zero d lt = within.0
 port_within ports (s ∷ ss) within (suc i) d lt = port_within ports ss within.3 i d (omega (arith, lt))
 
--- the word at a place among the texts of words
+-- the word at an index among the texts of words
 text_there : (bytes : List ℕ) (words : List Word) (k : ℕ) (w d : Word) → k < length words → w ≡ get_or words k d →
     get_or (map (word_text bytes) words) k [] ≡ word_text bytes w
 text_there bytes [] k w d lt is = absurd (omega arith)
@@ -52,46 +52,46 @@ returns-in_default-clause-text c =
     let words = map (word_text c.args.bytes.now) c.args.words.now in
     let bags = c.args.sent.now in
     let ss = c.as_slice-sendings.result.now in
-    let i = c.loop-place.place in
-    let next = c.loop-place.next in
+    let i = c.loop-index.index in
+    let next = c.loop-index.next in
     let port = (get_or ss i no_sending).port in
     let sent = c.as_slice-sendings.ensures in
-    let is_first = c.loop-place.is_first in
+    let is_first = c.loop-index.is_first in
     let past : length words ≤ port =
     omega (arith, length-map c.args.words.now (word_text c.args.bytes.now), c.in_default.ensures.lookup.3) in
     let same : next + (port - next) ≡ port = omega (arith, c.if-sending-next.true) in
     let passed = ports_passed is_first words bags (port - next) next
-    (λ x le lt. nothing_between ss sent.order bags sent.bags i next x c.loop-place.invariant.before le
+    (λ x le lt. nothing_between ss sent.order bags sent.bags i next x c.loop-index.invariant.before le
     (λ d early. let gap = port_is ss i early d in omega (arith, lt, same, gap))) in (
-      c.loop-place.invariant.at,
+      c.loop-index.invariant.at,
       ports_done _ _ (left_at is_first words bags next)
-          (passed ∙ ap (left_at is_first words bags) same ∙ no_words_left is_first words bags port past) c.loop-place.invariant.text,
+          (passed ∙ ap (left_at is_first words bags) same ∙ no_words_left is_first words bags port past) c.loop-index.invariant.text,
     )
 
 pub put_port-requires-clause-order : goal.put_port-requires-clause-order
 put_port-requires-clause-order c =
     let ss = c.as_slice-sendings.result.now in
-    let i = c.loop-place.place in
-    rw (take_rest ss i) (rise_at 0 i no_sending ss c.as_slice-sendings.ensures.order c.loop-place-test.true)
+    let i = c.loop-index.index in
+    rw (take_rest ss i) (rise_at 0 i no_sending ss c.as_slice-sendings.ensures.order c.loop-index-test.true)
 
 pub put_port-requires-clause-within : goal.put_port-requires-clause-within
 put_port-requires-clause-within c =
     let ss = c.as_slice-sendings.result.now in
-    let i = c.loop-place.place in
+    let i = c.loop-index.index in
     rw (take_rest ss i, c.len.ensures) (within_at (length c.args.sent.now) i ss c.as_slice-sendings.ensures.within)
 
-pub loop-place-preserved : goal.loop-place-preserved
-loop-place-preserved c =
+pub loop-index-preserved : goal.loop-index-preserved
+loop-index-preserved c =
     let words = map (word_text c.args.bytes.now) c.args.words.now in
     let bags = c.args.sent.now in
     let ss = c.as_slice-sendings.result.now in
-    let i = c.loop-place.place in
-    let next = c.loop-place.next in
+    let i = c.loop-index.index in
+    let next = c.loop-index.next in
     let port = (get_or ss i no_sending).port in
     let sent = c.as_slice-sendings.ensures in
-    let early = c.loop-place-test.true in
-    let is_first = c.loop-place.is_first in
-    let held = c.loop-place.invariant in
+    let early = c.loop-index-test.true in
+    let is_first = c.loop-index.is_first in
+    let held = c.loop-index.invariant in
     let left = left_at is_first words bags in
     elim c.if-sending-next.branch [
       | then-sending-next+in-Some+in_ok-at w ↦
@@ -112,7 +112,7 @@ loop-place-preserved c =
           let some = some_there (bag_at bags port) (pairs_at port (drop (i + 1) ss)) (get_or ss i no_sending).value
           (get_or ss i no_sending).copies (sym (from ∙ bag) ∙ pairs_more port i no_sending ss early refl)
           (copies_there (length bags) i no_sending ss sent.within early) in
-          let line = take c.loop-place.at c.loop-place.to in
+          let line = take c.loop-index.at c.loop-index.to in
           let opened =
           ap (λ ns. sent_left is_first ns (drop port bags)) (drop_more words port [] within_words)
           ∙ ap (sent_left is_first (get_or words port [] ∷ drop (port + 1) words)) (drop_more bags port [] within_bags)
@@ -155,9 +155,9 @@ returns-clause-text c =
     let words = map (word_text c.args.bytes.now) c.args.words.now in
     let bags = c.args.sent.now in
     let ss = c.as_slice-sendings.result.now in
-    let i = c.loop-place.place in
+    let i = c.loop-index.index in
     let sent = c.as_slice-sendings.ensures in
-    let none = nothing_left c.loop-place.is_first words bags c.loop-place.next
-    (λ x le. nothing_between ss sent.order bags sent.bags i c.loop-place.next x c.loop-place.invariant.before le
-    (λ d early. absurd (omega (arith, early, c.loop-place-test.false)))) in
-    (c.loop-place.invariant.at, ports_done _ _ _ none c.loop-place.invariant.text)
+    let none = nothing_left c.loop-index.is_first words bags c.loop-index.next
+    (λ x le. nothing_between ss sent.order bags sent.bags i c.loop-index.next x c.loop-index.invariant.before le
+    (λ d early. absurd (omega (arith, early, c.loop-index-test.false)))) in
+    (c.loop-index.invariant.at, ports_done _ _ _ none c.loop-index.invariant.text)

@@ -6,15 +6,15 @@ use Rattle.dv_bag.specs.Bag.{Counts}
 use Rattle.dv_bag.specs.declared.fault.Fault.{Fault}
 use Rattle.dv_proc.specs.Accesses.{IsCounted}
 use Rattle.dv_react.specs.Components.{rank_of}
-use Rattle.dv_share.specs.declared.place.Placed.{Placed}
+use Rattle.dv_share.specs.declared.index.Indexed.{Indexed}
 use Rattle.dv_share.proofs.Order.{rise_at}
 use Rattle.dv_local.specs.Commits.{HasReacted, IsGivenAt}
 use Rattle.dv_local.proofs.Accesses.{counted_both, counted_none}
 use Rattle.dv_local.proofs.Commits.{given_now, none_reacted, one_more}
 use Rattle.dv_local.proofs.commit.commit.Goals as goal
 
--- what stands at an index
-arrival_is : (xs : List (Placed (List Counts))) (i : ℕ) (x : Placed (List Counts)) → slice_get xs i ≡ Some x → x ≡ slice_index_or xs i x
+-- what stands at an cursor
+arrival_is : (xs : List (Indexed (List Counts))) (i : ℕ) (x : Indexed (List Counts)) → slice_get xs i ≡ Some x → x ≡ slice_index_or xs i x
 arrival_is xs i x at = sym (get_or_from_slice_get xs i x x at)
 
 pub loop-order-init : goal.loop-order-init
@@ -33,21 +33,21 @@ loop-order-init g c = record {
   is_open = c.requires.is_open;
   settled = refl;
   handed = refl;
-  index = omega arith;
+  cursor = omega arith;
   passed = λ d lt k e le less. absurd (omega (arith, le, less));
 }
 
-pub next_index-index-requires : goal.next_index-index-requires
-next_index-index-requires g c =
+pub next_cursor-cursor-requires : goal.next_cursor-cursor-requires
+next_cursor-cursor-requires g c =
     let es = c.args.moment.now.emitted.now in
     let x = c.at-arrival.result.now in
     let inv = c.loop-order.invariant in
     let early : c.loop-order.order < length c.args.received.now.items = omega arith in
     record {
-      within = inv.index;
+      within = inv.cursor;
       before =
-          subst (λ (y : Placed (List Counts)). AllWithin (λ (e : Placed (Result (List Counts) Fault)). e.place < y.place) es 0
-          c.loop-order.index)
+          subst (λ (y : Indexed (List Counts)). AllWithin (λ (e : Indexed (Result (List Counts) Fault)). e.index < y.index) es 0
+          c.loop-order.cursor)
           (sym (arrival_is c.args.received.now.items c.loop-order.order c.at-arrival.result.now c.at-arrival.ensures)) (inv.passed x early);
     }
 
@@ -68,12 +68,12 @@ commit_one-requires g c =
       limit = c.requires.limit;
       components = inv.components;
       comes = c.requires.comes;
-      place = subst (λ (y : Placed (List Counts)). y.place < length t.members.items) (sym (arrival_is c.args.received.now.items c.loop-order.order c.at-arrival.result.now c.at-arrival.ensures))
+      index = subst (λ (y : Indexed (List Counts)). y.index < length t.members.items) (sym (arrival_is c.args.received.now.items c.loop-order.order c.at-arrival.result.now c.at-arrival.ensures))
           (c.requires.received.within i x early);
-      rise = c.requires.emitted.places.rise;
-      next = c.next_index-index.ensures;
+      rise = c.requires.emitted.indices.rise;
+      next = c.next_cursor-cursor.ensures;
       given =
-          subst (λ (y : Placed (List Counts)). IsGivenAt b t now es c.loop-order.components.running y.place) (sym (arrival_is c.args.received.now.items c.loop-order.order c.at-arrival.result.now c.at-arrival.ensures))
+          subst (λ (y : Indexed (List Counts)). IsGivenAt b t now es c.loop-order.components.running y.index) (sym (arrival_is c.args.received.now.items c.loop-order.order c.at-arrival.result.now c.at-arrival.ensures))
           (given_now b g.A.Atomic.fits t now rs es xs i x c.loop-order.components.running (g.R.Record.told c.args.to.now).entries
           (g.R.Record.told c.loop-order.to).entries c.requires.received c.requires.components.count early inv.reacted c.requires.emitted);
       agenda = inv.agenda;
@@ -104,7 +104,7 @@ loop-order-preserved g c =
     record {
       reacted =
           one_more b fits t now rs es xs i x ss old mid c.requires.received c.requires.components.count early inv.reacted us new
-          (subst (λ (y : Placed (List Counts)). HasReacted b fits t now es y ss us mid new) (arrival_is c.args.received.now.items c.loop-order.order c.at-arrival.result.now c.at-arrival.ensures) one.reacted);
+          (subst (λ (y : Indexed (List Counts)). HasReacted b fits t now es y ss us mid new) (arrival_is c.args.received.now.items c.loop-order.order c.at-arrival.result.now c.at-arrival.ensures) one.reacted);
       components = one.components;
       agenda = one.agenda;
       within = one.within;
@@ -116,12 +116,12 @@ loop-order-preserved g c =
       is_open = one.is_open;
       settled = one.settled ∙ inv.settled;
       handed = one.handed ∙ inv.handed;
-      index = c.next_index-index.ensures.within;
+      cursor = c.next_cursor-cursor.ensures.within;
       passed = λ d lt k e le less.
-          let before = c.next_index-index.ensures.before k e le less in
-          let place = λ (y : Placed (List Counts)). y.place in
-          let here = ap place ((arrival_is c.args.received.now.items c.loop-order.order c.at-arrival.result.now c.at-arrival.ensures) ∙ get_or_default xs i x d early) in
-          let next = rise_at place 0 xs i (i + 1) d c.requires.received.rise (omega arith) lt in
+          let before = c.next_cursor-cursor.ensures.before k e le less in
+          let index = λ (y : Indexed (List Counts)). y.index in
+          let here = ap index ((arrival_is c.args.received.now.items c.loop-order.order c.at-arrival.result.now c.at-arrival.ensures) ∙ get_or_default xs i x d early) in
+          let next = rise_at index 0 xs i (i + 1) d c.requires.received.rise (omega arith) lt in
           omega (arith, before, here, next);
     }
 

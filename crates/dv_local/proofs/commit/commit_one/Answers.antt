@@ -9,7 +9,7 @@ use Rattle.dv_react.specs.declared.happened.Happened.{Happened}
 use Rattle.dv_react.specs.declared.running.Running.{Running}
 use Rattle.dv_share.specs.Rows.{number_of}
 use Rattle.dv_share.specs.Share.{AreComponents, given_at}
-use Rattle.dv_share.specs.declared.place.Placed.{Placed}
+use Rattle.dv_share.specs.declared.index.Indexed.{Indexed}
 use Rattle.dv_local.specs.Commits.{what_by}
 use Rattle.dv_local.specs.Reacting.{ReactsAt}
 use Rattle.dv_local.specs.Undoing.{time_of_wait, undone, waits_of}
@@ -51,7 +51,7 @@ returns-in_default-clause-before g c =
     subst (λ (h : Option Happened). ReactsAt b fits t now es x rs ss old new h) c.in_default.is
     (subst (λ (us : List Running). ReactsAt b fits t now es x us ss old new c.in_ok-happened.field-0) c.visit.ensures.components
     c.in_ok-happened.ensures.reacted) in
-    ap₂ (λ (ys : List (Placed Running)) (us : List Running). undone ys us) (same_former b fits t now es x rs ss old new reacts) (same_components b fits t now es x rs ss old new reacts)
+    ap₂ (λ (ys : List (Indexed Running)) (us : List Running). undone ys us) (same_former b fits t now es x rs ss old new reacts) (same_components b fits t now es x rs ss old new reacts)
 
 pub returns-in-Err-clause-components : goal.returns-in-Err-clause-components
 returns-in-Err-clause-components g c =
@@ -69,8 +69,8 @@ returns-in-Err-clause-components g c =
     subst (λ (h : Option Happened). ReactsAt b fits t now es x rs ss old new h) c.in-Some.is
     (subst (λ (us : List Running). ReactsAt b fits t now es x us ss old new c.in_ok-happened.field-0) c.visit.ensures.components
     c.in_ok-happened.ensures.reacted) in
-    let at : c.react.new.self.visited ≡ x.place = c.react.ensures.visited ∙ c.visit.ensures.visited in
-    let back = c.take_back.ensures.back old (record { place = x.place; what = reacts.before }) reacts.former in
+    let at : c.react.new.self.visited ≡ x.index = c.react.ensures.visited ∙ c.visit.ensures.visited in
+    let back = c.take_back.ensures.back old (record { index = x.index; what = reacts.before }) reacts.former in
     let same : c.take_back.new.components.running ≡ rs =
     back.1 ∙ taken_back b fits t now es x rs ss old new (Some c.in-Some.happened) reacts c.react.new.self.visited at in
     subst (AreComponents fits t) (sym same) c.requires.components
@@ -91,8 +91,8 @@ returns-in-Err-clause-agenda g c =
     subst (λ (h : Option Happened). ReactsAt b fits t now es x rs ss old new h) c.in-Some.is
     (subst (λ (us : List Running). ReactsAt b fits t now es x us ss old new c.in_ok-happened.field-0) c.visit.ensures.components
     c.in_ok-happened.ensures.reacted) in
-    let at : c.react.new.self.visited ≡ x.place = c.react.ensures.visited ∙ c.visit.ensures.visited in
-    let back = c.take_back.ensures.back old (record { place = x.place; what = reacts.before }) reacts.former in
+    let at : c.react.new.self.visited ≡ x.index = c.react.ensures.visited ∙ c.visit.ensures.visited in
+    let back = c.take_back.ensures.back old (record { index = x.index; what = reacts.before }) reacts.former in
     let same : c.take_back.new.components.running ≡ rs =
     back.1 ∙ taken_back b fits t now es x rs ss old new (Some c.in-Some.happened) reacts c.react.new.self.visited at in
     c.requires.agenda ∙ ap (λ (us : List Running). waits_of us) (sym same)
@@ -113,11 +113,11 @@ returns-in-Err-clause-before g c =
     subst (λ (h : Option Happened). ReactsAt b fits t now es x rs ss old new h) c.in-Some.is
     (subst (λ (us : List Running). ReactsAt b fits t now es x us ss old new c.in_ok-happened.field-0) c.visit.ensures.components
     c.in_ok-happened.ensures.reacted) in
-    let at : c.react.new.self.visited ≡ x.place = c.react.ensures.visited ∙ c.visit.ensures.visited in
-    let back = c.take_back.ensures.back old (record { place = x.place; what = reacts.before }) reacts.former in
+    let at : c.react.new.self.visited ≡ x.index = c.react.ensures.visited ∙ c.visit.ensures.visited in
+    let back = c.take_back.ensures.back old (record { index = x.index; what = reacts.before }) reacts.former in
     let same : c.take_back.new.components.running ≡ rs =
     back.1 ∙ taken_back b fits t now es x rs ss old new (Some c.in-Some.happened) reacts c.react.new.self.visited at in
-    ap₂ (λ (ys : List (Placed Running)) (us : List Running). undone ys us) back.0 same
+    ap₂ (λ (ys : List (Indexed Running)) (us : List Running). undone ys us) back.0 same
 
 pub returns-in-Ok-clause-reacted : goal.returns-in-Ok-clause-reacted
 returns-in-Ok-clause-reacted g c =
@@ -135,11 +135,11 @@ returns-in-Ok-clause-reacted g c =
     subst (λ (h : Option Happened). ReactsAt b fits t now es x rs ss old new h) c.in-Some.is
     (subst (λ (us : List Running). ReactsAt b fits t now es x us ss old new c.in_ok-happened.field-0) c.visit.ensures.components
     c.in_ok-happened.ensures.reacted) in
-    let at : c.react.new.self.visited ≡ x.place = c.react.ensures.visited ∙ c.visit.ensures.visited in
+    let at : c.react.new.self.visited ≡ x.index = c.react.ensures.visited ∙ c.visit.ensures.visited in
     let stands : c.visited-component.result.now ≡ reacts.after =
     stands_there b fits t now es x rs ss old new (Some c.in-Some.happened) reacts c.react.new.self.visited c.visited-component.result.now at c.visited-component.ensures in
-    let given = given_at x.place es in
-    let k = number_of (slice_get t.members.items x.place) in
+    let given = given_at x.index es in
+    let k = number_of (slice_get t.members.items x.index) in
     record {
       outcome = outcome_of reacts.after (Some c.in-Some.happened);
       is = outcome_there b fits t now es x rs ss old new (Some c.in-Some.happened) reacts;
@@ -187,12 +187,12 @@ returns-in-Ok-clause-agenda g c =
     subst (λ (h : Option Happened). ReactsAt b fits t now es x rs ss old new h) c.in-Some.is
     (subst (λ (us : List Running). ReactsAt b fits t now es x us ss old new c.in_ok-happened.field-0) c.visit.ensures.components
     c.in_ok-happened.ensures.reacted) in
-    let at : c.react.new.self.visited ≡ x.place = c.react.ensures.visited ∙ c.visit.ensures.visited in
+    let at : c.react.new.self.visited ≡ x.index = c.react.ensures.visited ∙ c.visit.ensures.visited in
     let stands : c.visited-component.result.now ≡ reacts.after =
     stands_there b fits t now es x rs ss old new (Some c.in-Some.happened) reacts c.react.new.self.visited c.visited-component.result.now at c.visited-component.ensures in
     c.set.ensures
-    ∙ ap (λ (ws : List (Option Time)). slice_set ws x.place c.time_of-time.result) c.requires.agenda
-    ∙ ap (λ (w : Option Time). slice_set (waits_of rs) x.place w)
+    ∙ ap (λ (ws : List (Option Time)). slice_set ws x.index c.time_of-time.result) c.requires.agenda
+    ∙ ap (λ (w : Option Time). slice_set (waits_of rs) x.index w)
     (c.time_of-time.ensures ∙ ap (λ (r : Running). time_of_wait r.wait) stands)
     ∙ sym (waits_after b fits t now es x rs ss old new (Some c.in-Some.happened) reacts)
 

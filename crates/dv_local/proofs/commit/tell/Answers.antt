@@ -30,9 +30,9 @@ pub returns-in-Transition-clause-entries : goal.returns-in-Transition-clause-ent
 returns-in-Transition-clause-entries g c =
     let instant = c.args.moment.now.instant.now in
     let ms = c.args.moment.now.tables.now.members.items in
-    let p = c.args.place in
+    let p = c.args.index in
     let state = c.args.state.now in
-    let at = slice_get_read ms (length ms) p c.index.result.now refl c.requires.place c.index.ensures in
+    let at = slice_get_read ms (length ms) p c.index.result.now refl c.requires.index c.index.ensures in
     let same = same_entry instant.limit instant.time instant.of_run ms p c.index.result.now at
     (what.Transition c.in-Transition.kind state) (what_by c.args.happened state)
     (sym (ap (λ q. what_by q state) c.in-Transition.is)) c.sent_at-sent.result.now _ c.sent_at-sent.ensures in
@@ -48,9 +48,9 @@ pub returns-in-Fault-clause-entries : goal.returns-in-Fault-clause-entries
 returns-in-Fault-clause-entries g c =
     let instant = c.args.moment.now.instant.now in
     let ms = c.args.moment.now.tables.now.members.items in
-    let p = c.args.place in
+    let p = c.args.index in
     let state = c.args.state.now in
-    let at = slice_get_read ms (length ms) p c.index.result.now refl c.requires.place c.index.ensures in
+    let at = slice_get_read ms (length ms) p c.index.result.now refl c.requires.index c.index.ensures in
     let same = same_entry instant.limit instant.time instant.of_run ms p c.index.result.now at
     (what.Fault c.in-Fault.fault) (what_by c.args.happened state)
     (sym (ap (λ q. what_by q state) c.in-Fault.is)) c.sent_at-sent.result.now _ c.sent_at-sent.ensures in

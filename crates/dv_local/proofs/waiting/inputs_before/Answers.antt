@@ -10,8 +10,8 @@ use Rattle.dv_local.proofs.waiting.inputs_before.Goals as goal
 abbrev nothing : InputOfCode
 nothing = record { time = start_of 0; port = 0; value = pos 0 }
 
-pub returns-clause-place : goal.returns-clause-place
-returns-clause-place c = λ limit run.
+pub returns-clause-index : goal.returns-clause-index
+returns-clause-index c = λ limit run.
     let xs = c.args.inputs.now in
     let t = c.args.time in
     let p = c.partition_point.result in

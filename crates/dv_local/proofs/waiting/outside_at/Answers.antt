@@ -35,18 +35,18 @@ returns c =
     let ports = c.args.ports in
     let inputs = c.args.inputs.now in
     let all = c.as_slice-inputs.result.now in
-    let place = c.inputs_before-place.result in
+    let index = c.inputs_before-index.result in
     let limit = c.requires.0 in
     let entering = c.in_ok-entering.entering.items in
     let sorted = c.deref.result.now in
     let of_run = subst (AreOfRun limit) (sym c.as_slice-inputs.ensures.inputs) c.requires.2 in
     let by_time = subst IsByTime (sym c.as_slice-inputs.ensures.inputs) c.as_slice-inputs.ensures.by_time in
-    let front = arriving limit now place all all all (take_while (is_at now) (drop place all)) by_time refl refl
-    c.requires.1 (c.inputs_before-place.ensures.place limit of_run) refl in
+    let front = arriving limit now index all all all (take_while (is_at now) (drop index all)) by_time refl refl
+    c.requires.1 (c.inputs_before-index.ensures.index limit of_run) refl in
     let found : deliveries_of entering ≡ all_entered now all =
     ap deliveries_of c.in_ok-entering.ensures
-    ∙ ap (λ (xs : List Input). deliveries_of (map entered_by (take_while (is_at now) xs))) (take_rest all place)
-    ∙ map-map delivery_of entered_by (take_while (is_at now) (drop place all)) ∙ ap (map entered) front in
+    ∙ ap (λ (xs : List Input). deliveries_of (map entered_by (take_while (is_at now) xs))) (take_rest all index)
+    ∙ map-map delivery_of entered_by (take_while (is_at now) (drop index all)) ∙ ap (map entered) front in
     let moved = subst (IsPermutation entering) (sym c.deref.ensures.value) c.sort_unstable.ensures.permutation in
     let bags : inbox 0 (deliveries_of sorted) 0 ports ≡ bags_at ports inputs now =
     inbox_same 0 (deliveries_of sorted) (deliveries_of entering) 0 ports (moved_delivers sorted entering moved 0)

@@ -3,11 +3,11 @@ use Rattle.dv_merge.specs.Entries.{entries_of}
 use Rattle.dv_merge.proofs.Merging.{references_more}
 use Rattle.dv_merge.proofs.whole.references.Goals as goal
 
-pub loop-place-preserved : goal.loop-place-preserved
-loop-place-preserved g c = record {
+pub loop-index-preserved : goal.loop-index-preserved
+loop-index-preserved g c = record {
   taken =
       ap entries_of c.push_reserved.ensures.items
-      ∙ references_more c.loop-place.list.items c.entry.result c.args.part.now.entries c.loop-place.place c.loop-place.invariant.taken
+      ∙ references_more c.loop-index.list.items c.entry.result c.args.part.now.entries c.loop-index.index c.loop-index.invariant.taken
       c.entry.ensures;
   room = search rules;
   enough = search rules;

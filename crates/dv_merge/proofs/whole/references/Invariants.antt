@@ -3,9 +3,9 @@ use Rattle.std.specs.Vec.{vec_capacity}
 use Rattle.dv_merge.specs.Entries.{entries_of}
 use Rattle.dv_merge.proofs.whole.references.Given as goal
 
-abbrev pub invariant-loop-place : goal.invariant-loop-place
-invariant-loop-place g l = record {
-  taken : entries_of l.list.items ≡ take l.place l.part.entries;
-  room : vec_len l.list ≡ l.place;
+abbrev pub invariant-loop-index : goal.invariant-loop-index
+invariant-loop-index g l = record {
+  taken : entries_of l.list.items ≡ take l.index l.part.entries;
+  room : vec_len l.list ≡ l.index;
   enough : vec_capacity l.list ≡ l.count;
 }

@@ -10,7 +10,7 @@ use Rattle.dv_plain.proofs.run.next_instant.Goals as goal
 pub returns-in-At-clause-least : goal.returns-in-At-clause-least
 returns-in-At-clause-least c = λ limit waits coming.
     let run : IsOfRun limit c.in-At.time = subst (IsNextOfRun limit) c.in-At.is (c.next_input.ensures.of_run limit coming) in
-    let comes : Some (rank limit c.in-At.time) ≡ rank_if limit (time_at c.args.inputs.now c.args.place) =
+    let comes : Some (rank limit c.in-At.time) ≡ rank_if limit (time_at c.args.inputs.now c.args.index) =
     sym (ap (next_rank limit) c.in-At.is) ∙ c.next_input.ensures.rank limit in
     c.earlier.ensures.least limit (c.next_time-next.ensures.of_run limit waits) run
     ∙ ap (λ n. earlier n (Some (rank limit c.in-At.time))) (c.next_time-next.ensures.least limit waits)

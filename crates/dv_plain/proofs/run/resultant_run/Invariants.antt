@@ -9,10 +9,10 @@ use Rattle.dv_plain.proofs.run.resultant_run.Given as goal
 abbrev pub invariant-instants : goal.invariant-instants
 invariant-instants l = record {
   laws : Laws l.limit (file_of l.tree.file) l.inputs;
-  reached : Reached l.limit (file_of l.tree.file) l.inputs l.horizon l.components.items l.trace l.place;
+  reached : Reached l.limit (file_of l.tree.file) l.inputs l.horizon l.components.items l.trace l.index;
   waits : All (λ (r : Running). IsWaitOfRun l.limit r.wait) l.components.items;
 }
 
 -- what is left from the next instant to the end
 abbrev pub decreases-instants : goal.decreases-instants
-decreases-instants l = work l.limit l.inputs l.horizon l.components.items l.place
+decreases-instants l = work l.limit l.inputs l.horizon l.components.items l.index

@@ -12,8 +12,8 @@ idle n = resting
 pub returns-in-Some : goal.returns-in-Some
 returns-in-Some c =
     let ms = c.args.members.now in
-    let p = c.in-Some.place in
-    let d = c.index-members-place.result in
+    let p = c.in-Some.index in
+    let d = c.index-members-index.result in
     sym (same_port idle 0 [] ms c.args.component c.args.port
     ∙ port_at idle 0 [] c.args.component c.args.port p (slice_index_or ms p d) ms c.requires
     (slice_get-get_or ms p d c.in-Some.ensures.0) (c.in-Some.ensures.1 d))

@@ -5,11 +5,11 @@ use Rattle.dv_devs.specs.NextTimes.{earlier}
 use Rattle.dv_proc.specs.Foreseeing.{ticks_of}
 use Rattle.dv_plan.proofs.responses.lower.Goals as goal
 
-pub returns-then-place-len : goal.returns-then-place-len
-returns-then-place-len c =
+pub returns-then-index-len : goal.returns-then-index-len
+returns-then-index-len c =
     let items = c.args.responses.now.items in
     let p = c.args.process in
-    let lt : p < length items = omega (arith, c.if-place-len.true) in
+    let lt : p < length items = omega (arith, c.if-index-len.true) in
     map-set ticks_of items p c.sooner-least.result
     ∙ ap (set (map ticks_of items) p)
     (c.sooner-least.ensures

@@ -2,7 +2,7 @@ use Rattle.std.proofs.Common.{◌≡◌, ◌<◌, ℕ, List, [], ◌∷◌, ◌+
 use Rattle.std.specs.List.{slice_get}
 use Rattle.std.specs.Vec.Iter.{into_iter_items, into_iter_steps}
 use Rattle.std.proofs.lemmas.List.{get_or-map, length-map}
-use Rattle.dv_share.specs.Places.{AreRising}
+use Rattle.dv_share.specs.Indices.{AreRising}
 use Rattle.dv_share.specs.Share.{numbers_of}
 use Rattle.dv_share.specs.declared.tables.Member.{Member}
 use Rattle.dv_plan.proofs.Lists.{all_at, first_left}

@@ -3,11 +3,12 @@ use Rattle.dv_devs.specs.Clocks.{least_rank}
 use Rattle.dv_time.specs.Time.{rank}
 use Rattle.dv_partition.specs.Groups.{owner_of}
 use Rattle.dv_syntax.specs.Trees.{file_of}
-use Rattle.dv_run.specs.declared.ran.RanEnded.{RanEnded}
-use Rattle.dv_planned.specs.Texts.{text_job}
+use Rattle.dv_run.specs.Texts.{text_job}
 use Rattle.dv_text.proofs.Taking.{OnErr-always}
+use Rattle.dv_plan.specs.Clocks.{least_time}
 use Rattle.dv_plan.proofs.LeastClock.{least_time_rank}
 use Rattle.dv_stream.specs.Clocks.{AreWithin}
+use Rattle.dv_stream.specs.declared.ran.RunEnded.{RunEnded}
 use Rattle.dv_run.specs.Runs.{AreAtEnd}
 use Rattle.dv_run.proofs.Merging.{Leaves, merges}
 use Rattle.dv_run.proofs.Traces.{Laws, each_clock, is_cut_short, is_printed, is_run, nothing_printed, ran_at_end, ran_of_run}
@@ -51,8 +52,8 @@ returns-in_err-components-clause-err g c =
     OnErr-always _ (nothing_printed j.tree.now.names (file_of j.tree.now.file) j.inputs.now j.horizon j.limit
     (g.W.Write.contents c.args.writer.now))
 
-pub returns-in_err-streamed-clause-err : goal.returns-in_err-streamed-clause-err
-returns-in_err-streamed-clause-err g c =
+pub returns-in_err-ran-clause-err : goal.returns-in_err-ran-clause-err
+returns-in_err-ran-clause-err g c =
     let j = c.args.job.now in
     let f = file_of j.tree.now.file in
     let laws : Laws f j.limit = record {
@@ -63,7 +64,7 @@ returns-in_err-streamed-clause-err g c =
       ready = c.networks_of_texts.ensures.ready j.limit f;
     } in
     OnErr-always _ (is_cut_short j c.requires.text c.requires.accepted laws {old = g.W.Write.contents c.args.writer.now}
-    {new = g.W.Write.contents c.run_components.new.writer} c.in_err-streamed.ensures.err)
+    {new = g.W.Write.contents c.run_components.new.writer} c.in_err-ran.ensures.err)
 
 pub returns-clause-run : goal.returns-clause-run
 returns-clause-run g c =
@@ -76,24 +77,23 @@ returns-clause-run g c =
       flat = c.what_leaves_a_flat_model_is_linear.ensures.ready j.limit f;
       ready = c.networks_of_texts.ensures.ready j.limit f;
     } in
-    let capacity = c.args.capacity in
-    let rounds = c.args.rounds in
-    let s = c.in_ok-streamed.streamed in
-    let ran = c.in_ok-streamed.ensures.run in
-    let r = c.ran_of.result in
-    let of = c.ran_of.ensures in
-    let some = some_clocks j capacity rounds s.committed ran c.in_ok-streamed.ensures.some in
-    let mark : rank j.limit s.written.mark ≡ least_rank j.limit r.clocks.items =
-    ap (rank j.limit) c.in_ok-streamed.ensures.least
-    ∙ least_time_rank j.limit s.committed.clocks.items some (ran_of_run j capacity rounds s.committed ran)
-    ∙ ap (λ ts. least_rank j.limit ts.items) (sym of.clocks) in
+    let capacity = c.args.bounds.capacity in
+    let rounds = c.args.bounds.rounds in
+    let r = c.in_ok-ran.ran in
+    let is = c.in_ok-ran.ensures in
+    let so = is.run in
+    let done = so.committed in
+    let some = some_clocks j capacity rounds done so.run is.some in
+    let mark : rank j.limit r.written.mark ≡ least_rank j.limit r.clocks.items =
+    ap (rank j.limit) (is.least ∙ ap (λ ts. least_time ts.items) so.clocks)
+    ∙ least_time_rank j.limit done.clocks.items some (ran_of_run j capacity rounds done so.run)
+    ∙ ap (λ ts. least_rank j.limit ts.items) (sym so.clocks) in
     let at_end : AreAtEnd (text_job j) r.ended r.clocks.items =
-    subst (λ ts. AreAtEnd (text_job j) r.ended ts.items) (sym of.clocks)
-    (subst (λ (e : RanEnded). AreAtEnd (text_job j) e s.committed.clocks.items) (sym of.ended)
-    (ran_at_end j capacity rounds s.committed ran)) in
-    is_run j capacity rounds s.committed ran {old = g.W.Write.contents c.args.writer.now}
-    {new = g.W.Write.contents c.run_components.new.writer} r of.clocks of.ended
-    (is_printed j c.requires.text c.requires.accepted laws s.written r c.in_ok-streamed.ensures.written mark of.faults
-    (subst (λ ts. 0 < length ts.items) (sym of.clocks) some) (each_clock j capacity rounds s.committed ran r of.clocks)
-    (subst (λ ts. AreWithin j.horizon j.limit ts.items) (sym of.clocks) (ran_within j capacity rounds s.committed ran)) at_end)
-    c.in_ok-streamed.ensures.enough
+    subst (λ ts. AreAtEnd (text_job j) r.ended ts.items) (sym so.clocks)
+    (subst (λ (e : RunEnded). AreAtEnd (text_job j) e done.clocks.items) (sym so.ended) (ran_at_end j capacity rounds done so.run)) in
+    is_run j capacity rounds done so.run {old = g.W.Write.contents c.args.writer.now}
+    {new = g.W.Write.contents c.run_components.new.writer} r so.clocks so.ended
+    (is_printed j c.requires.text c.requires.accepted laws r is.written mark
+    (subst (λ ts. 0 < length ts.items) (sym so.clocks) some) (each_clock j capacity rounds done so.run r so.clocks)
+    (subst (λ ts. AreWithin j.horizon j.limit ts.items) (sym so.clocks) (ran_within j capacity rounds done so.run)) at_end)
+    is.enough

@@ -1,4 +1,4 @@
-use Rattle.dv_planned.specs.Texts.{text_job}
+use Rattle.dv_run.specs.Texts.{text_job}
 use Rattle.dv_stream.proofs.Writing.{not_begun}
 use Rattle.dv_text.proofs.Taking.{OnErr-always}
 use Rattle.dv_run.proofs.Traces.{enough_of}
@@ -10,4 +10,4 @@ returns-in_err-plan-clause-err g c =
 
 pub returns-clause-enough : goal.returns-clause-enough
 returns-clause-enough g c =
-    enough_of c.args.job.now c.args.capacity c.args.rounds c.in_ok-plan.ensures.run.ends c.stream_plan.result c.stream_plan.ensures.run
+    enough_of c.args.job.now c.args.bounds.capacity c.args.bounds.rounds c.in_ok-plan.ensures.run.ends c.stream_plan.result c.stream_plan.ensures.run

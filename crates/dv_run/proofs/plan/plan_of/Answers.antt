@@ -7,7 +7,7 @@ use Rattle.dv_syntax.specs.Trees.{file_of}
 use Rattle.dv_tree.specs.Instances.{instances}
 use Rattle.dv_sound.specs.Jobs.{AllInputNumbers, fits_number}
 use Rattle.dv_partition.specs.Groups.{owner_of}
-use Rattle.dv_planned.specs.Texts.{text_job}
+use Rattle.dv_run.specs.Texts.{text_job}
 use Rattle.dv_plan.proofs.Few.{few_channels}
 use Rattle.dv_proc.specs.Channels.{meant_channel}
 use Rattle.dv_run.proofs.Shares.{all_can_begin}

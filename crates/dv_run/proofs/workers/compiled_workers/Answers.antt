@@ -1,15 +1,8 @@
-use Rattle.std.proofs.Common.{◌≡◌, ℕ, ◌<◌, Some, length, ap, sym, subst, ◌∙◌}
-use Rattle.std.specs.List.{slice_get}
-use Rattle.dv_core.specs.Worlds.{end_time}
-use Rattle.dv_devs.specs.Clocks.{least_rank}
+use Rattle.std.proofs.Common.{ℕ, ◌<◌, subst}
 use Rattle.dv_partition.specs.Groups.{owner_of}
-use Rattle.dv_planned.specs.Texts.{text_job}
+use Rattle.dv_run.specs.Texts.{text_job}
 use Rattle.dv_syntax.specs.Trees.{file_of}
 use Rattle.dv_text.proofs.Taking.{OnErr-always}
-use Rattle.dv_time.specs.Time.{end_of, rank}
-use Rattle.dv_time.specs.declared.time.Time.{Time}
-use Rattle.dv_stream.specs.Clocks.{AreWithin}
-use Rattle.dv_run.specs.Runs.{AreAtEnd}
 use Rattle.dv_run.proofs.Merging.{Leaves, merges}
 use Rattle.dv_run.proofs.Traces.{Laws, is_cut_short, is_printed, nothing_printed, cut_before_end}
 use Rattle.dv_run.proofs.workers.compiled_workers.Goals as goal
@@ -82,25 +75,13 @@ returns-clause-printed g c =
       flat = c.what_leaves_a_flat_model_is_linear.ensures.ready j.limit f;
       ready = c.networks_of_texts.ensures.ready j.limit f;
     } in
-    let w = c.in_ok-worked.worked in
-    let r = c.ran_by_workers.result.ran in
-    let of = c.ran_by_workers.ensures in
-    let mark : rank j.limit w.written.mark ≡ least_rank j.limit r.clocks.items =
-    c.in_ok-worked.ensures.least ∙ ap (λ ts. least_rank j.limit ts.items) (sym of.clocks) in
-    let at_end : AreAtEnd (text_job j) r.ended r.clocks.items = λ e.
-    subst (λ ts. (p : ℕ) (t : Time) → slice_get ts.items p ≡ Some t → t ≡ end_time (text_job j)) (sym of.clocks)
-    (c.in_ok-worked.ensures.whole.0 (of.whole.0 e)) in
+    let r = c.in_ok-worked.worked.ran in
+    let is = c.in_ok-worked.ensures in
     is_printed j c.requires.text c.requires.accepted laws {old = g.W.Write.contents c.args.writer.now}
-    {new = g.W.Write.contents c.work_components.new.writer} w.written r c.in_ok-worked.ensures.written mark of.faults
-    (subst (λ ts. 0 < length ts.items) (sym of.clocks) c.in_ok-worked.ensures.some_clocks)
-    (ap (λ ts. length ts.items) of.clocks ∙ c.in_ok-worked.ensures.count)
-    (subst (λ ts. AreWithin j.horizon j.limit ts.items) (sym of.clocks) c.in_ok-worked.ensures.within) at_end
+    {new = g.W.Write.contents c.work_components.new.writer} r is.written is.least is.some_clocks is.count is.within is.whole.0
 
 pub returns-clause-partial : goal.returns-clause-partial
 returns-clause-partial g c = λ partial.
     let j = c.args.job.now in
     let is = c.in_ok-worked.ensures in
-    let of = c.ran_by_workers.ensures in
-    subst (λ ts. least_rank j.limit ts.items < end_of j.limit j.horizon) (sym of.clocks)
-    (cut_before_end (text_job j) c.in_ok-worked.worked.clocks.items is.some_clocks is.within
-    (λ all. partial (of.whole.1 (is.whole.1 all))))
+    cut_before_end (text_job j) c.in_ok-worked.worked.ran.clocks.items is.some_clocks is.within (λ all. partial (is.whole.1 all))

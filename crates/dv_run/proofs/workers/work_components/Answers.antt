@@ -1,4 +1,4 @@
-use Rattle.dv_planned.specs.Texts.{text_job}
+use Rattle.dv_run.specs.Texts.{text_job}
 use Rattle.dv_stream.proofs.Writing.{not_begun}
 use Rattle.dv_text.proofs.Taking.{OnErr-always}
 use Rattle.dv_run.proofs.workers.work_components.Goals as goal

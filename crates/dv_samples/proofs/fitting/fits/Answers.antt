@@ -7,6 +7,6 @@ pub returns : goal.returns
 returns c = λ t. let same : length c.args.slots.now ≡ length c.args.variables.now = search rules in
     fits_each c.args.slots.now c.args.variables.now same (λ k s is.
     let within = slice_get_within c.args.slots.now k s is in
-    let over = c.loop-place-test.false in
-    let before : k < c.loop-place.place = omega (arith, within, over) in
-    c.loop-place.invariant k s before is)
+    let over = c.loop-index-test.false in
+    let before : k < c.loop-index.index = omega (arith, within, over) in
+    c.loop-index.invariant k s before is)

@@ -24,12 +24,12 @@ loop-emission-preserved c =
     let all = deliveries_of c.args.deliveries.now.items ++ rows ms links es in
     let rest = rows ms links (drop (i + 1) es) in
     let early : i < length es = omega arith in
-    let within : e.place < length ms = subst (λ x. x.place < length ms) (sym c.emission-item.is) (c.requires.emitted.within i e early) in
+    let within : e.index < length ms = subst (λ x. x.index < length ms) (sym c.emission-item.is) (c.requires.emitted.within i e early) in
     let next = ap (rows ms links) (drop_next es i e early c.emission-item.is) in
     elim c.match-emission.branch [
       | in-Ok+in_ok-carry_row w ↦
-          let m = get_or ms e.place w.index-members-emission.result in
-          let at : slice_get ms e.place ≡ Some m = slice_get-get_or ms e.place w.index-members-emission.result within in
+          let m = get_or ms e.index w.index-members-emission.result in
+          let at : slice_get ms e.index ≡ Some m = slice_get-get_or ms e.index w.index-members-emission.result within in
           carry_more c.match-emission.deliveries.items old (carried (filter (leads_from m.number) links) (λ k. w.in-Ok.sent)) rest all
           (ap (λ v. deliveries_of v.items) w.deliveries-is ∙ w.in_ok-carry_row.ensures
           ∙ ap (λ (ls : List Link). deliveries_of old ++ carried ls (λ k. w.in-Ok.sent)) w.of_component.ensures.links)
@@ -39,7 +39,7 @@ loop-emission-preserved c =
           ∙ ap (λ (r : Result (List Counts) Fault). carried (filter (leads_from m.number) links) (λ k. sent_of r) ++ rest) w.in-Ok.is))
           ∙ c.loop-emission.invariant)
       | in_default w ↦
-          let row = filter (leads_from (number_of (slice_get ms e.place))) links in
+          let row = filter (leads_from (number_of (slice_get ms e.index))) links in
           ap (λ v. deliveries_of v.items ++ rest) w.deliveries-is
           ∙ ap (λ (ds : List Meant). deliveries_of old ++ ds)
           (sym

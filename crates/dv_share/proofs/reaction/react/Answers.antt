@@ -19,13 +19,13 @@ react-requires-clause-fault g c =
     let t = c.args.tables.now in
     let now = rank_of c.args.instant.now in
     let r = c.args.component.now in
-    let p = c.args.arrival.now.place in
+    let p = c.args.arrival.now.index in
     let m = c.index-member.result.now in
     let a = c.index-atomic.result.now in
     let at-m : slice_get t.members.items p ≡ Some m =
-    slice_get_read t.members.items (length t.members.items) p m refl c.requires.place c.index-member.ensures in
+    slice_get_read t.members.items (length t.members.items) p m refl c.requires.index c.index-member.ensures in
     let there-a : m.model < length t.models.items =
-    subst (λ (m : Member). m.model < length t.models.items) (sym c.index-member.ensures) (c.requires.tables.models p m c.requires.place) in
+    subst (λ (m : Member). m.model < length t.models.items) (sym c.index-member.ensures) (c.requires.tables.models p m c.requires.index) in
     let at-a : slice_get t.models.items m.model ≡ Some a =
     slice_get_read t.models.items (length t.models.items) m.model a refl there-a c.index-atomic.ensures in
     ap (λ limit. fault_of (emission (b a) now (component_of limit r))) c.requires.limit

@@ -66,8 +66,8 @@ returns-clause-run g c =
     let state = seen_by g.A.Atomic.behaviour g.R.Record.told in
     let before = c.in_ok-world.world in
     let after = c.stream_process.new.world in
-    let capacity = c.args.capacity in
-    let rounds = c.args.rounds in
+    let capacity = c.args.bounds.capacity in
+    let rounds = c.args.bounds.rounds in
     let ended = c.in_ok-ended.ended in
     let same : after.job ≡ c.args.job = c.in_ok-ended.ensures.job ∙ c.in_ok-world.ensures.job in
     let at_new : EndsAs (means before.job) rounds ended (new_world capacity) (shown means state after) =
@@ -77,10 +77,16 @@ returns-clause-run g c =
     (sym c.in_ok-ended.ensures.job) at_new in
     let clocks = c.in_ok-clocks.ensures ∙ ap (λ ps. map (λ x. (state x).position.clock) ps) c.processes.ensures in
     let given : Committed = record { clocks = c.in_ok-clocks.clocks; ended = ended } in
-    subst (λ j. HasRun (means j) capacity rounds given) same (record {
-      world = shown means state after;
-      ends = ends;
-      handed =
-          clocks_of_world state (means after.job) (kept_by state after) after.processes.items refl c.in_ok-ended.ensures.true_to_model _
-          clocks;
-    })
+    record {
+      committed = given;
+      run =
+          subst (λ j. HasRun (means j) capacity rounds given) same (record {
+            world = shown means state after;
+            ends = ends;
+            handed =
+                clocks_of_world state (means after.job) (kept_by state after) after.processes.items refl
+                c.in_ok-ended.ensures.true_to_model _ clocks;
+          });
+      clocks = c.ran_in_rounds.ensures.clocks;
+      ended = c.ran_in_rounds.ensures.ended;
+    }

@@ -12,14 +12,14 @@ test e = is_fault e.what
 
 pub returns-then-is_fault : goal.returns-then-is_fault
 returns-then-is_fault g c =
-    sym (any_passes_from_place test c.args.part.now.entries c.loop-place.place c.entry.result.now c.entry.ensures
+    sym (any_passes_from_place test c.args.part.now.entries c.loop-index.index c.entry.result.now c.entry.ensures
     (sym c.is_fault.ensures ∙ c.if-is_fault.true))
 
-pub loop-place-preserved : goal.loop-place-preserved
-loop-place-preserved g c =
+pub loop-index-preserved : goal.loop-index-preserved
+loop-index-preserved g c =
     let es = c.args.part.now.entries in
     let e = c.entry.result.now in
-    let place = c.loop-place.place in
-    list_any_more test es place e (slice_get_within es place e c.entry.ensures)
-    ∙ ap₂ (λ (a b : Bool). a || b) c.loop-place.invariant
-    (ap test (get_or_from_slice_get es place e e c.entry.ensures) ∙ (sym c.is_fault.ensures ∙ c.if-is_fault.false))
+    let index = c.loop-index.index in
+    list_any_more test es index e (slice_get_within es index e c.entry.ensures)
+    ∙ ap₂ (λ (a b : Bool). a || b) c.loop-index.invariant
+    (ap test (get_or_from_slice_get es index e e c.entry.ensures) ∙ (sym c.is_fault.ensures ∙ c.if-is_fault.false))

@@ -4,5 +4,5 @@ use Rattle.dv_bag.specs.declared.entry.Entry.{Entry}
 use Rattle.dv_written.specs.Faults.{is_fault}
 use Rattle.dv_stream.proofs.faults.has_fault.Given as goal
 
-abbrev pub invariant-loop-place : goal.invariant-loop-place
-invariant-loop-place g l = list_any (λ (e : Entry). is_fault e.what) (take l.place l.part.entries) ≡ false
+abbrev pub invariant-loop-index : goal.invariant-loop-index
+invariant-loop-index g l = list_any (λ (e : Entry). is_fault e.what) (take l.index l.part.entries) ≡ false

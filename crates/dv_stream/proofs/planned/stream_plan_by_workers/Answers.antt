@@ -13,7 +13,7 @@ pub returns-clause-written : goal.returns-clause-written
 returns-clause-written g c =
     let contents = g.W.Write.contents in
     subst (λ t. IfOk c.stream_with_words.result (λ w. IsWrittenTo (g.J.PlannedJob.means c.args.job.now) t
-    (contents c.args.writer.now) (contents c.stream_with_words.new.writer) w.written)) c.in_ok-words.ensures
+    (contents c.args.writer.now) (contents c.stream_with_words.new.writer) w.ran.written)) c.in_ok-words.ensures
     c.stream_with_words.ensures.written
 
 pub returns-clause-err : goal.returns-clause-err

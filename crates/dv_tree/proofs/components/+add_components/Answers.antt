@@ -10,10 +10,10 @@ returns t c =
     let before = c.args.before.now in
     let inside = nodes_to (c.args.depth - 1) levels in
     let at = c.loop-part in
-    let placed = c.parts-part-items.result.now in
+    let resolved = c.parts-part-items.result.now in
     let end =
-    at_drop_all (λ es. at.components.items ++ components_in before (nodes_by inside levels es)) placed at.part-index
+    at_drop_all (λ es. at.components.items ++ components_in before (nodes_by inside levels es)) resolved at.part-index
     c.loop-part-test.false in
-    let nodes = nodes_of_table c.args.depth levels c.args.level.now placed c.if-depth-eq0.false c.parts-part-items.ensures in
+    let nodes = nodes_of_table c.args.depth levels c.args.level.now resolved c.if-depth-eq0.false c.parts-part-items.ensures in
     sym (append-nil at.components.items)
     ∙ (sym end ∙ (at.invariant ∙ ap (λ n. c.args.components.now.items ++ components_in before n) nodes))

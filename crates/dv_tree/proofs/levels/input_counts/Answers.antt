@@ -7,5 +7,5 @@ pub loop-part-preserved : goal.loop-part-preserved
 loop-part-preserved c =
     let part = c.loop-part.part-index in
     gathered_more (λ parts. map length (ports_at c.args.inputs.now parts)) _ _ part c.args.parts.now
-    (get_or c.args.parts.now part (record { name = record { number = 0; place = 0 }; model = 0 })) _ _ _ c.loop-part-test.true refl
+    (get_or c.args.parts.now part (record { name = record { number = 0; offset = 0 }; model = 0 })) _ _ _ c.loop-part-test.true refl
     c.port_count.ensures c.in_ok-push.ensures.items c.loop-part.invariant (λ rest. refl)

@@ -23,7 +23,7 @@ rise_parts-loop-part-preserved t c =
     let at = c.loop-part in
     let part = c.in_ok-rest.ensures in
     risen_part c.args.level.now.of_parts (nodes_to (c.args.depth - 1) c.args.levels.now) c.args.levels.now
-    c.parts-placed-items.result.now at.part _ _ c.couplings_of_part-couplings.result.now at.rest.now c.in_ok-rest.rest.now
+    c.parts-resolved-items.result.now at.part _ _ c.couplings_of_part-couplings.result.now at.rest.now c.in_ok-rest.rest.now
     at.arrived c.rise_part.new.arrived at.kept.items c.rise_part.new.kept.items c.loop-part-test.true c.level_at-inside.ensures
     c.couplings_of_part-couplings.ensures at.invariant part.rest part.arrived part.kept
 
@@ -36,8 +36,8 @@ at_end : (t : ℕ) (c : goal.rise_parts-After-loop-part t) →
     (c.args.kept.now.items ++ kept_nodes nodes c.args.sent.now)
 at_end t c =
     let at = c.loop-part in
-    risen c.args.depth c.args.levels.now c.args.level.now c.parts-placed-items.result.now c.if-depth-eq0.false
-    c.parts-placed-items.ensures at.part c.loop-part-test.false c.args.sent.now at.rest.now at.arrived c.args.arrived.now
+    risen c.args.depth c.args.levels.now c.args.level.now c.parts-resolved-items.result.now c.if-depth-eq0.false
+    c.parts-resolved-items.ensures at.part c.loop-part-test.false c.args.sent.now at.rest.now at.arrived c.args.arrived.now
     at.kept.items c.args.kept.now.items at.invariant
 
 pub rise_parts-returns-clause-rest : goal.rise_parts-returns-clause-rest

@@ -15,8 +15,8 @@ decreases-rise_part l = 3 * l.depth + 2
 
 abbrev pub invariant-rise_parts-loop-part : goal.invariant-rise_parts-loop-part
 invariant-rise_parts-loop-part l =
-    let all = nodes_by (nodes_to (l.depth - 1) l.levels) l.levels l.placed-items in
-    let left = nodes_by (nodes_to (l.depth - 1) l.levels) l.levels (drop l.part l.placed-items) in
+    let all = nodes_by (nodes_to (l.depth - 1) l.levels) l.levels l.resolved-items in
+    let left = nodes_by (nodes_to (l.depth - 1) l.levels) l.levels (drop l.part l.resolved-items) in
     Rises l.level.of_parts left l.part l.rest l.arrived l.kept.items (drop (atomic_count all) l.initial.rest)
     (along_all l.level.of_parts (leaving_nodes all l.initial.rest) l.initial.arrived)
     (l.initial.kept.items ++ kept_nodes all l.initial.rest)

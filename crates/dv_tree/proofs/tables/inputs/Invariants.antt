@@ -4,5 +4,5 @@ use Rattle.dv_check.specs.Ports.{shown_inputs}
 use Rattle.dv_tree.proofs.Gathered.{Gathers}
 use Rattle.dv_tree.proofs.tables.inputs.Given as goal
 
-abbrev pub invariant-loop-place : goal.invariant-loop-place
-invariant-loop-place l = Gathers (λ models. map shown_inputs (borrowed_models models)) l.inputs.items l.place l.models
+abbrev pub invariant-loop-index : goal.invariant-loop-index
+invariant-loop-index l = Gathers (λ models. map shown_inputs (borrowed_models models)) l.inputs.items l.index l.models

@@ -4,5 +4,5 @@ use Rattle.dv_check.specs.Ports.{shown_outputs}
 use Rattle.dv_tree.proofs.Gathered.{Gathers}
 use Rattle.dv_tree.proofs.tables.outputs.Given as goal
 
-abbrev pub invariant-loop-place : goal.invariant-loop-place
-invariant-loop-place l = Gathers (λ models. map shown_outputs (borrowed_models models)) l.outputs.items l.place l.models
+abbrev pub invariant-loop-index : goal.invariant-loop-index
+invariant-loop-index l = Gathers (λ models. map shown_outputs (borrowed_models models)) l.outputs.items l.index l.models

@@ -2,7 +2,7 @@ use Rattle.std.proofs.Common.{◌≡◌, List, ◌∙◌, subst, map}
 use Rattle.std.specs.Prelude.{IfOk, Option}
 use Rattle.dv_tree.specs.Reached.{borrowed_models}
 use Rattle.dv_tree.specs.Tables.{LevelTable}
-use Rattle.dv_tree.proofs.Placed.{levels_made}
+use Rattle.dv_tree.proofs.Resolved.{levels_made}
 use Rattle.dv_tree.proofs.tree.tables_of.Goals as goal
 
 pub returns : goal.returns

@@ -23,10 +23,10 @@ loop-process-preserved g c =
     let items = c.in_ok-push.ensures.items in
     let n = c.loop-process.process in
     let made : Piece g.row.N.Denot = record { process = n; from = first_time; clock = first_time; part = c.new.result } in
-    let place : n < job.processes = omega (arith, c.requires.count, c.loop-process-test.true, c.loop-process.auto.process-end) in
+    let index : n < job.processes = omega (arith, c.requires.count, c.loop-process-test.true, c.loop-process.auto.process-end) in
     record {
       count = (let e = is.count in let l = ap length items in let k = length-append old (made ∷ []) in omega arith);
       numbers = snoc_each (λ p (x : Piece g.row.N.Denot). x.process ≡ p) old c.push.new.self.items made items is.numbers (sym is.count);
       each = snoc_each (λ p (x : Piece g.row.N.Denot). IsPiece job x) old c.push.new.self.items made items is.each
-          (none_is_piece job n place c.new.result c.new.ensures);
+          (none_is_piece job n index c.new.result c.new.ensures);
     }

@@ -6,7 +6,7 @@ use Rattle.dv_conservative.specs.World.{Job}
 use Rattle.dv_core.specs.Worlds.{end_time}
 use Rattle.dv_work.specs.Making.{AreNew}
 use Rattle.dv_work.specs.declared.report.Ended.TheVariants.{Whole}
-use Rattle.dv_work.proofs.Lists.{at_place}
+use Rattle.dv_work.proofs.Lists.{at_index}
 use Rattle.dv_work.proofs.Endings.{cancelled_if_ok}
 use Rattle.dv_work.proofs.run.run_streamed.Goals as goal
 
@@ -22,7 +22,7 @@ run_job-requires-clause-processes g c κs _ =
       count = made.count;
       few = made.few.0;
       shares = made.shares;
-      kept = λ p x at. at_place (λ z. (g.P.LogicalProcess.handed z).past ≡ nothing) c.args.processes.items p x c.requires.kept at;
+      kept = λ p x at. at_index (λ z. (g.P.LogicalProcess.handed z).past ≡ nothing) c.args.processes.items p x c.requires.kept at;
     })
 
 pub returns-clause-whole : goal.returns-clause-whole

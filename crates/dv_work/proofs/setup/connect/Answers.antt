@@ -11,7 +11,7 @@ use Rattle.std.specs.List.{All}
 use Rattle.std.proofs.lemmas.List.Elements.{All-push, All-same, All-set}
 use Rattle.dv_work.specs.declared.seat.Seat.{Seat}
 use Rattle.dv_work.proofs.Crewing.{in_more, names_none, out_more}
-use Rattle.dv_work.proofs.Lists.{at_place}
+use Rattle.dv_work.proofs.Lists.{at_index}
 use Rattle.dv_work.proofs.Making.{channel_at, new_in, new_out, seated_more, seats_grown}
 use Rattle.dv_work.proofs.setup.connect.Goals as goal
 
@@ -231,7 +231,7 @@ loop-channel-preserved g c =
     let named_first : All W (set seats ch.source t)
     = All-set W seats ch.source t
     (out_more g.N.OfJob.job c.args.workers s t _ got.outs got.ins (record { channel = meant_channel ch; there = named; receiver = refl })
-    (at_place W seats ch.source s inv.3 at)) inv.3 in
+    (at_index W seats ch.source s inv.3 at)) inv.3 in
     let items = c.in_ok-push.ensures.items in (
       (let e = ap length items in let l = length-append old (link ∷ []) in let h = inv.0 in omega arith),
       subst (λ (ls : List (Link g.row.N.Denot)). AreSeated g.N.OfJob.job g.P.LogicalProcess.state g.P.LogicalProcess.handed g.P.LogicalProcess.valid ls (n + 1)
@@ -241,5 +241,5 @@ loop-channel-preserved g c =
       All-set W (set seats ch.source t) ch.target v
           (in_more g.N.OfJob.job c.args.workers u v _ got2.ins got2.outs
           (record { channel = meant_channel ch; there = named; sender = refl })
-          (at_place W (set seats ch.source t) ch.target u named_first at2)) named_first,
+          (at_index W (set seats ch.source t) ch.target u named_first at2)) named_first,
     )

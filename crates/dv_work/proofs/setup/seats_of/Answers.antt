@@ -27,11 +27,11 @@ loop-process-preserved g c =
     let old = c.loop-process.seats.items in
     let items = c.in_ok-push.ensures.items in
     let number : c.len-number.result ≡ length old = omega (arith, c.len-number.ensures, c.loop-process.seats.ok.0) in
-    let place : c.len-number.result ≡ length c.loop-process.yielded = omega (arith, number, is.count) in
+    let index : c.len-number.result ≡ length c.loop-process.yielded = omega (arith, number, is.count) in
     let at = slice_get_read c.args.processes.items (length c.args.processes.items) (length c.loop-process.yielded) c.in-Some.process refl
     turn.0 turn.1 in
     let here : slice_get c.args.processes.items c.len-number.result ≡ Some c.in-Some.process
-    = subst (λ (n : ℕ). slice_get c.args.processes.items n ≡ Some c.in-Some.process) (sym place) at in
+    = subst (λ (n : ℕ). slice_get c.args.processes.items n ≡ Some c.in-Some.process) (sym index) at in
     let made : Seat g.row.P.Denot
     = record { number = c.len-number.result; process = c.in-Some.process; outs = c.new.result; ins = c.new-in-loop-process.result; posted = first_time } in
     record {

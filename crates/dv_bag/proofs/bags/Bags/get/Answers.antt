@@ -9,9 +9,9 @@ returns-in-Ok c =
     let inside = c.self.inside in
     let hs = inside.held.items in
     let port = c.args.port in
-    let at = subst (StandsAt port c.in-Ok.place) c.as_slice.ensures c.in-Ok.ensures.found in
-    ap (λ bags. (get_or bags c.in-Ok.place c.index-deref-place.result).bag) c.deref.ensures
-    ∙ sym (standing_bag 0 port c.in-Ok.place hs c.index-deref-place.result c.self.invariant.1 at)
+    let at = subst (StandsAt port c.in-Ok.index) c.as_slice.ensures c.in-Ok.ensures.found in
+    ap (λ bags. (get_or bags c.in-Ok.index c.index-deref-index.result).bag) c.deref.ensures
+    ∙ sym (standing_bag 0 port c.in-Ok.index hs c.index-deref-index.result c.self.invariant.1 at)
     ∙ sym (bag_of_port inside.ports port hs c.self.invariant.0)
     ∙ ap (λ bags. bag_at bags port) c.self.view_is
 

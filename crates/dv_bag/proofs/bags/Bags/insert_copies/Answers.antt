@@ -17,9 +17,9 @@ invariant_of-self c =
     let port = c.args.port in
     let ports = ap length c.self.view_is in
     let long = from_port_length 0 inside.ports (λ port. bag_in port hs) in
-    let at = subst (StandsAt port c.in-Ok.place) c.as_slice.ensures c.in-Ok.ensures.found in
+    let at = subst (StandsAt port c.in-Ok.index) c.as_slice.ensures c.in-Ok.ensures.found in
     kept_well inside.ports port hs c.self.invariant.0 c.self.invariant.1 (omega (arith, c.requires, ports, long))
-    c.in-Ok.place c.deref_mut.result.now c.index-deref_mut-place.result c.deref_mut.ensures.value at c.insert_copies.new.self
+    c.in-Ok.index c.deref_mut.result.now c.index-deref_mut-index.result c.deref_mut.ensures.value at c.insert_copies.new.self
     (with_copies c.args.value c.args.copies) (λ b. some_with c.args.value c.args.copies b) c.insert_copies.result
     done c.insert_copies.ensures.err
 
@@ -34,15 +34,15 @@ returns-in-Ok-clause-ok c =
     let long = from_port_length 0 inside.ports (λ port. bag_in port hs) in
     let lt : port < inside.ports = omega (arith, c.requires, ports, long) in
     let xs = c.deref_mut.result.now in
-    let old = c.index-deref_mut-place.result in
-    let at = subst (StandsAt port c.in-Ok.place) c.as_slice.ensures c.in-Ok.ensures.found in
+    let old = c.index-deref_mut-index.result in
+    let at = subst (StandsAt port c.in-Ok.index) c.as_slice.ensures c.in-Ok.ensures.found in
     on_ok_weaker c.insert_copies.result
     (λ more.
-    changed inside.ports port hs c.self.invariant.0 c.self.invariant.1 lt c.in-Ok.place xs old c.deref_mut.ensures.value at
+    changed inside.ports port hs c.self.invariant.0 c.self.invariant.1 lt c.in-Ok.index xs old c.deref_mut.ensures.value at
     c.insert_copies.new.self
     ∙ ap (set (by_port inside.ports hs) port)
     (more ∙ ap (with_copies c.args.value c.args.copies)
-    (old_bag inside.ports port hs c.self.invariant.0 c.self.invariant.1 lt c.in-Ok.place xs old c.deref_mut.ensures.value at))
+    (old_bag inside.ports port hs c.self.invariant.0 c.self.invariant.1 lt c.in-Ok.index xs old c.deref_mut.ensures.value at))
     ∙ ap (λ bags. set bags port (with_copies c.args.value c.args.copies (bag_at bags port))) c.self.view_is)
     done
 
@@ -55,9 +55,9 @@ invariant_of-self-in-Err c =
     let port = c.args.port in
     let ports = ap length c.self.view_is in
     let long = from_port_length 0 inside.ports (λ port. bag_in port hs) in
-    let at = subst (GoesInAt port c.in-Err.place) c.as_slice.ensures c.in-Err.ensures.absent in
+    let at = subst (GoesInAt port c.in-Err.index) c.as_slice.ensures c.in-Err.ensures.absent in
     added_well inside.ports port hs c.self.invariant.0 c.self.invariant.1 (omega (arith, c.requires, ports, long))
-    c.in-Err.place c.put.new.list.items c.of_copies-bag.result at c.in_ok-put-in-Err.ensures.ok
+    c.in-Err.index c.put.new.list.items c.of_copies-bag.result at c.in_ok-put-in-Err.ensures.ok
     (subst (λ b. 0 < total b) (sym done) (some_new c.args.value c.args.copies _ (omega (arith, c.if-copies-eq0.false))))
 
 pub returns-in_ok-put-in-Err-clause-ok : goal.returns-in_ok-put-in-Err-clause-ok
@@ -70,12 +70,12 @@ returns-in_ok-put-in-Err-clause-ok c =
     let ports = ap length c.self.view_is in
     let long = from_port_length 0 inside.ports (λ port. bag_in port hs) in
     let lt : port < inside.ports = omega (arith, c.requires, ports, long) in
-    let at = subst (GoesInAt port c.in-Err.place) c.as_slice.ensures c.in-Err.ensures.absent in
+    let at = subst (GoesInAt port c.in-Err.index) c.as_slice.ensures c.in-Err.ensures.absent in
     let new = c.of_copies-bag.result in
-    added inside.ports port hs c.self.invariant.0 c.self.invariant.1 lt c.in-Err.place c.put.new.list.items new at
+    added inside.ports port hs c.self.invariant.0 c.self.invariant.1 lt c.in-Err.index c.put.new.list.items new at
     c.in_ok-put-in-Err.ensures.ok
     ∙ ap (set (by_port inside.ports hs) port)
     (done ∙ ap (with_copies c.args.value c.args.copies)
-    (sym (none_before inside.ports port hs c.self.invariant.0 c.self.invariant.1 lt c.in-Err.place c.put.new.list.items new at
+    (sym (none_before inside.ports port hs c.self.invariant.0 c.self.invariant.1 lt c.in-Err.index c.put.new.list.items new at
     c.in_ok-put-in-Err.ensures.ok)))
     ∙ ap (λ bags. set bags port (with_copies c.args.value c.args.copies (bag_at bags port))) c.self.view_is

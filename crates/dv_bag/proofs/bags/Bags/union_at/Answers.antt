@@ -13,9 +13,9 @@ invariant_of-self c =
     let port = c.args.port in
     let ports = ap length c.self.view_is in
     let long = from_port_length 0 inside.ports (λ port. bag_in port hs) in
-    let at = subst (StandsAt port c.in-Ok.place) c.as_slice.ensures c.in-Ok.ensures.found in
+    let at = subst (StandsAt port c.in-Ok.index) c.as_slice.ensures c.in-Ok.ensures.found in
     kept_well inside.ports port hs c.self.invariant.0 c.self.invariant.1 (omega (arith, c.requires, ports, long))
-    c.in-Ok.place c.deref_mut.result.now c.index-deref_mut-place.result c.deref_mut.ensures.value at c.union.new.self
+    c.in-Ok.index c.deref_mut.result.now c.index-deref_mut-index.result c.deref_mut.ensures.value at c.union.new.self
     (λ b. union b c.args.values.now) (λ b. some_united b c.args.values.now) c.union.result
     c.union.ensures.ok c.union.ensures.err
 
@@ -28,14 +28,14 @@ returns-in-Ok-clause-ok c =
     let long = from_port_length 0 inside.ports (λ port. bag_in port hs) in
     let lt : port < inside.ports = omega (arith, c.requires, ports, long) in
     let xs = c.deref_mut.result.now in
-    let old = c.index-deref_mut-place.result in
-    let at = subst (StandsAt port c.in-Ok.place) c.as_slice.ensures c.in-Ok.ensures.found in
+    let old = c.index-deref_mut-index.result in
+    let at = subst (StandsAt port c.in-Ok.index) c.as_slice.ensures c.in-Ok.ensures.found in
     on_ok_weaker c.union.result
     (λ done.
-    changed inside.ports port hs c.self.invariant.0 c.self.invariant.1 lt c.in-Ok.place xs old c.deref_mut.ensures.value at c.union.new.self
+    changed inside.ports port hs c.self.invariant.0 c.self.invariant.1 lt c.in-Ok.index xs old c.deref_mut.ensures.value at c.union.new.self
     ∙ ap (set (by_port inside.ports hs) port)
     (done ∙ ap (λ b. union b c.args.values.now)
-    (old_bag inside.ports port hs c.self.invariant.0 c.self.invariant.1 lt c.in-Ok.place xs old c.deref_mut.ensures.value at))
+    (old_bag inside.ports port hs c.self.invariant.0 c.self.invariant.1 lt c.in-Ok.index xs old c.deref_mut.ensures.value at))
     ∙ ap (λ bags. set bags port (union (bag_at bags port) c.args.values.now)) c.self.view_is)
     c.union.ensures.ok
 
@@ -46,9 +46,9 @@ invariant_of-self-in-Err c =
     let port = c.args.port in
     let ports = ap length c.self.view_is in
     let long = from_port_length 0 inside.ports (λ port. bag_in port hs) in
-    let at = subst (GoesInAt port c.in-Err.place) c.as_slice.ensures c.in-Err.ensures.absent in
+    let at = subst (GoesInAt port c.in-Err.index) c.as_slice.ensures c.in-Err.ensures.absent in
     added_well inside.ports port hs c.self.invariant.0 c.self.invariant.1 (omega (arith, c.requires, ports, long))
-    c.in-Err.place c.insert.new.self.items c.union-in-Err.new.self at c.in_ok-insert-in-Err.ensures.ok
+    c.in-Err.index c.insert.new.self.items c.union-in-Err.new.self at c.in_ok-insert-in-Err.ensures.ok
     (subst (λ b. 0 < total b) (sym c.in_ok-union-in-Err.ensures.ok)
     (some_other _ c.args.values.now
     (some_values c.args.values.now c.is_empty.result c.is_empty.ensures.size c.if-is_empty.false)))
@@ -61,12 +61,12 @@ returns-in_ok-insert-in-Err-clause-ok c =
     let ports = ap length c.self.view_is in
     let long = from_port_length 0 inside.ports (λ port. bag_in port hs) in
     let lt : port < inside.ports = omega (arith, c.requires, ports, long) in
-    let at = subst (GoesInAt port c.in-Err.place) c.as_slice.ensures c.in-Err.ensures.absent in
+    let at = subst (GoesInAt port c.in-Err.index) c.as_slice.ensures c.in-Err.ensures.absent in
     let new = c.union-in-Err.new.self in
-    added inside.ports port hs c.self.invariant.0 c.self.invariant.1 lt c.in-Err.place c.insert.new.self.items new at
+    added inside.ports port hs c.self.invariant.0 c.self.invariant.1 lt c.in-Err.index c.insert.new.self.items new at
     c.in_ok-insert-in-Err.ensures.ok
     ∙ ap (set (by_port inside.ports hs) port)
     (c.in_ok-union-in-Err.ensures.ok ∙ ap (λ b. union b c.args.values.now) (c.new-bag.ensures
-    ∙ sym (none_before inside.ports port hs c.self.invariant.0 c.self.invariant.1 lt c.in-Err.place c.insert.new.self.items new at
+    ∙ sym (none_before inside.ports port hs c.self.invariant.0 c.self.invariant.1 lt c.in-Err.index c.insert.new.self.items new at
     c.in_ok-insert-in-Err.ensures.ok)))
     ∙ ap (λ bags. set bags port (union (bag_at bags port) c.args.values.now)) c.self.view_is

@@ -11,7 +11,7 @@ front_at-arriving-requires c =
     omega (arith, before_within c.requires.0 c.args.time c.args.self.now, c.requires.2)
 
 abbrev found : (c : goal.In_ok-put_all) → c.front_at-arriving.result.now ≡ filter (is_at c.args.time) c.args.self.now
-found c = arriving c.requires.0 c.args.time c.args.place c.args.self.now c.self.inside.inputs.items c.as_slice.result.now _ c.self.invariant
+found c = arriving c.requires.0 c.args.time c.args.index c.args.self.now c.self.inside.inputs.items c.as_slice.result.now _ c.self.invariant
     c.self.view_is c.as_slice.ensures.value c.requires.1 c.requires.2 c.front_at-arriving.ensures
 
 pub returns : goal.returns

@@ -14,13 +14,13 @@ pub loop-sending-preserved : goal.loop-sending-preserved
 loop-sending-preserved c =
     let port = c.args.port in
     let all = c.as_slice-sendings.result.now in
-    let places = c.places_of-first.ensures in
-    let items = slice_range all c.places_of-first.result.0 c.places_of-first.result.1 in
+    let indices = c.indices_of-first.ensures in
+    let items = slice_range all c.indices_of-first.result.0 c.indices_of-first.result.1 in
     let i = c.loop-sending.sending-index in
     let early = c.loop-sending-test.true in
     let number : SFits w64 (value_of items i) = search rules in
     let added = simp to_z-of_z at c.in_ok-insert_copies.ensures.ok in
-    let here = port_in_part port all _ _ i _ places.order places.within places.there early in
+    let here = port_in_part port all _ _ i _ indices.order indices.within indices.there early in
     ap (sent_into port (drop (i + 1) items)) added
     ∙ read_step port i items c.loop-sending.bag true early (eq-eqb _ _ here) ∙ c.loop-sending.invariant
 
@@ -28,11 +28,11 @@ pub returns : goal.returns
 returns c =
     let port = c.args.port in
     let all = c.as_slice-sendings.result.now in
-    let places = c.places_of-first.ensures in
-    let items = slice_range all c.places_of-first.result.0 c.places_of-first.result.1 in
+    let indices = c.indices_of-first.ensures in
+    let items = slice_range all c.indices_of-first.result.0 c.indices_of-first.result.1 in
     let read = at_drop_all (λ ss. sent_into port ss c.loop-sending.bag) items c.loop-sending.sending-index (omega arith) in
     sym read ∙ c.loop-sending.invariant
-    ∙ all_in_part port all _ _ places.order places.within places.before places.behind
+    ∙ all_in_part port all _ _ indices.order indices.within indices.before indices.behind
     ∙ ap (sent_at port) c.as_slice-sendings.ensures
     ∙ sym (bag_of_port c.self.inside.ports port c.self.inside.sendings.items c.self.invariant.0)
     ∙ ap (λ bags. bag_at bags port) c.self.view_is

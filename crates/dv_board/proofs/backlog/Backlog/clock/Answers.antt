@@ -1,7 +1,7 @@
 use Rattle.std.proofs.Common.{◌≡◌, ◌<◌, length, Some, sym, ap, subst, ◌∙◌, arith}
 use Rattle.std.proofs.lemmas.Option.{slice_get-get_or}
 use Rattle.dv_board.specs.Backlogs.{BacklogOf, clock_of}
-use Rattle.dv_board.proofs.Places.{clock_read}
+use Rattle.dv_board.proofs.Indices.{clock_read}
 use Rattle.dv_board.proofs.backlog.Backlog.clock.Goals as goal
 
 pub returns-clause-kept : goal.returns-clause-kept

@@ -6,7 +6,7 @@ use Rattle.dv_time.specs.declared.time.Time.{Time}
 use Rattle.dv_conservative.specs.World.{Job}
 use Rattle.dv_board.specs.Backlogs.{AreHeld}
 use Rattle.dv_board.specs.declared.held.Held.{Held}
-use Rattle.dv_board.proofs.Places.{clocks_of}
+use Rattle.dv_board.proofs.Indices.{clocks_of}
 use Rattle.dv_board.proofs.Wholes.{get_map}
 use Rattle.dv_board.proofs.backlog.Backlog.clocks.Goals as goal
 

@@ -4,7 +4,7 @@ use Rattle.dv_time.specs.declared.time.Time.{Time}
 use Rattle.dv_board.specs.declared.held.Held.{Held}
 use Rattle.dv_board.specs.Backlogs.{BacklogOf, IsHeld, clock_of}
 use Rattle.dv_board.specs.Clocks.{IsNoLater, IsSooner, later}
-use Rattle.dv_board.proofs.Places.{clock_of_piece, clock_read, clocks_of, clocks_set, held_set, no_later, piece_is_held, sooner}
+use Rattle.dv_board.proofs.Indices.{clock_of_piece, clock_read, clocks_of, clocks_set, held_set, no_later, piece_is_held, sooner}
 use Rattle.dv_board.proofs.backlog.Backlog.extend.Goals as goal
 
 pub returns-then-is_before-clause-refused : goal.returns-then-is_before-clause-refused

@@ -47,7 +47,7 @@ returns-in_err-extend-clause-refused g c =
     let same = c.in_err-extend.ensures.err in
     let why = err_from_is_err_and c.from_residual.result c.from_residual.ensures.1 in
     rw (why.1, why.2) (record {
-      place = length done;
+      index = length done;
       piece = c.in-Some.piece;
       there = slice_get_read pieces (length pieces) (length done) c.in-Some.piece refl turn.0 turn.1;
       clocks = ap (λ (b : BacklogOf). b.clocks) same

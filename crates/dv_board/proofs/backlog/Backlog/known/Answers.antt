@@ -7,7 +7,7 @@ use Rattle.dv_board.specs.declared.held.Held.{Held}
 use Rattle.dv_board.specs.Clocks.{IsLeast, IsNoLater}
 use Rattle.dv_board.specs.Jobs.{trace}
 use Rattle.dv_board.proofs.Drained.{all_by_time, least_of_run, least_within, mark_no_later, pieces_of_trace}
-use Rattle.dv_board.proofs.Places.{clocks_of}
+use Rattle.dv_board.proofs.Indices.{clocks_of}
 use Rattle.dv_board.proofs.backlog.Backlog.known.Goals as goal
 
 pub pieces_between-requires : goal.pieces_between-requires

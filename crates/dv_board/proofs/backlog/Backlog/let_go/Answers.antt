@@ -3,7 +3,7 @@ use Rattle.dv_board.specs.declared.held.Held.{Held}
 use Rattle.dv_board.specs.Backlogs.{AreHeld, BacklogOf}
 use Rattle.dv_board.specs.Clocks.{IsLeast}
 use Rattle.dv_board.proofs.Drained.{all_by_time, rest_are_held}
-use Rattle.dv_board.proofs.Places.{clocks_stay}
+use Rattle.dv_board.proofs.Indices.{clocks_stay}
 use Rattle.dv_board.proofs.backlog.Backlog.let_go.Goals as goal
 
 pub let_go_all-requires : goal.let_go_all-requires

@@ -1,7 +1,7 @@
 use Rattle.std.proofs.Common.{ap, ◌∙◌}
 use Rattle.dv_bag.specs.Part.{nothing}
 use Rattle.dv_conservative.specs.Process.{first_time}
-use Rattle.dv_board.proofs.Places.{clocks_new, clocks_of}
+use Rattle.dv_board.proofs.Indices.{clocks_new, clocks_of}
 use Rattle.dv_board.proofs.backlog.Backlog.new.Goals as goal
 
 pub returns-clause-clocks : goal.returns-clause-clocks

@@ -11,7 +11,7 @@ returns-in_ok-put_at-clause-added g c =
     let t = c.args.self.now in
     let none : is_none (table_value t c.args.number) ≡ true =
     grind (arith, common_steps, c.get.ensures, c.is_none-is_new.ensures, c.if-is_new.true) in
-    low_more t.limit (value_at t.low.items) (value_at c.put_at.new.places.items) (get nat_eq t.high) c.args.number c.args.value
+    low_more t.limit (value_at t.low.items) (value_at c.put_at.new.entries.items) (get nat_eq t.high) c.args.number c.args.value
     c.if-number-self.true none c.in_ok-put_at.ensures
 
 pub returns-in_ok-insert-clause-added : goal.returns-in_ok-insert-clause-added

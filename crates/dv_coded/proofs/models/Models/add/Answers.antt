@@ -5,11 +5,11 @@ pub returns : goal.returns
 returns c = record {
   programs = c.in_ok-programs.programs;
   response = c.in_ok-response.response;
-  place = omega (arith, c.len-place.ensures, c.args.self.now.programs.ok.0);
+  index = omega (arith, c.len-index.ensures, c.args.self.now.programs.ok.0);
   pushed = c.in_ok-push.ensures.items;
   of_model = record { tables = c.in_ok-programs.ensures.tables; phases = c.in_ok-programs.ensures.phases };
   answered = c.in_ok-push-2.ensures.items;
   soonest = c.in_ok-response.ensures.response;
   short = c.in_ok-response.ensures.short;
-  places = refl;
+  indices = refl;
 }

@@ -9,11 +9,11 @@ use Rattle.dv_coded.proofs.models.Models.of_component.Goals as goal
 
 pub returns-in-Some-clause-model : goal.returns-in-Some-clause-model
 returns-in-Some-clause-model c = λ m at.
-    c.requires.known.known c.model_place-place.result c.in-Some.known m
-    (read-there c.args.self.now.places.items c.model_place-place.result c.index.result.now
-    (omega (arith, c.model_place-place.ensures.within, c.requires.known.count)) c.index.ensures ∙ ap Some c.in-Some.is)
+    c.requires.known.known c.model_index-index.result c.in-Some.known m
+    (read-there c.args.self.now.indices.items c.model_index-index.result c.index.result.now
+    (omega (arith, c.model_index-index.ensures.within, c.requires.known.count)) c.index.ensures ∙ ap Some c.in-Some.is)
     (model_there (file_of c.args.tree.now.file).models (instances (file_of c.args.tree.now.file)) c.args.component
-    c.model_place-place.result m c.model_place-place.ensures.model at)
+    c.model_index-index.result m c.model_index-index.ensures.model at)
 
 pub add-requires-clause-scope : goal.add-requires-clause-scope
 add-requires-clause-scope c =
@@ -23,19 +23,19 @@ add-requires-clause-scope c =
 pub add-requires-clause-compilable : goal.add-requires-clause-compilable
 add-requires-clause-compilable c =
     let m = atomic_of c.atomic.result.now in
-    compilable_at (file_of c.args.tree.now.file).models c.model_place-place.result m c.requires.compilable
+    compilable_at (file_of c.args.tree.now.file).models c.model_index-index.result m c.requires.compilable
     (model_there (file_of c.args.tree.now.file).models (instances (file_of c.args.tree.now.file)) c.args.component
-    c.model_place-place.result m c.model_place-place.ensures.model c.atomic.ensures)
+    c.model_index-index.result m c.model_index-index.ensures.model c.atomic.ensures)
 
 pub returns-clause-known : goal.returns-clause-known
 returns-clause-known c =
     let m = atomic_of c.atomic.result.now in
     known_with m c.args.self.now c.add.new.self c.in_ok-added.added c.in_ok-added.ensures (file_of c.args.tree.now.file).models _
-    c.model_place-place.result c.requires.known
+    c.model_index-index.result c.requires.known
     (model_there (file_of c.args.tree.now.file).models (instances (file_of c.args.tree.now.file)) c.args.component
-    c.model_place-place.result m c.model_place-place.ensures.model c.atomic.ensures)
-    (read-there c.args.self.now.places.items c.model_place-place.result c.index.result.now
-    (omega (arith, c.model_place-place.ensures.within, c.requires.known.count)) c.index.ensures
+    c.model_index-index.result m c.model_index-index.ensures.model c.atomic.ensures)
+    (read-there c.args.self.now.indices.items c.model_index-index.result c.index.result.now
+    (omega (arith, c.model_index-index.ensures.within, c.requires.known.count)) c.index.ensures
     ∙ ap Some (none-else c.index.result.now c.in_default.not-Some)) refl refl refl
 
 pub returns-clause-model : goal.returns-clause-model

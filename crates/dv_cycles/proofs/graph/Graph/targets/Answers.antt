@@ -3,8 +3,8 @@ use Rattle.std.specs.Prelude.{slice_range}
 use Rattle.dv_cycles.proofs.Cuts.{cut_at, length-cut}
 use Rattle.dv_cycles.proofs.graph.Graph.targets.Goals as goal
 
-pub part-requires-clause-place : goal.part-requires-clause-place
-part-requires-clause-place c =
+pub part-requires-clause-index : goal.part-requires-clause-index
+part-requires-clause-index c =
     let g = c.self.inside in
     let nodes : length g.starts.items ≡ length c.args.self.now =
     sym (length-cut g.starts.items g.targets.items) ∙ ap length c.self.view_is in

@@ -1,5 +1,5 @@
 use Rattle.dv_gen.proofs.FewNames.{slot-small}
 use Rattle.dv_gen.proofs.names.Names.slot.Goals as goal
 
-pub place_or_first-requires : goal.place_or_first-requires
-place_or_first-requires c = slot-small _ c.args.name _ c.variable.ensures c.self.invariant
+pub index_or_first-requires : goal.index_or_first-requires
+index_or_first-requires c = slot-small _ c.args.name _ c.variable.ensures c.self.invariant

@@ -4,7 +4,7 @@ use Rattle.dv_time.specs.declared.time.Time.{Time}
 use Rattle.dv_react.specs.Components.{components_of}
 use Rattle.dv_react.specs.declared.running.Running.{Running}
 use Rattle.dv_agenda.specs.Waits.{due_at}
-use Rattle.dv_share.specs.Share.{AreComponents, AreDue, AreEmitted, StandByPlace}
+use Rattle.dv_share.specs.Share.{AreComponents, AreDue, AreEmitted, StandByIndex}
 use Rattle.dv_local.specs.States.{imminent_of}
 use Rattle.dv_local.specs.Undoing.{AreWithin, undone, waits_of}
 use Rattle.dv_local.proofs.Accesses.{due_few, found_counted}
@@ -100,7 +100,7 @@ returns-clause-kept g c =
       arrive = k.arrive;
       within = subst (λ (ss : List Running). AreWithin (length ss) before) same k.within;
       before = subst (λ (ss : List Running). AreComponents g.A.Atomic.fits t (undone before ss)) same k.before;
-      emitted = subst (λ (n : ℕ). StandByPlace n c.emit_all.new.emitted.items) k.components.count c.emit_all.ensures.places;
+      emitted = subst (λ (n : ℕ). StandByIndex n c.emit_all.new.emitted.items) k.components.count c.emit_all.ensures.indices;
       still = (c.requires.of_run, returns-clause-emitted g c, returns-clause-few g c);
     }
 

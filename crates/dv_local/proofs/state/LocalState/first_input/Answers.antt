@@ -24,7 +24,7 @@ returns g c =
     let next : outside ≡ next_from limit x.share.inputs from =
     c.first_outside-outside.ensures limit (subst (λ (xs : List Input). AreOfRun limit xs) (sym same) share.of_run)
     ∙ ap (λ (xs : List Input). next_from limit xs from) same in
-    subst (λ (r : Option Time). IsFirstInput (view_by b told x) k r) (sym c.earlier.ensures)
+    subst (λ (r : Option Time). IsFirstInput (view_by b told x) k r) (sym c.earliest.ensures)
     (both_first (view_by b told x) k (QuietInside b told x) (QuietOutside b told x) (calm b told x) held outside
     (first_inside b told x held from c.requires.of_run c.requires.kept.arrive c.first_held-held.ensures.there
     c.first_held-held.ensures.least)

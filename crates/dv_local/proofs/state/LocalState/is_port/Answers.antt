@@ -9,8 +9,8 @@ pub returns-in-Some : goal.returns-in-Some
 returns-in-Some g c =
     let t = c.args.self.now.share.tables in
     let ms = c.as_slice-members.result.now in
-    let p = c.in-Some.place in
-    let d = c.index-members-place.result in
+    let p = c.in-Some.index in
+    let d = c.index-members-index.result in
     let same : ms ≡ t.members.items = c.as_slice-members.ensures.value in
     let m = slice_index_or ms p d in
     let there : slice_get t.members.items p ≡ Some m =

@@ -2,8 +2,8 @@ use Rattle.std.proofs.Common.{◌<◌, List, length, map, ap, sym, subst, ◌∙
 use Rattle.dv_time.specs.Time.{time_of}
 use Rattle.dv_agenda.specs.declared.arrival.Arrival.{Arrival}
 use Rattle.dv_react.specs.declared.running.Running.{Running}
-use Rattle.dv_share.specs.Share.{AreComponents, StandByPlace}
-use Rattle.dv_share.specs.declared.place.Placed.{Placed}
+use Rattle.dv_share.specs.Share.{AreComponents, StandByIndex}
+use Rattle.dv_share.specs.declared.index.Indexed.{Indexed}
 use Rattle.dv_local.specs.States.{delivery_of}
 use Rattle.dv_local.specs.Undoing.{AreWithin, undone, waits_of}
 use Rattle.dv_local.proofs.Begun.{none_arrive, nothing_yet}
@@ -21,11 +21,11 @@ returns-clause-kept g c =
       components = subst (λ (ss : List Running). AreComponents g.A.Atomic.fits t ss) same c.requires.components;
       agenda = c.in_ok-agenda.ensures ∙ ap (λ (ss : List Running). waits_of ss) (c.deref.ensures.value ∙ same);
       arrive = none_arrive t.limit t.members.items c.new.result c.new.ensures.empty;
-      within = subst (λ (xs : List (Placed Running)). AreWithin (length rs) xs) (sym c.new-2.ensures)
-          (all_none (λ (p : Placed Running). p.place < length rs));
-      before = subst (λ (xs : List (Placed Running)). AreComponents g.A.Atomic.fits t (undone xs rs)) (sym c.new-2.ensures)
+      within = subst (λ (xs : List (Indexed Running)). AreWithin (length rs) xs) (sym c.new-2.ensures)
+          (all_none (λ (p : Indexed Running). p.index < length rs));
+      before = subst (λ (xs : List (Indexed Running)). AreComponents g.A.Atomic.fits t (undone xs rs)) (sym c.new-2.ensures)
           (subst (λ (ss : List Running). AreComponents g.A.Atomic.fits t ss) same c.requires.components);
-      emitted = subst (λ (xs : List (Placed _)). StandByPlace (length t.members.items) xs) (sym c.new-3.ensures.items)
+      emitted = subst (λ (xs : List (Indexed _)). StandByIndex (length t.members.items) xs) (sym c.new-3.ensures.items)
           (record { rise = tt; within = all_none _ });
       still = tt;
     }

@@ -16,9 +16,9 @@ use Rattle.dv_devs.specs.Cuts.{IsAllBefore}
 use Rattle.dv_devs.specs.Network.{outer_from, part_of_instant}
 use Rattle.dv_react.specs.Components.{components_of}
 use Rattle.dv_share.specs.Links.{deliveries_of}
-use Rattle.dv_share.specs.Places.{places_of}
+use Rattle.dv_share.specs.Indices.{indices_of}
 use Rattle.dv_share.specs.Share.{AreAmong, AreReceived, AreTouched, coming, sent_in}
-use Rattle.dv_share.specs.declared.place.Placed.{Placed}
+use Rattle.dv_share.specs.declared.index.Indexed.{Indexed}
 use Rattle.dv_record.specs.Told.{with_lines}
 use Rattle.dv_record.proofs.Open.{open_after}
 use Rattle.dv_proc.specs.Accesses.{IsAfterEmission, entries_at, imminent_at, receiving_at}
@@ -30,7 +30,7 @@ use Rattle.dv_local.specs.Shares.{share_by}
 use Rattle.dv_local.specs.States.{held_by, imminent_of, view_by}
 use Rattle.dv_local.proofs.Accesses.{instant_counted, reacted_few, receiving_found}
 use Rattle.dv_local.proofs.Visited.{received_few}
-use Rattle.dv_local.proofs.TakesPlace.{input_is, took_place}
+use Rattle.dv_local.proofs.TakesIndex.{input_is, took_index}
 use Rattle.dv_local.proofs.state.LocalState.react.Goals as goal
 
 pub returns-clause-reacted : goal.returns-clause-reacted
@@ -57,26 +57,26 @@ returns-clause-reacted g c =
     let n = rank t.limit c.args.now in
     let held : ds ≡ map delivered_by (arrivals_at c.args.now x.inbox) =
     c.deref.ensures.value ∙ c.in_ok-held.ensures ∙ ap (λ (ys : List Arrival). map delivered_by ys) c.at.ensures in
-    let among : AreAmong (places_of gs) (places_of xs) =
-    subst (λ (fs : List (Placed (Result (List Counts) Fault))). AreAmong (places_of fs) (places_of xs)) same-es
+    let among : AreAmong (indices_of gs) (indices_of xs) =
+    subst (λ (fs : List (Indexed (Result (List Counts) Fault))). AreAmong (indices_of fs) (indices_of xs)) same-es
     c.in_ok-arrivals.ensures.emitted in
     let received : AreReceived t.members.items (coming t gs outside meant) xs =
-    subst (λ (fs : List (Placed (Result (List Counts) Fault))). AreReceived t.members.items (coming t fs outside meant) xs) same-es
+    subst (λ (fs : List (Indexed (Result (List Counts) Fault))). AreReceived t.members.items (coming t fs outside meant) xs) same-es
     c.in_ok-arrivals.ensures.received in
     let old : List Entry = (told x.record).entries in
     let told_now : PartOf = told c.outer.new.to in
-    let lines : List (Placed (Result (List Counts) Fault)) → List Outer =
+    let lines : List (Indexed (Result (List Counts) Fault)) → List Outer =
     λ fs. outer_from t.limit n 0 (inbox 0 (carried t.exits (sent_in t.members.items fs)) 0 t.outputs) in
     let left : told_now ≡ with_lines (lines es) (told c.commit.new.to) = c.in_ok-outer.ensures.told in
-    let reacted : HaveReacted b fits t n rs gs xs (places_of xs) ss old told_now.entries =
-    subst (λ (new : List Entry). HaveReacted b fits t n rs gs xs (places_of xs) ss old new)
+    let reacted : HaveReacted b fits t n rs gs xs (indices_of xs) ss old told_now.entries =
+    subst (λ (new : List Entry). HaveReacted b fits t n rs gs xs (indices_of xs) ss old new)
     (sym (ap (λ (p : PartOf). p.entries) left))
-    (subst (λ (fs : List (Placed (Result (List Counts) Fault))). HaveReacted b fits t n rs fs xs (places_of xs) ss old
+    (subst (λ (fs : List (Indexed (Result (List Counts) Fault))). HaveReacted b fits t n rs fs xs (indices_of xs) ss old
     (told c.commit.new.to).entries) same-es c.in_ok-commit.ensures.reacted) in
     let outer : told_now.outer ≡ (told x.record).outer ++ lines gs =
     ap (λ (p : PartOf). p.outer) left
     ∙ ap (λ (os : List Outer). os ++ lines es) c.in_ok-commit.ensures.outer
-    ∙ ap (λ (fs : List (Placed (Result (List Counts) Fault))). (told x.record).outer ++ lines fs) same-es in
+    ∙ ap (λ (fs : List (Indexed (Result (List Counts) Fault))). (told x.record).outer ++ lines fs) same-es in
     let w : View = record {
       share = share_by b x.share;
       components = components_of t.limit ss;
@@ -86,7 +86,7 @@ returns-clause-reacted g c =
     } in
     subst (λ (s : Share). IsAfterInstant (rank s.limit c.args.now) v w) found.share
     (instant_found n (rank v.share.limit c.args.now) v (view_by b told x) w found
-    (took_place b fits told x c.args.now outside meant xs ss told_now c.commit.new.components.visits of_run
+    (took_index b fits told x c.args.now outside meant xs ss told_now c.commit.new.components.visits of_run
     (input_is b told x c.args.now outside ds of_run taken (c.in_ok-outside.ensures t.limit of_run) held)
     c.emit.ensures.kept.components c.in_ok-emit.ensures.emitted among received
     reacted outer taken))
@@ -140,9 +140,9 @@ returns-clause-visits g c =
     (ap (λ (cs : List Component). count_by (is_imminent k) cs) found.components)
     (received_few b g.A.Atomic.fits told x k outside (deliveries_of ds) xs (imminent_of t.limit c.args.now rs) input
     c.in_ok-emit.ensures.emitted
-    (subst (λ (fs : List (Placed (Result (List Counts) Fault))). AreReceived t.members.items (coming t fs outside (deliveries_of ds)) xs)
+    (subst (λ (fs : List (Indexed (Result (List Counts) Fault))). AreReceived t.members.items (coming t fs outside (deliveries_of ds)) xs)
     same-es c.in_ok-arrivals.ensures.received)
-    (subst (λ (fs : List (Placed (Result (List Counts) Fault))). AreTouched (places_of fs) xs) same-es c.in_ok-arrivals.ensures.touched)
+    (subst (λ (fs : List (Indexed (Result (List Counts) Fault))). AreTouched (indices_of fs) xs) same-es c.in_ok-arrivals.ensures.touched)
     c.in_ok-emit.ensures.few))) in
     instant_counted n (length xs) v (view_by b told x) w found least visited_few c.in_ok-commit.ensures.visits
 

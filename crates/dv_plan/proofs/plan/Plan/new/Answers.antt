@@ -5,7 +5,7 @@ use Rattle.std.proofs.lemmas.List.FromFn.{length-map-range_with_len}
 use Rattle.dv_bag.specs.declared.response.Response.{Response}
 use Rattle.dv_conservative.specs.Channels.{all_channels}
 use Rattle.dv_conservative.specs.Responses.{least_response}
-use Rattle.dv_share.specs.Places.{AreRising}
+use Rattle.dv_share.specs.Indices.{AreRising}
 use Rattle.dv_share.specs.Share.{numbers_of}
 use Rattle.dv_share.specs.declared.tables.Member.{Member}
 use Rattle.dv_proc.specs.Foreseeing.{ticks_of}

@@ -16,7 +16,7 @@ pub returns-clause-process : goal.returns-clause-process
 returns-clause-process g c =
     process_with (g.L.Local.view c.args.self.now.local) (g.L.Local.view c.keep.new.self) c.args.self.now.incoming.items
     c.args.self.now.outgoing.items c.args.self.now.clock c.requires.process
-    c.in-Ok.place c.index_mut.result.now c.take.new.self (meant_packet c.args.packet) c.in-Ok.ensures.at c.index_mut.ensures.value
+    c.in-Ok.index c.index_mut.result.now c.take.new.self (meant_packet c.args.packet) c.in-Ok.ensures.at c.index_mut.ensures.value
     c.take.ensures.number c.take.ensures.received c.take.ensures.clock c.in-Ok.ensures.of_run c.in-Ok.ensures.fine
     (subst (λ (es : List Event). AllNumbers (meant_events es)) c.as_slice.ensures.value c.of_numbers.ensures)
     (subst (λ (es : List Event). IsAfterEvents (meant_events es) (g.L.Local.view c.args.self.now.local)
@@ -26,7 +26,7 @@ pub returns-clause-taken : goal.returns-clause-taken
 returns-clause-taken g c =
     received_now (g.L.Local.view c.args.self.now.local).share c.args.self.now.incoming.items c.args.self.now.outgoing.items
     c.args.self.now.clock c.requires.process.standing
-    c.in-Ok.place c.index_mut.result.now c.take.new.self (meant_packet c.args.packet) c.in-Ok.ensures.at c.index_mut.ensures.value
+    c.in-Ok.index c.index_mut.result.now c.take.new.self (meant_packet c.args.packet) c.in-Ok.ensures.at c.index_mut.ensures.value
     c.take.ensures.number c.take.ensures.received c.take.ensures.clock c.in-Ok.ensures.of_run c.in-Ok.ensures.fine
     (subst (λ (es : List Event). AllNumbers (meant_events es)) c.as_slice.ensures.value c.of_numbers.ensures)
 

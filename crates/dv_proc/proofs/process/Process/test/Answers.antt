@@ -9,7 +9,7 @@ pub returns-then-not-is_same : goal.returns-then-not-is_same
 returns-then-not-is_same g c =
     found_other (g.L.Local.view c.args.self.now.local).share c.args.self.now.incoming.items c.as_slice.result.now
     c.args.self.now.outgoing.items
-    c.args.self.now.clock c.requires (meant_packet c.args.packet.now) c.in-Some.place c.index.result.now c.as_slice.ensures.value
+    c.args.self.now.clock c.requires (meant_packet c.args.packet.now) c.in-Some.index c.index.result.now c.as_slice.ensures.value
     c.in-Some.ensures
     c.index.ensures c.frame-frame.result.limit c.frame-frame.result.horizon c.frame-frame.ensures.limit c.frame-frame.ensures.horizon
     c.is_same.result
@@ -19,7 +19,7 @@ pub is_window-requires : goal.is_window-requires
 is_window-requires g c =
     found_of_run (g.L.Local.view c.args.self.now.local).share c.args.self.now.incoming.items c.as_slice.result.now
     c.args.self.now.outgoing.items
-    c.args.self.now.clock c.requires (meant_packet c.args.packet.now) c.in-Some.place c.index.result.now c.as_slice.ensures.value
+    c.args.self.now.clock c.requires (meant_packet c.args.packet.now) c.in-Some.index c.index.result.now c.as_slice.ensures.value
     c.in-Some.ensures
     c.index.ensures c.frame-frame.result.limit c.frame-frame.result.horizon c.frame-frame.ensures.limit c.frame-frame.ensures.horizon
     c.is_same.result
@@ -29,7 +29,7 @@ pub returns-then-not-is_window : goal.returns-then-not-is_window
 returns-then-not-is_window g c =
     found_none (g.L.Local.view c.args.self.now.local).share c.args.self.now.incoming.items c.as_slice.result.now
     c.args.self.now.outgoing.items
-    c.args.self.now.clock c.requires (meant_packet c.args.packet.now) c.in-Some.place c.index.result.now c.as_slice.ensures.value
+    c.args.self.now.clock c.requires (meant_packet c.args.packet.now) c.in-Some.index c.index.result.now c.as_slice.ensures.value
     c.in-Some.ensures
     c.index.ensures c.frame-frame.result.limit c.frame-frame.result.horizon c.frame-frame.ensures.limit c.frame-frame.ensures.horizon
     c.is_same.result
@@ -39,7 +39,7 @@ pub returns-then-not-are_in_order : goal.returns-then-not-are_in_order
 returns-then-not-are_in_order g c =
     found_unordered (g.L.Local.view c.args.self.now.local).share c.args.self.now.incoming.items c.as_slice.result.now
     c.args.self.now.outgoing.items
-    c.args.self.now.clock c.requires (meant_packet c.args.packet.now) c.in-Some.place c.index.result.now c.as_slice.ensures.value
+    c.args.self.now.clock c.requires (meant_packet c.args.packet.now) c.in-Some.index c.index.result.now c.as_slice.ensures.value
     c.in-Some.ensures
     c.index.ensures c.frame-frame.result.limit c.frame-frame.result.horizon c.frame-frame.ensures.limit c.frame-frame.ensures.horizon
     c.is_same.result
@@ -51,7 +51,7 @@ pub are_of_window-requires-clause-from : goal.are_of_window-requires-clause-from
 are_of_window-requires-clause-from g c =
     found_of_run (g.L.Local.view c.args.self.now.local).share c.args.self.now.incoming.items c.as_slice.result.now
     c.args.self.now.outgoing.items
-    c.args.self.now.clock c.requires (meant_packet c.args.packet.now) c.in-Some.place c.index.result.now c.as_slice.ensures.value
+    c.args.self.now.clock c.requires (meant_packet c.args.packet.now) c.in-Some.index c.index.result.now c.as_slice.ensures.value
     c.in-Some.ensures
     c.index.ensures c.frame-frame.result.limit c.frame-frame.result.horizon c.frame-frame.ensures.limit c.frame-frame.ensures.horizon
     c.is_same.result
@@ -61,7 +61,7 @@ pub returns-then-not-are_of_window : goal.returns-then-not-are_of_window
 returns-then-not-are_of_window g c =
     found_outside (g.L.Local.view c.args.self.now.local).share c.args.self.now.incoming.items c.as_slice.result.now
     c.args.self.now.outgoing.items
-    c.args.self.now.clock c.requires (meant_packet c.args.packet.now) c.in-Some.place c.index.result.now c.as_slice.ensures.value
+    c.args.self.now.clock c.requires (meant_packet c.args.packet.now) c.in-Some.index c.index.result.now c.as_slice.ensures.value
     c.in-Some.ensures
     c.index.ensures c.frame-frame.result.limit c.frame-frame.result.horizon c.frame-frame.ensures.limit c.frame-frame.ensures.horizon
     c.is_same.result
@@ -73,7 +73,7 @@ pub returns : goal.returns
 returns g c =
     found_fine (g.L.Local.view c.args.self.now.local).share c.args.self.now.incoming.items c.as_slice.result.now
     c.args.self.now.outgoing.items
-    c.args.self.now.clock c.requires (meant_packet c.args.packet.now) c.in-Some.place c.index.result.now c.as_slice.ensures.value
+    c.args.self.now.clock c.requires (meant_packet c.args.packet.now) c.in-Some.index c.index.result.now c.as_slice.ensures.value
     c.in-Some.ensures
     c.index.ensures c.frame-frame.result.limit c.frame-frame.result.horizon c.frame-frame.ensures.limit c.frame-frame.ensures.horizon
     c.is_same.result

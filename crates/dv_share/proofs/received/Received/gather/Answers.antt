@@ -1,6 +1,6 @@
 use Rattle.std.proofs.Common.{◌∙◌, [], sym, subst, arith}
 use Rattle.dv_share.specs.Links.{deliveries_of}
-use Rattle.dv_share.specs.Places.{places_of}
+use Rattle.dv_share.specs.Indices.{indices_of}
 use Rattle.dv_share.specs.Received.{AreGathered}
 use Rattle.dv_share.specs.Share.{AreTouched}
 use Rattle.dv_share.proofs.Gathering.{among_moved, gathered_all, gathered_new}
@@ -30,7 +30,7 @@ returns-clause-among c p here =
 
 pub returns-clause-touched : goal.returns-clause-touched
 returns-clause-touched c =
-    let ps = places_of c.args.emitted.now in
+    let ps = indices_of c.args.emitted.now in
     touched_moved ps c.deliver_all.new.self.items c.put_in_order.new.self.items c.in_ok-put_in_order.ensures.same
     (c.in_ok-deliver_all.ensures.touched ps
     (c.in_ok-meet_all.ensures.touched

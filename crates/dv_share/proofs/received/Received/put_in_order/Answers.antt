@@ -1,50 +1,50 @@
 use Rattle.std.proofs.Common.{◌≡◌, ◌∙◌, ℕ, List, IsPermutation, ap, sym, subst}
 use Rattle.std.proofs.lemmas.List.Sorted.{IsPermutation-map}
 use Rattle.dv_bag.specs.Bag.{Counts}
-use Rattle.dv_share.specs.Places.{AreRising, places_of}
-use Rattle.dv_share.specs.Received.{AreMet, ReceivedOf, met_of, placed_at, receipt_at}
-use Rattle.dv_share.specs.declared.place.Placed.{Placed}
+use Rattle.dv_share.specs.Indices.{AreRising, indices_of}
+use Rattle.dv_share.specs.Received.{AreMet, ReceivedOf, met_of, indexed_at, receipt_at}
+use Rattle.dv_share.specs.declared.index.Indexed.{Indexed}
 use Rattle.dv_share.proofs.InOrder.{met_in_order, met_of_rise, met_same}
-use Rattle.dv_share.proofs.MetPlaces.{met_moved, met_rise}
+use Rattle.dv_share.proofs.MetIndices.{met_moved, met_rise}
 use Rattle.dv_share.proofs.received.Received.put_in_order.Goals as goal
 
 pub invariant_of-self : goal.invariant_of-self
 invariant_of-self c =
-    met_moved c.self.inside.receipts.items c.self.inside.places.items c.sort_unstable.new.self.items c.self.invariant
+    met_moved c.self.inside.receipts.items c.self.inside.indices.items c.sort_unstable.new.self.items c.self.invariant
     c.sort_unstable.ensures.permutation
 
 pub returns-then-not-is_walk_faster-clause-rise : goal.returns-then-not-is_walk_faster-clause-rise
 returns-then-not-is_walk_faster-clause-rise c = met_rise c.self.inside.receipts.items c.sort_unstable.new.self.items
-    (met_moved c.self.inside.receipts.items c.self.inside.places.items c.sort_unstable.new.self.items c.self.invariant
+    (met_moved c.self.inside.receipts.items c.self.inside.indices.items c.sort_unstable.new.self.items c.self.invariant
     c.sort_unstable.ensures.permutation)
     c.sort_unstable.ensures.sorted
 
 pub returns-then-not-is_walk_faster-clause-same : goal.returns-then-not-is_walk_faster-clause-same
 returns-then-not-is_walk_faster-clause-same c =
-    let after = placed_at c.self.inside.receipts.items c.sort_unstable.new.self.items in
-    subst (λ (xs : List (Placed (List Counts))). IsPermutation xs after) (ap (λ (v : ReceivedOf). v.items) c.self.view_is)
-    (IsPermutation-map (λ (p : ℕ). (receipt_at c.self.inside.receipts.items p).placed) c.self.inside.places.items
+    let after = indexed_at c.self.inside.receipts.items c.sort_unstable.new.self.items in
+    subst (λ (xs : List (Indexed (List Counts))). IsPermutation xs after) (ap (λ (v : ReceivedOf). v.items) c.self.view_is)
+    (IsPermutation-map (λ (p : ℕ). (receipt_at c.self.inside.receipts.items p).indexed) c.self.inside.indices.items
     c.sort_unstable.new.self.items c.sort_unstable.ensures.permutation)
 
 pub invariant_of-self-2 : goal.invariant_of-self-2
 invariant_of-self-2 c =
     let rs = c.self.inside.receipts.items in
     let is : c.swap.new.x.items ≡ met_of rs = ap (λ v. v.items) c.swap.ensures.x_after ∙ c.in_ok-put_met.ensures ∙ ap met_of c.deref.ensures.value in
-    subst (AreMet rs) (sym is) (met_in_order rs c.self.inside.places.items c.self.invariant)
+    subst (AreMet rs) (sym is) (met_in_order rs c.self.inside.indices.items c.self.invariant)
 
 pub returns-clause-rise : goal.returns-clause-rise
 returns-clause-rise c =
     let rs = c.self.inside.receipts.items in
     let is : c.swap.new.x.items ≡ met_of rs = ap (λ v. v.items) c.swap.ensures.x_after ∙ c.in_ok-put_met.ensures ∙ ap met_of c.deref.ensures.value in
-    subst (λ (ps : List ℕ). AreRising (places_of (placed_at rs ps))) (sym is)
-    (met_of_rise rs c.self.inside.places.items c.self.invariant)
+    subst (λ (ps : List ℕ). AreRising (indices_of (indexed_at rs ps))) (sym is)
+    (met_of_rise rs c.self.inside.indices.items c.self.invariant)
 
 pub returns-clause-same : goal.returns-clause-same
 returns-clause-same c =
     let rs = c.self.inside.receipts.items in
-    let ps = c.self.inside.places.items in
+    let ps = c.self.inside.indices.items in
     let is : c.swap.new.x.items ≡ met_of rs = ap (λ v. v.items) c.swap.ensures.x_after ∙ c.in_ok-put_met.ensures ∙ ap met_of c.deref.ensures.value in
-    let after = placed_at rs c.swap.new.x.items in
-    subst (λ (xs : List (Placed (List Counts))). IsPermutation xs after) (ap (λ (v : ReceivedOf). v.items) c.self.view_is)
-    (IsPermutation-map (λ (p : ℕ). (receipt_at rs p).placed) ps c.swap.new.x.items
+    let after = indexed_at rs c.swap.new.x.items in
+    subst (λ (xs : List (Indexed (List Counts))). IsPermutation xs after) (ap (λ (v : ReceivedOf). v.items) c.self.view_is)
+    (IsPermutation-map (λ (p : ℕ). (receipt_at rs p).indexed) ps c.swap.new.x.items
     (subst (IsPermutation ps) (sym is) (met_same rs ps c.self.invariant)))

@@ -4,9 +4,9 @@ use Rattle.dv_syntax.specs.Trees.{model_of}
 use Rattle.dv_tree.specs.Reached.{borrowed_models, marked}
 use Rattle.dv_tree.proofs.reached.Reached.marked.Given as goal
 
-abbrev pub invariant-loop-place : goal.invariant-loop-place
-invariant-loop-place l = record {
-  models : borrowed_models l.reached.models.items ++ marked (drop l.place l.marks) (map model_of (drop l.place l.models))
+abbrev pub invariant-loop-index : goal.invariant-loop-index
+invariant-loop-index l = record {
+  models : borrowed_models l.reached.models.items ++ marked (drop l.index l.marks) (map model_of (drop l.index l.models))
       ≡ marked l.marks (map model_of l.models);
-  places : map (slice_get (map model_of l.models)) l.reached.places.items ≡ map Some (borrowed_models l.reached.models.items);
+  indices : map (slice_get (map model_of l.models)) l.reached.indices.items ≡ map Some (borrowed_models l.reached.models.items);
 }

@@ -8,6 +8,6 @@ use Rattle.dv_valid.specs.Marks.{mark_of}
 use Rattle.dv_valid.proofs.marks.Marks.fit.Given as goal
 
 -- the instructions so far are fine
-abbrev pub invariant-loop-place : goal.invariant-loop-place
-invariant-loop-place l = (place : ℕ) (i : Instruction) → place < l.place → slice_get l.code place ≡ Some i
-    → IsFine l.shape (left_by l.shape.sort) deepest_loops (length l.self.by_place.items) (mark_of l.self) place i
+abbrev pub invariant-loop-address : goal.invariant-loop-address
+invariant-loop-address l = (address : ℕ) (i : Instruction) → address < l.address → slice_get l.code address ≡ Some i
+    → IsFine l.shape (left_by l.shape.sort) deepest_loops (length l.self.by_address.items) (mark_of l.self) address i

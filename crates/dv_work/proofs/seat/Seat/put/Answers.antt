@@ -10,23 +10,23 @@ pub put_held-requires-clause-all_true : goal.put_held-requires-clause-all_true
 put_held-requires-clause-all_true g c =
     let s = c.hold.new.self in
     let xs = s.outs.items in
-    let inside : c.args.place < length xs = omega (arith, c.requires.place, c.hold.ensures.ends) in
-    let read = slice_get_read xs (length xs) c.args.place c.index_mut-end.result.now refl inside c.index_mut-end.ensures.value in
+    let inside : c.args.index < length xs = omega (arith, c.requires.index, c.hold.ensures.ends) in
+    let read = slice_get_read xs (length xs) c.args.index c.index_mut-end.result.now refl inside c.index_mut-end.ensures.value in
     given_is_true g.N.OfJob.job s.number (g.P.LogicalProcess.state s.process) c.index_mut-end.result.now
-    (c.hold.ensures.sits.outs.gives c.args.place c.index_mut-end.result.now read)
+    (c.hold.ensures.sits.outs.gives c.args.index c.index_mut-end.result.now read)
 
 pub returns-then-not-put_held-clause-sits : goal.returns-then-not-put_held-clause-sits
 returns-then-not-put_held-clause-sits g c =
     let s = c.hold.new.self in
     let sits = c.hold.ensures.sits in
     let xs = s.outs.items in
-    let inside : c.args.place < length xs = omega (arith, c.requires.place, c.hold.ensures.ends) in
-    let read = slice_get_read xs (length xs) c.args.place c.index_mut-end.result.now refl inside c.index_mut-end.ensures.value in
+    let inside : c.args.index < length xs = omega (arith, c.requires.index, c.hold.ensures.ends) in
+    let read = slice_get_read xs (length xs) c.args.index c.index_mut-end.result.now refl inside c.index_mut-end.ensures.value in
     record {
       valid = sits.valid;
       fed = sits.fed;
       outs = given_outs g.N.OfJob.job g.P.LogicalProcess.state g.P.LogicalProcess.handed g.P.LogicalProcess.valid c.args.floor.now.links.now s sits
-          c.args.place c.index_mut-end.result.now c.put_held.new.end read c.put_held.ensures.number c.put_held.ensures.end
+          c.args.index c.index_mut-end.result.now c.put_held.new.end read c.put_held.ensures.number c.put_held.ensures.end
           c.put_held.ensures.given;
       ins = sits.ins;
       posted = sits.posted;
@@ -37,13 +37,13 @@ returns-clause-sits g c =
     let s = c.hold.new.self in
     let sits = c.hold.ensures.sits in
     let xs = s.outs.items in
-    let inside : c.args.place < length xs = omega (arith, c.requires.place, c.hold.ensures.ends) in
-    let read = slice_get_read xs (length xs) c.args.place c.index_mut-end.result.now refl inside c.index_mut-end.ensures.value in
+    let inside : c.args.index < length xs = omega (arith, c.requires.index, c.hold.ensures.ends) in
+    let read = slice_get_read xs (length xs) c.args.index c.index_mut-end.result.now refl inside c.index_mut-end.ensures.value in
     record {
       valid = sits.valid;
       fed = sits.fed;
       outs = given_outs g.N.OfJob.job g.P.LogicalProcess.state g.P.LogicalProcess.handed g.P.LogicalProcess.valid c.args.floor.now.links.now s sits
-          c.args.place c.index_mut-end.result.now c.put_held.new.end read c.put_held.ensures.number c.put_held.ensures.end
+          c.args.index c.index_mut-end.result.now c.put_held.new.end read c.put_held.ensures.number c.put_held.ensures.end
           c.put_held.ensures.given;
       ins = sits.ins;
       posted = sits.posted;
@@ -51,26 +51,26 @@ returns-clause-sits g c =
 
 pub returns-then-not-put_held-clause-others : goal.returns-then-not-put_held-clause-others
 returns-then-not-put_held-clause-others g c = λ i other.
-    set_other c.hold.new.self.outs.items c.args.place i c.put_held.new.end other ∙ c.hold.ensures.others i other
+    set_other c.hold.new.self.outs.items c.args.index i c.put_held.new.end other ∙ c.hold.ensures.others i other
 
 pub returns-then-not-put_held-clause-kept : goal.returns-then-not-put_held-clause-kept
 returns-then-not-put_held-clause-kept g c =
     let s = c.hold.new.self in
     let xs = s.outs.items in
-    let inside : c.args.place < length xs = omega (arith, c.requires.place, c.hold.ensures.ends) in
-    let read = slice_get_read xs (length xs) c.args.place c.index_mut-end.result.now refl inside c.index_mut-end.ensures.value in
-    kept_at_end s c.args.place c.index_mut-end.result.now c.put_held.new.end read c.put_held.ensures.number g.P.LogicalProcess.state
+    let inside : c.args.index < length xs = omega (arith, c.requires.index, c.hold.ensures.ends) in
+    let read = slice_get_read xs (length xs) c.args.index c.index_mut-end.result.now refl inside c.index_mut-end.ensures.value in
+    kept_at_end s c.args.index c.index_mut-end.result.now c.put_held.new.end read c.put_held.ensures.number g.P.LogicalProcess.state
     c.args.self.now c.hold.ensures.kept
 
 pub returns-clause-others : goal.returns-clause-others
 returns-clause-others g c = λ i other.
-    set_other c.hold.new.self.outs.items c.args.place i c.put_held.new.end other ∙ c.hold.ensures.others i other
+    set_other c.hold.new.self.outs.items c.args.index i c.put_held.new.end other ∙ c.hold.ensures.others i other
 
 pub returns-clause-kept : goal.returns-clause-kept
 returns-clause-kept g c =
     let s = c.hold.new.self in
     let xs = s.outs.items in
-    let inside : c.args.place < length xs = omega (arith, c.requires.place, c.hold.ensures.ends) in
-    let read = slice_get_read xs (length xs) c.args.place c.index_mut-end.result.now refl inside c.index_mut-end.ensures.value in
-    kept_at_end s c.args.place c.index_mut-end.result.now c.put_held.new.end read c.put_held.ensures.number g.P.LogicalProcess.state
+    let inside : c.args.index < length xs = omega (arith, c.requires.index, c.hold.ensures.ends) in
+    let read = slice_get_read xs (length xs) c.args.index c.index_mut-end.result.now refl inside c.index_mut-end.ensures.value in
+    kept_at_end s c.args.index c.index_mut-end.result.now c.put_held.new.end read c.put_held.ensures.number g.P.LogicalProcess.state
     c.args.self.now c.hold.ensures.kept

@@ -1,8 +1,0 @@
-use Rattle.dv_lex.proofs.Refusals.{refusal_place}
-use Rattle.dv_lex.proofs.laws.refusals_have_places.Goals as goal
-
-pub returns-clause-in_text : goal.returns-clause-in_text
-returns-clause-in_text c = λ text r h. (refusal_place text r.number r.place h).0
-
-pub returns-clause-small : goal.returns-clause-small
-returns-clause-small c = λ text r h. (refusal_place text r.number r.place h).1

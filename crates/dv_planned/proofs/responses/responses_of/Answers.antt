@@ -1,6 +1,0 @@
-use Rattle.std.proofs.Common.{◌∙◌}
-use Rattle.dv_planned.proofs.Lists.{all_ticks}
-use Rattle.dv_planned.proofs.responses.responses_of.Goals as goal
-
-pub returns : goal.returns
-returns c = all_ticks c.in_ok-responses.field-0.responses.items ∙ c.in_ok-responses.ensures.responses

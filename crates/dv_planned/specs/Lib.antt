@@ -1,2 +1,0 @@
--- What is planned of a text.
-pub mod Texts

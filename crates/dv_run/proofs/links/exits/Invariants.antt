@@ -1,0 +1,7 @@
+use Rattle.std.proofs.Common.{◌≡◌, ◌++◌, drop, map}
+use Rattle.dv_share.specs.Links.{link_of}
+use Rattle.dv_sound.specs.Members.{exit_of}
+use Rattle.dv_run.proofs.links.exits.Given as goal
+
+abbrev pub invariant-loop-link : goal.invariant-loop-link
+invariant-loop-link l = map link_of l.found.items ++ map exit_of (drop l.link-index l.links) ≡ map exit_of l.links

@@ -1,0 +1,41 @@
+-- How what ran ended, by how its rounds ended or its workers.
+use Rattle.std.specs.Prelude.{◌≡◌, ℕ, Bool, true, false, Option, None, Some}
+use Rattle.dv_conservative.specs.World.{Job}
+use Rattle.dv_core.specs.declared.step.Ended.{Ended as RoundsEnded}
+use Rattle.dv_core.specs.declared.step.Ended.TheVariants as rounds
+use Rattle.dv_plan.specs.Runs.{HasRun}
+use Rattle.dv_plan.specs.declared.ran.Committed.{Committed}
+use Rattle.dv_stream.specs.declared.ran.Ran.{Ran}
+use Rattle.dv_stream.specs.declared.ran.RunEnded.{RunEnded}
+use Rattle.dv_stream.specs.declared.ran.RunEnded.TheVariants.{Cut, Whole}
+use Rattle.dv_stream.specs.declared.ran.Why.TheVariants as why
+use Rattle.dv_work.specs.declared.report.Ended.{Ended as WorkersEnded}
+use Rattle.dv_work.specs.declared.report.Ended.TheVariants as workers
+
+abbrev pub by_rounds : RoundsEnded → RunEnded
+by_rounds rounds.Whole = Whole
+by_rounds rounds.Stalled = Cut why.Rounds
+by_rounds rounds.Memory = Cut why.Memory
+
+-- by workers, where the whole trace was written or not
+abbrev pub by_workers : {C : Type 0} → (is_whole : Bool) → WorkersEnded C → RunEnded
+by_workers true ended = Whole
+by_workers false (workers.Stopped c) = Cut why.Stopped
+by_workers false workers.Whole = Cut why.Memory
+by_workers false workers.Cancelled = Cut why.Memory
+by_workers false workers.Memory = Cut why.Memory
+
+-- the cause for which it was stopped
+abbrev pub cause_of : {C : Type 0} → (is_whole : Bool) → WorkersEnded C → Option C
+cause_of true ended = None
+cause_of false (workers.Stopped c) = Some c
+cause_of false workers.Whole = None
+cause_of false workers.Cancelled = None
+cause_of false workers.Memory = None
+
+-- Rounds of a new world, so many at most, led to the clocks of what ran, which ended as they did.
+pub record HasRunInRounds (job : Job) (capacity rounds : ℕ) (r : Ran) : Type 0 where
+  pub committed : Committed
+  pub run : HasRun job capacity rounds committed
+  pub clocks : r.clocks ≡ committed.clocks
+  pub ended : r.ended ≡ by_rounds committed.ended
