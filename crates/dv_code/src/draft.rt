@@ -189,6 +189,19 @@ fn own(state: &mut Cow<State>) -> Result<(), AllocError>
     ensures owned { OnOk result (IsOwned state.new) }
     ensures same { cow_value state.new ≡ cow_value state.old }
 {
+    match state {
+        Cow::Owned(_) => Ok(()),
+        Cow::Borrowed(_) => own_lent(state),
+    }
+}
+
+// The same where the state may be lent. It is copied at most once in a run, and that stays out of the code of the others.
+#[cold]
+#[inline(never)]
+fn own_lent(state: &mut Cow<State>) -> Result<(), AllocError>
+    ensures owned { OnOk result (IsOwned state.new) }
+    ensures same { cow_value state.new ≡ cow_value state.old }
+{
     if let Cow::Borrowed(lent) = state {
         *state = Cow::Owned((*lent).clone()?);
     }

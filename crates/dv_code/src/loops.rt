@@ -11,7 +11,7 @@ use dv_bag::Arrivals;
 
 impl Stack<OpenLoop> {
     /// Moves the innermost loop to its next value if there is one, and ends it otherwise.
-    #[inline]
+    #[inline(always)]
     pub(crate) fn advance(&mut self, arrivals: &Arrivals) -> bool
         requires { 0 < length self.old }
         ensures { AdvanceInnermost (turns_of arrivals.now self.old) result

@@ -39,7 +39,7 @@ impl OpenLoop {
     }
 
     /// Goes on to the next value, if there is one.
-    #[inline]
+    #[inline(always)]
     pub(crate) fn next(&mut self, arrivals: &Arrivals) -> bool
         ensures { Advances (turn_of arrivals.now self.old).rest result
             (turn_of arrivals.now self.new) }

@@ -14,7 +14,7 @@ use crate::setup::{Setup, set_up};
 use crate::written::write_end;
 use dv_bag::Bags;
 use dv_partition::Partition;
-use dv_run::{RanByWorkers, TextJob, Unwatched, Watch, compiled_workers};
+use dv_run::{RanByWorkers, TextJob, Unwatched, Watch, WorkerBounds, compiled_workers};
 use dv_text::laws::a_trace_is_its_pieces;
 use dv_tree::Tree;
 use std::alloc::Global;
@@ -119,10 +119,12 @@ fn work_tree<R: Threads + Wait + Sync, G: Watch, W: Write>(
         horizon: options.horizon,
         limit: options.limit,
     };
-    let capacity = options.capacity as usize;
-    let workers = workers as usize;
+    let bounds = WorkerBounds {
+        workers: workers as usize,
+        capacity: options.capacity as usize,
+    };
     let RanByWorkers { ran, cause } = compiled_workers(
-        rt, alloc, &job, &links, workers, capacity, watch, writer,
+        rt, alloc, &job, &links, bounds, watch, writer,
     )?;
     let ended = write_end(alloc, &ran, options.horizon, writer)?;
     Ok(EndedByWorkers { ended, cause })

@@ -10,7 +10,7 @@ use Rattle.dv_conservative.specs.Links.{Delivery as Meant, delivered, inbox}
 use Rattle.dv_share.specs.Links.{delivery_of}
 use Rattle.dv_share.proofs.Inboxes.{delivered_more}
 use Rattle.dv_share.proofs.Indices.{yes_or_no}
-use Rattle.dv_local.specs.Comings.{entered_by}
+use Rattle.dv_local.specs.Arrivals.{entered_by}
 
 abbrev pub entered : Input → Meant
 entered i = delivery_of (entered_by i)

@@ -19,12 +19,13 @@ use Rattle.dv_devs.proofs.NextTimes.{rank_at_time, time_of_run}
 use Rattle.dv_conservative.specs.Flat.{network, numbers}
 use Rattle.dv_conservative.specs.Links.{Delivery, carried, sent_of}
 use Rattle.dv_conservative.proofs.Bags.{nothing_arrives}
-use Rattle.dv_agenda.specs.declared.arrival.Arrival.{Arrival}
+use Rattle.dv_share.specs.Links.{delivery_of}
+use Rattle.dv_share.specs.declared.link.Delivery.{Delivery as DeliveryOfCode}
 use Rattle.dv_share.specs.declared.tables.Member.{Member}
 use Rattle.dv_share.proofs.Indices.{yes_or_no}
 use Rattle.dv_proc.specs.Local.{IsFirstInput, View, brings_at}
 use Rattle.dv_local.specs.Shares.{AreOfRun, IsLed}
-use Rattle.dv_local.specs.States.{AllArrive, IsOfPort, delivery_of, view_by}
+use Rattle.dv_local.specs.States.{AllArrive, IsOfPort, view_by}
 use Rattle.dv_local.specs.Undoing.{arrivals_but}
 use Rattle.dv_local.specs.declared.state.LocalState.{LocalState}
 use Rattle.dv_local.proofs.Inboxes.{but_all, but_some}
@@ -66,7 +67,7 @@ module _ (v : View) (k : ℕ) (one other : ℕ → Type 0) (calm : (n : ℕ) →
             (h.0, h.1, h.2, λ n from below. calm n (h.3 n from below) (g.3 n from (omega (arith, below, le))))
       ]
 
-first_reaches : (ms : List Member) (xs : List Arrival) → 0 < length xs → All (IsOfPort ms) xs
+first_reaches : (ms : List Member) (xs : List DeliveryOfCode) → 0 < length xs → All (IsOfPort ms) xs
     → (m : Member) × (port : ℕ) × Contains ms m × (port < m.inputs) × Reaches m.number port (map delivery_of xs)
 first_reaches ms [] lt h = absurd (omega (arith, lt))
 first_reaches ms (a ∷ xs) lt h =
@@ -95,7 +96,7 @@ module _ {S R : Type 0} (behaviour : S → Behaviour) (told : R → PartOf) (x :
   abbrev pub limit : ℕ
   limit = x.share.tables.limit
 
-  abbrev pub but : Time → List Arrival
+  abbrev pub but : Time → List DeliveryOfCode
   but t = arrivals_but x.undo.taken t x.inbox
 
   abbrev pub QuietInside : ℕ → Type 0
@@ -107,7 +108,7 @@ module _ {S R : Type 0} (behaviour : S → Behaviour) (told : R → PartOf) (x :
   pub calm : (n : ℕ) → QuietInside n → QuietOutside n → brings_at v n ≡ false
   calm n h g =
       let f = v.share.flat in
-      ap (λ (xs : List Arrival). not (no_values ((network f).arrives (nothing_sent (network f)) (v.share.outside n, map delivery_of xs)))) h
+      ap (λ (xs : List DeliveryOfCode). not (no_values ((network f).arrives (nothing_sent (network f)) (v.share.outside n, map delivery_of xs)))) h
       ∙ ap not (nothing_arrives f (v.share.outside n) g)
 
   abbrev coming : ℕ → List Delivery

@@ -1,3 +1,4 @@
+pub mod ArrivalMaps
 pub mod Undoing
 pub mod Waits
 pub mod Ports

@@ -1,5 +1,5 @@
 -- What takes place at an instant is what the theory says, and the components after it are put in.
-use Rattle.std.proofs.Common.{◌≡◌, ℕ, ◌<◌, Bool, false, cond, List, [], ◌∷◌, ◌++◌, length, map, Option}
+use Rattle.std.proofs.Common.{◌≡◌, ℕ, ◌<◌, Bool, false, cond, List, [], ◌++◌, length, Option}
 use Rattle.std.proofs.Common.{Some, None, refl, sym, ap, ap₂, subst, ◌∙◌, arith}
 use Rattle.dv_time.specs.Time.{IsOfRun, rank, time_of}
 use Rattle.dv_time.specs.declared.time.Time.{Time}
@@ -17,7 +17,7 @@ use Rattle.dv_conservative.specs.Links.{Delivery, carried, inbox, sent_of as sen
 use Rattle.dv_react.specs.Components.{components_of}
 use Rattle.dv_react.specs.Outcomes.{Outcome}
 use Rattle.dv_react.specs.declared.running.Running.{Running}
-use Rattle.dv_agenda.specs.Comings.{arrivals_at}
+use Rattle.dv_local.specs.Arrivals.{arrivals_at}
 use Rattle.dv_share.specs.Indices.{indices_of}
 use Rattle.dv_share.specs.Share.{AreAmong, AreComponents, AreEmitted, AreOutcomes, AreReceived, StandByIndex, coming, flat_by}
 use Rattle.dv_share.specs.Share.{numbers_of, reactions_by, sent_in}
@@ -26,12 +26,10 @@ use Rattle.dv_share.proofs.Commits.{entries_of_instant}
 use Rattle.dv_share.proofs.Instants.{outcomes_are}
 use Rattle.dv_share.specs.declared.index.Indexed.{Indexed}
 use Rattle.dv_proc.specs.Local.{IsAfterInstant, View, input_at}
-use Rattle.dv_local.specs.Comings.{delivered_by}
 use Rattle.dv_local.specs.Commits.{HaveReacted}
-use Rattle.dv_agenda.specs.declared.arrival.Arrival.{Arrival}
 use Rattle.dv_share.specs.Links.{deliveries_of}
 use Rattle.dv_share.specs.declared.link.Delivery.{Delivery as DeliveryOfCode}
-use Rattle.dv_local.specs.States.{delivery_of, held_by, view_by}
+use Rattle.dv_local.specs.States.{held_by, view_by}
 use Rattle.dv_local.specs.Shares.{share_by}
 use Rattle.dv_agenda.proofs.RanksOfWaits.{same_as_rank}
 use Rattle.dv_share.proofs.Indices.{differ}
@@ -66,24 +64,19 @@ module _ {S R : Type 0} (behaviour : S → Behaviour) (x : LocalState S R) (n : 
       ∙ ap (λ (ks : List ℕ). outer_from t.limit n 0 (inbox 0 (carried t.exits (sent_from ks (emissions net.behaviours n cs))) 0
       t.outputs)) (sym numbers))
 
-delivered : (xs : List Arrival) → deliveries_of (map delivered_by xs) ≡ map delivery_of xs
-delivered [] = refl
-delivered (x ∷ xs) = ap (λ (ds : List Delivery). delivery_of x ∷ ds) (delivered xs)
-
 -- what comes in is what is seen to come in
 pub input_is : {S R : Type 0} (behaviour : S → Behaviour) (told : R → PartOf) (x : LocalState S R) (now : Time) (outside : List Counts)
     (ds : List DeliveryOfCode)
     → IsOfRun x.share.tables.limit now → x.undo.taken ≡ None
     → outside ≡ inputs_at x.share.tables.limit x.share.ports x.share.inputs (rank x.share.tables.limit now)
-    → ds ≡ map delivered_by (arrivals_at now x.inbox) → (outside, deliveries_of ds)
+    → ds ≡ arrivals_at now x.inbox → (outside, deliveries_of ds)
     ≡ input_at (view_by behaviour told x) (rank x.share.tables.limit now)
 input_is behaviour told x now outside ds of_run taken o d =
     let limit = x.share.tables.limit in
     ap₂ (λ (a : List Counts) (b : List Delivery). (a, b)) o
     (ap (λ (es : List DeliveryOfCode). deliveries_of es) d
-    ∙ delivered (arrivals_at now x.inbox)
-    ∙ ap (λ (t : Time). map delivery_of (arrivals_at t x.inbox)) (sym (time_of-rank limit now of_run))
-    ∙ ap (λ (u : Option Time). map delivery_of (arrivals_but u (time_of limit (rank limit now)) x.inbox)) (sym taken))
+    ∙ ap (λ (t : Time). deliveries_of (arrivals_at t x.inbox)) (sym (time_of-rank limit now of_run))
+    ∙ ap (λ (u : Option Time). deliveries_of (arrivals_but u (time_of limit (rank limit now)) x.inbox)) (sym taken))
 
 not_taken : (limit m : ℕ) (now : Time) → IsOfRun limit now → rank limit now < m → is_taken (Some now) (time_of limit m) ≡ false
 not_taken limit m now of_run lt =
@@ -140,6 +133,6 @@ module _ {S R : Type 0} (behaviour : S → Behaviour) (fits : S → State → Ty
             (instant_part behaviour x n outside ds os emitted outcomes _ _ refl refl
             ∙ ap (λ (i : List Counts × List Delivery). part_of_instant limit net n i (components_of limit standing)) input);
         held = λ m lt.
-            ap (λ (b : Bool). map delivery_of (cond b [] (arrivals_at (time_of limit m) x.inbox))) (not_taken limit m now of_run lt)
+            ap (λ (b : Bool). deliveries_of (cond b [] (arrivals_at (time_of limit m) x.inbox))) (not_taken limit m now of_run lt)
             ∙ ap (λ (t : Option Time). held_by limit t x.inbox m) (sym taken);
       }

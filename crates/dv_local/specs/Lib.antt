@@ -4,8 +4,8 @@ pub mod Shares
 pub mod Components
 -- How components are put back, and what they wait for.
 pub mod Undoing
--- What events bring to an inbox.
-pub mod Comings
+-- What events bring, and what arrives at each time.
+pub mod Arrivals
 -- What the components of a process stand at.
 pub mod States
 -- How a component reacts where it stands, and what is committed at an instant.

@@ -1,5 +1,5 @@
 -- What the components of a process stand at.
-use Rattle.std.specs.Prelude.{◌≡◌, ℕ, ◌<◌, ◌≤◌, List, [], map, length, count_by, Option, None, Some}
+use Rattle.std.specs.Prelude.{◌≡◌, ℕ, ◌<◌, ◌≤◌, List, [], length, count_by, Option, None, Some}
 use Rattle.std.specs.List.{All}
 use Rattle.dv_time.specs.Time.{IsOfRun, rank, time_of}
 use Rattle.dv_time.specs.declared.time.Time.{Time}
@@ -9,23 +9,20 @@ use Rattle.dv_bag.specs.declared.state.State.{State}
 use Rattle.dv_devs.specs.Behaviour.{Behaviour, is_imminent}
 use Rattle.dv_react.specs.Components.{components_of}
 use Rattle.dv_react.specs.declared.running.Running.{Running}
-use Rattle.dv_conservative.specs.Links.{Delivery}
-use Rattle.dv_agenda.specs.Comings.{Arrivals, arrivals_at}
-use Rattle.dv_agenda.specs.declared.arrival.Arrival.{Arrival}
+use Rattle.dv_conservative.specs.Links.{Delivery as Meant}
 use Rattle.dv_share.specs.Share.{AreComponents, AreEmitted, StandByIndex, sents_by}
+use Rattle.dv_share.specs.declared.link.Delivery.{Delivery}
 use Rattle.dv_share.specs.declared.tables.Member.{Member}
+use Rattle.dv_share.specs.Links.{deliveries_of}
 use Rattle.dv_proc.specs.Local.{View}
+use Rattle.dv_local.specs.Arrivals.{Arrivals, arrivals_at}
 use Rattle.dv_local.specs.Shares.{IsShare, IsPortOf, share_by}
 use Rattle.dv_local.specs.Undoing.{AreWithin, arrivals_but, undone, waits_of}
 use Rattle.dv_local.specs.declared.state.LocalState.{LocalState}
 
--- the delivery that an arrival is: its component goes by its number
-abbrev pub delivery_of : Arrival → Delivery
-delivery_of a = record { component = a.component; port = a.port; value = a.value; copies = a.copies }
-
 -- what an inbox holds for each rank, but for a time that is taken
-abbrev pub held_by : ℕ → Option Time → Arrivals → ℕ → List Delivery
-held_by limit taken inbox n = map delivery_of (arrivals_but taken (time_of limit n) inbox)
+abbrev pub held_by : ℕ → Option Time → Arrivals → ℕ → List Meant
+held_by limit taken inbox n = deliveries_of (arrivals_but taken (time_of limit n) inbox)
 
 -- what is seen of it
 abbrev pub view_by : {S R : Type 0} → (S → Behaviour) → (R → PartOf) → LocalState S R → View
@@ -51,9 +48,9 @@ settled_by behaviour settled x = record {
 abbrev pub sent_of : {S R : Type 0} → LocalState S R → List (List Counts)
 sent_of x = sents_by 0 x.share.tables.members.items x.emitted.items
 
--- an arrival brings something: there is a copy, and a port for it
-abbrev pub IsOfPort : List Member → Arrival → Type 0
-IsOfPort ms a = (0 < a.copies) × IsPortOf ms a.component a.port
+-- a delivery brings something: there is a copy, and a port for it
+abbrev pub IsOfPort : List Member → Delivery → Type 0
+IsOfPort ms d = (0 < d.copies) × IsPortOf ms d.component d.port
 
 -- each arrival is at a time of the run and brings something
 abbrev pub AllArrive : ℕ → List Member → Arrivals → Type 0

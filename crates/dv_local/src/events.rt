@@ -1,4 +1,4 @@
-//! What events bring to an inbox, the events that deliveries are, and the deliveries that arrivals and inputs are.
+//! What events bring to an inbox, the events that deliveries are, and the deliveries that inputs are.
 
 ghost use Rattle.std.specs.Prelude.{◌≡◌, ◌++◌, IfOk, filter, map};
 ghost use Rattle.std.specs.List.{take_while};
@@ -6,40 +6,43 @@ ghost use Rattle.dv_bag.specs.Inputs.{is_at};
 ghost use Rattle.dv_proc.specs.Packets.{meant_events};
 ghost use Rattle.dv_share.specs.Links.{deliveries_of};
 ghost use Rattle.dv_conservative.specs.Events.{event_of};
-ghost use Rattle.dv_local.specs.Comings.{brings, coming_of, delivered_by, entered_by};
+ghost use Rattle.dv_local.specs.Arrivals.{brings, delivery_in, entered_by};
 
-use dv_agenda::{Arrival, Coming};
 use dv_bag::Input;
 use dv_proc::Event;
 use dv_share::Delivery;
 use dv_time::Time;
 use std::alloc::{AllocError, Global};
 
-/// What events bring. One without copies brings nothing, and neither does one at a time that is none of the run.
+/// The delivery that an event is at its time.
+pub(crate) fn delivery_in(event: &Event) -> Delivery
+    ensures { result ≡ delivery_in event.now }
+{
+    Delivery {
+        component: event.component,
+        port: event.port,
+        value: event.value,
+        copies: event.copies,
+    }
+}
+
+/// The events that bring something. One without copies brings nothing, and neither does one at a time that is none of the
+/// run.
 ///
 /// # Errors
 ///
-/// No memory for it.
-pub(crate) fn comings_of(
+/// No memory for them.
+pub(crate) fn bringing(
     alloc: Global,
     limit: u32,
     events: &[Event],
-) -> Result<Vec<Coming>, AllocError>
-    ensures { IfOk result (λ comings. comings.items
-        ≡ map coming_of (filter (brings limit) events.now)) }
+) -> Result<Vec<Event>, AllocError>
+    ensures { IfOk result (λ found. found.items ≡ filter (brings limit) events.now) }
 {
     events
         .iter()
         .filter(|event| event.copies > 0 && event.time.micro <= limit)
-        .map(|event| Coming {
-            time: event.time,
-            arrival: Arrival {
-                component: event.component,
-                port: event.port,
-                value: event.value,
-                copies: event.copies,
-            },
-        })
+        .copied()
         .collect(alloc)
 }
 
@@ -66,31 +69,6 @@ pub(crate) fn add_events(
         })?;
     }
     Ok(())
-}
-
-/// The deliveries that arrivals are.
-///
-/// # Errors
-///
-/// No memory for them.
-pub(crate) fn deliveries_of(
-    alloc: Global,
-    arrivals: &[Arrival],
-) -> Result<Vec<Delivery>, AllocError>
-    ensures { IfOk result (λ ds. ds.items ≡ map delivered_by arrivals.now) }
-{
-    if arrivals.is_empty() {
-        return Ok(Vec::new(alloc));
-    }
-    arrivals
-        .iter()
-        .map(|arrival| Delivery {
-            component: arrival.component,
-            port: arrival.port,
-            value: arrival.value,
-            copies: arrival.copies,
-        })
-        .collect(alloc)
 }
 
 /// The inputs at a time that stand in front, as deliveries to the outside.

@@ -12,6 +12,7 @@
 
 /// A process as its run begins.
 pub mod beginning;
+mod by_time;
 mod commit;
 
 /// The components, of which each visit is counted.
@@ -21,6 +22,9 @@ mod events;
 
 /// What components were before they reacted.
 pub mod former;
+
+/// What came from other processes, by time.
+pub mod inbox;
 
 /// What a process asks for.
 pub mod local_run;
@@ -42,6 +46,7 @@ mod waiting;
 pub use beginning::begin;
 pub use components::Components;
 pub use former::Former;
+pub use inbox::Inbox;
 pub use local_run::LocalRun;
 pub use scratch::Scratch;
 pub use share::{Share, Way};

@@ -18,7 +18,7 @@ pub struct LocalRun<A: Atomic, R: Record> {
 
 impl<A: Atomic, R: Record> Model for LocalRun<A, R> {
     ghost use Rattle.std.specs.Coded.{codes};
-    ghost use Rattle.dv_agenda.specs.contracts.inbox.Inbox as inbox;
+    ghost use Rattle.dv_local.specs.contracts.inbox.Inbox as inbox;
     ghost use Rattle.dv_local.specs.declared.state.LocalState.{LocalState};
     ghost use Rattle.dv_local.specs.States.{IsKept};
 

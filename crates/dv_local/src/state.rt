@@ -20,14 +20,15 @@ ghost use Rattle.dv_local.specs.States.{IsAtRest, IsKept, imminent_of, sent_of, 
 use crate::commit::commit;
 use crate::components::Components;
 use crate::emission::emit_all;
-use crate::events::{add_events, comings_of, deliveries_of};
+use crate::events::{add_events, bringing};
 use crate::former::Former;
+use crate::inbox::Inbox;
 use crate::moment::Moment;
 use crate::scratch::Scratch;
 use crate::share::Share;
 use crate::undo::{Undo, agenda_of, let_go, put_all_back};
 use crate::waiting::{first_held, first_outside, is_taken, outside_at};
-use dv_agenda::{Agenda, Inbox};
+use dv_agenda::Agenda;
 use dv_bag::{Fault, Response, Sent};
 use dv_proc::{Event, Frame};
 use dv_react::{Atomic, Instant, Running};
@@ -199,8 +200,8 @@ impl<A: Atomic, R: Record> LocalState<A, R> {
         ensures handed { R.handed self.new.record ≡ R.handed self.old.record }
     {
         self.settle();
-        let comings = comings_of(self.alloc, self.share.tables.limit, events)?;
-        self.inbox.add_all(&comings)
+        let brought = bringing(self.alloc, self.share.tables.limit, events)?;
+        self.inbox.add_all(&brought)
     }
 
     /// Finds what they send at a time, from their states alone. Each that is due is visited once; what was found for the
@@ -289,12 +290,11 @@ impl<A: Atomic, R: Record> LocalState<A, R> {
         };
         let emitted = self.emitted.as_slice();
         let outside = outside_at(self.alloc, &self.share.inputs, self.share.ports, now)?;
-        let held = deliveries_of(self.alloc, self.inbox.at(now))?;
         arrivals(
             tables,
             emitted,
             &outside,
-            &held,
+            self.inbox.at(now),
             &mut self.scratch.carried,
             &mut self.scratch.received,
         )?;

@@ -1,13 +1,14 @@
 //! How what was done is taken back.
 
 ghost use Rattle.std.specs.Prelude.{◌≡◌, ◌<◌, ◌≤◌, ◌+◌, ◌-◌, ◌^◌, [], IfOk, length, slice_set};
-ghost use Rattle.dv_agenda.specs.Comings.{arrivals_at};
+ghost use Rattle.dv_local.specs.Arrivals.{arrivals_at};
 ghost use Rattle.dv_time.specs.declared.time.Time.{Time as TimeOfCode};
 ghost use Rattle.dv_local.specs.Undoing.{AreWithin, arrivals_but, time_of_wait, undone, waits_of};
 
 use crate::components::Components;
 use crate::former::Former;
-use dv_agenda::{Agenda, Inbox};
+use crate::inbox::Inbox;
+use dv_agenda::Agenda;
 use dv_react::{Running, Wait};
 use dv_time::Time;
 use std::alloc::{AllocError, Global};

@@ -5,12 +5,12 @@ ghost use Rattle.dv_time.specs.Limits.{greatest_limit};
 ghost use Rattle.dv_time.specs.Time.{IsOfRun, is_before, rank};
 ghost use Rattle.dv_time.specs.declared.time.Time.{Time as TimeOfCode};
 ghost use Rattle.dv_bag.specs.Inputs.{IsByTime, inputs_at, inputs_before, next_from, time_at};
-ghost use Rattle.dv_agenda.specs.Comings.{arrivals_at};
+ghost use Rattle.dv_local.specs.Arrivals.{arrivals_at};
 ghost use Rattle.dv_local.specs.Shares.{AreOfRun};
 ghost use Rattle.dv_local.specs.Undoing.{arrivals_but, is_taken};
 
 use crate::events::entering_at;
-use dv_agenda::Inbox;
+use crate::inbox::Inbox;
 use dv_bag::{Bags, Input, Inputs};
 use dv_proc::window::is_same;
 use dv_share::arrival::bags_of;

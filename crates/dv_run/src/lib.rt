@@ -39,4 +39,4 @@ pub use responses::least_responses;
 pub use steps::compiled_steps;
 pub use text_job::TextJob;
 pub use text_plan::plan_text;
-pub use workers::compiled_workers;
+pub use workers::{WorkerBounds, compiled_workers};

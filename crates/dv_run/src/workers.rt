@@ -1,18 +1,16 @@
 //! The compiled model of a text, run by workers on threads.
 
-ghost use Rattle.std.specs.Prelude.{◌≢◌, ◌↔◌, ◌<◌, ◌≡◌, ℕ, None, Some, IfOk, IsSome, OnErr, length, slice_get};
+ghost use Rattle.std.specs.Prelude.{◌≢◌, ◌↔◌, ◌<◌, ◌≡◌, None, IfOk, IsSome, OnErr, length};
 ghost use Rattle.dv_board.specs.Jobs.{IsMergeable};
 ghost use Rattle.dv_check.specs.Refusals.{AreOfOneText, refusal_of};
-ghost use Rattle.dv_core.specs.Worlds.{end_time};
 ghost use Rattle.dv_devs.specs.Clocks.{least_rank};
 ghost use Rattle.dv_run.specs.Texts.{AreComponentsOf, AreLinksOf, text_job};
 ghost use Rattle.dv_run.specs.Runs.{IsCutShort, IsPrinted};
 ghost use Rattle.dv_sound.specs.Jobs.{AllInputNumbers};
-ghost use Rattle.dv_stream.specs.Clocks.{AreWithin};
+ghost use Rattle.dv_stream.specs.Endings.{HasRunByWorkers};
 ghost use Rattle.dv_stream.specs.Written.{IsBegun, IsWrittenTo};
 ghost use Rattle.dv_syntax.specs.Trees.{file_of};
-ghost use Rattle.dv_time.specs.Time.{end_of, rank};
-ghost use Rattle.dv_time.specs.declared.time.Time.{Time as MeantTime};
+ghost use Rattle.dv_time.specs.Time.{end_of};
 ghost use Rattle.dv_stream.specs.declared.ran.RunEnded.TheVariants.{Cut, Whole};
 ghost use Rattle.dv_stream.specs.declared.ran.Why.TheVariants.{Rounds, Stopped};
 
@@ -26,7 +24,7 @@ use dv_gen::laws::texts_are_compilable;
 use dv_plain::laws::networks_of_texts;
 use dv_sound::jobs::parts_of_the_flat_model_are_those_of_the_text;
 use dv_sound::outside::what_leaves_a_flat_model_is_linear;
-use dv_stream::{RanByWorkers, Watch, stream_plan_by_workers};
+use dv_stream::{RanByWorkers, Watch, Workers, stream_plan_by_workers};
 use dv_text::WriteError;
 use dv_text::laws::a_trace_is_its_instants;
 use std::alloc::{AllocError, Global};
@@ -34,12 +32,21 @@ use std::io::Write;
 use std::sync::Wait;
 use std::thread::Threads;
 
-/// Runs the compiled model of a text by its programs and its links, with inputs, in processes on `workers` threads, to
-/// a horizon in ticks, and writes the lines of the trace before the least clock while it runs, whatever the timing of
-/// the threads. Process p is run by worker p mod `workers`. A link holds at most `capacity` packets. `watch` may watch
-/// each turn and stop the run for a cause. If it is stopped, or memory is refused to a worker, or a thread is refused, the
-/// lines are those of what was known then, which is not all of the run, and the ending tells which. The cause is told exactly
-/// where it ended so; of several it is that of the worker with the least number.
+/// What bounds a run by workers.
+#[derive(Clone, Copy, Debug, PartialEq, Eq)]
+pub struct WorkerBounds {
+    /// How many workers there are.
+    pub workers: usize,
+    /// How many packets are on their way on a link at most.
+    pub capacity: usize,
+}
+
+/// Runs the compiled model of a text by its programs and its links, with inputs, in processes on a thread for each worker, to a
+/// horizon in ticks, and writes the lines of the trace before the least clock while it runs, whatever the timing of the threads.
+/// Process p is run by worker p mod their number. `watch` may watch each turn and stop the run for a cause. If it is stopped, or
+/// memory is refused to a worker, or a thread is refused, the lines are those of what was known then, which is not all of the run,
+/// and the ending tells which. The cause is told exactly where it ended so; of several it is that of the worker with the least
+/// number.
 ///
 /// # Errors
 ///
@@ -50,8 +57,7 @@ pub fn compiled_workers<R: Threads + Wait + Sync, G: Watch, W: Write>(
     alloc: Global,
     job: &TextJob<'_, '_>,
     links: &LinkLists,
-    workers: usize,
-    capacity: usize,
+    bounds: WorkerBounds,
     watch: &G,
     writer: &mut W,
 ) -> Result<RanByWorkers<G::Cause>, WriteError>
@@ -59,8 +65,8 @@ pub fn compiled_workers<R: Threads + Wait + Sync, G: Watch, W: Write>(
     requires accepted { refusal_of (file_of job.now.tree.now.file) ≡ None }
     requires numbers { AllInputNumbers job.now.inputs.now }
     requires links { AreLinksOf (file_of job.now.tree.now.file) links.now }
-    requires workers { 0 < workers }
-    requires capacity { 0 < capacity }
+    requires workers { 0 < bounds.workers }
+    requires capacity { 0 < bounds.capacity }
     ensures printed { IfOk result (λ r. IsPrinted job.now.tree.now.names
         (file_of job.now.tree.now.file) job.now.inputs.now job.now.groups.now
         job.now.horizon job.now.limit
@@ -86,10 +92,13 @@ pub fn compiled_workers<R: Threads + Wait + Sync, G: Watch, W: Write>(
     let _processes = job.groups.processes();
     let mut bench = Bench::new(alloc);
     let components = components_of(&mut bench, job.tree, job.limit)?;
-    let benches = benches_of(alloc, workers)?;
-    let worked = work_components(
-        rt, alloc, job, components, links, benches, capacity, watch, writer,
-    )?;
+    let works = benches_of(alloc, bounds.workers)?;
+    let workers = Workers {
+        works,
+        capacity: bounds.capacity,
+        watch,
+    };
+    let worked = work_components(rt, alloc, job, components, links, workers, writer)?;
     Ok(worked)
 }
 
@@ -111,9 +120,7 @@ fn work_components<R: Threads + Wait + Sync, G: Watch, W: Write>(
     job: &TextJob<'_, '_>,
     components: Components,
     links: &LinkLists,
-    benches: Vec<Bench>,
-    capacity: usize,
-    watch: &G,
+    workers: Workers<'_, Bench, G>,
     writer: &mut W,
 ) -> Result<RanByWorkers<G::Cause>, WriteError>
     requires text { AreOfOneText job.now.tree.now.names (file_of job.now.tree.now.file) }
@@ -123,20 +130,11 @@ fn work_components<R: Threads + Wait + Sync, G: Watch, W: Write>(
         components.models.items components.members.items components.responses.items }
     requires links { AreLinksOf (file_of job.now.tree.now.file) links.now }
     requires merges { IsMergeable (text_job job.now) }
-    requires workers { 0 < length benches.items }
-    requires capacity { 0 < capacity }
+    requires workers { 0 < length workers.works.items }
+    requires capacity { 0 < workers.capacity }
+    ensures run { IfOk result (HasRunByWorkers (text_job job.now)) }
     ensures written { IfOk result (λ w. IsWrittenTo (text_job job.now) job.now.tree.now
         (W.contents writer.old) (W.contents writer.new) w.ran.written) }
-    ensures some_clocks { IfOk result (λ w. 0 < length w.ran.clocks.items) }
-    ensures count { IfOk result (λ w. length w.ran.clocks.items ≡ (text_job job.now).processes) }
-    ensures least { IfOk result (λ w. rank job.now.limit w.ran.written.mark
-        ≡ least_rank job.now.limit w.ran.clocks.items) }
-    ensures within { IfOk result (λ w. AreWithin job.now.horizon job.now.limit w.ran.clocks.items) }
-    ensures whole { IfOk result (λ w. (w.ran.ended ≡ Whole)
-        ↔ ((p : ℕ) (t : MeantTime) → slice_get w.ran.clocks.items p ≡ Some t
-        → t ≡ end_time (text_job job.now))) }
-    ensures ended { IfOk result (λ w. w.ran.ended ≢ Cut Rounds) }
-    ensures cause { IfOk result (λ w. IsSome w.cause ↔ (w.ran.ended ≡ Cut Stopped)) }
     ensures err { OnErr result (IsBegun (text_job job.now) job.now.tree.now
         (W.contents writer.old) (W.contents writer.new)) }
 {
@@ -146,7 +144,5 @@ fn work_components<R: Threads + Wait + Sync, G: Watch, W: Write>(
         responses,
     } = components;
     let plan = plan_of(alloc, job, &models, members, responses, links)?;
-    stream_plan_by_workers(
-        rt, alloc, job, plan, benches, capacity, watch, job.tree, writer,
-    )
+    stream_plan_by_workers(rt, alloc, job, plan, workers, job.tree, writer)
 }

@@ -1,14 +1,20 @@
 -- How what ran ended, by how its rounds ended or its workers.
-use Rattle.std.specs.Prelude.{◌≡◌, ℕ, Bool, true, false, Option, None, Some}
+use Rattle.std.specs.Prelude.{◌≡◌, ◌≢◌, ◌↔◌, ◌<◌, ℕ, Bool, true, false, IsSome, Option, None, Some, length, slice_get}
 use Rattle.dv_conservative.specs.World.{Job}
+use Rattle.dv_core.specs.Worlds.{end_time}
 use Rattle.dv_core.specs.declared.step.Ended.{Ended as RoundsEnded}
 use Rattle.dv_core.specs.declared.step.Ended.TheVariants as rounds
+use Rattle.dv_devs.specs.Clocks.{least_rank}
 use Rattle.dv_plan.specs.Runs.{HasRun}
 use Rattle.dv_plan.specs.declared.ran.Committed.{Committed}
+use Rattle.dv_stream.specs.Clocks.{AreWithin}
 use Rattle.dv_stream.specs.declared.ran.Ran.{Ran}
+use Rattle.dv_stream.specs.declared.ran.RanByWorkers.{RanByWorkers}
 use Rattle.dv_stream.specs.declared.ran.RunEnded.{RunEnded}
 use Rattle.dv_stream.specs.declared.ran.RunEnded.TheVariants.{Cut, Whole}
 use Rattle.dv_stream.specs.declared.ran.Why.TheVariants as why
+use Rattle.dv_time.specs.Time.{rank}
+use Rattle.dv_time.specs.declared.time.Time.{Time}
 use Rattle.dv_work.specs.declared.report.Ended.{Ended as WorkersEnded}
 use Rattle.dv_work.specs.declared.report.Ended.TheVariants as workers
 
@@ -39,3 +45,14 @@ pub record HasRunInRounds (job : Job) (capacity rounds : ℕ) (r : Ran) : Type 0
   pub run : HasRun job capacity rounds committed
   pub clocks : r.clocks ≡ committed.clocks
   pub ended : r.ended ≡ by_rounds committed.ended
+
+-- Workers led to the clocks of what ran, one for each process, none past the end, and the trace is written to the least of them. The
+-- run is whole exactly where every clock is at the end, never cut for want of rounds, and stopped exactly where a cause is told.
+pub record HasRunByWorkers {C : Type 0} (job : Job) (r : RanByWorkers C) : Type 0 where
+  pub some_clocks : 0 < length r.ran.clocks.items
+  pub count : length r.ran.clocks.items ≡ job.processes
+  pub least : rank job.limit r.ran.written.mark ≡ least_rank job.limit r.ran.clocks.items
+  pub within : AreWithin job.horizon job.limit r.ran.clocks.items
+  pub whole : (r.ran.ended ≡ Whole) ↔ ((p : ℕ) (t : Time) → slice_get r.ran.clocks.items p ≡ Some t → t ≡ end_time job)
+  pub ended : r.ran.ended ≢ Cut why.Rounds
+  pub cause : IsSome r.cause ↔ (r.ran.ended ≡ Cut why.Stopped)

@@ -7,7 +7,7 @@ pub mod Alone
 pub mod Endings
 -- Clocks of a run.
 pub mod Clocks
--- Workers, for whom a job is a type.
+-- What workers leave of a job.
 pub mod Workers
 -- ---- What serves proofs
 -- What is joined between rounds.

@@ -1,4 +1,4 @@
--- Workers, for whom a job is a type.
+-- What workers leave of a job.
 use Rattle.std.specs.Prelude.{◌≡◌, ◌↔◌, ℕ, slice_get, Some}
 use Rattle.dv_board.specs.declared.posts.Piece.{Piece}
 use Rattle.dv_conservative.specs.World.{Job}
@@ -6,10 +6,6 @@ use Rattle.dv_core.specs.Worlds.{end_time}
 use Rattle.dv_work.specs.Reached.{AreReached}
 use Rattle.dv_stream.specs.declared.rest.Left.{Left}
 use Rattle.dv_work.specs.declared.report.Ended.TheVariants.{Whole}
-
--- the job that is meant, where it is at hand itself
-abbrev pub job_of_type : Job → Job
-job_of_type job = job
 
 -- What workers leave of a job: what each process committed and did not post, and that the run is whole exactly where every clock is
 -- at the end.

@@ -36,7 +36,7 @@ pub mod workers;
 /// What was written of a trace.
 pub mod written;
 
-pub use planned::stream_plan_by_workers;
+pub use planned::{Workers, stream_plan_by_workers};
 pub use ran::{Ran, RanByWorkers, RunEnded, Why};
 pub use rounds::{Bounds, stream_plan};
 pub use watch::{Unwatched, Watch};

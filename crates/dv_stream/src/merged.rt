@@ -9,6 +9,7 @@ ghost use Rattle.dv_stream.specs.Written.{Falters, GoesOn};
 
 use crate::written::{Written, write_piece};
 use dv_bag::Bags;
+use dv_board::Backlog;
 use dv_core::PlannedJob;
 use dv_lines::TraceWriter;
 use dv_merge::{PartSlice, merge};
@@ -18,6 +19,15 @@ use dv_time::Time;
 use dv_written::OfJob;
 use std::alloc::Global;
 use std::io::Write;
+
+/// What merges the pieces of all processes and writes them.
+#[derive(Drop)]
+pub struct Merger<'t, N: OfJob> {
+    /// What is joined and not written yet.
+    pub backlog: Backlog<N>,
+    /// What makes the lines.
+    pub lines: TraceWriter<'t, N>,
+}
 
 /// Writes what the trace of a job has from what was written on and before another mark. The pieces are what each process
 /// committed in between.

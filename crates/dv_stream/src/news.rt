@@ -5,6 +5,7 @@ ghost use Rattle.dv_time.specs.Time.{IsOfRun, end_of, rank};
 ghost use Rattle.dv_board.specs.Clocks.{IsLeast};
 ghost use Rattle.dv_stream.specs.Written.{Falters, GoesOn, IsBegun, IsWrittenTo};
 
+use crate::merged::Merger;
 use crate::written::{Written, write_piece};
 use dv_bag::Bags;
 use dv_board::{Backlog, Board, Piece};
@@ -23,9 +24,11 @@ use std::thread::yield_now;
 // made starts within a thousandth of that.
 const LOOKS_FOR_A_BEGINNING: u32 = 1_000_000;
 
-/// What the loop beside the workers and the workers themselves look at.
+/// What the loop beside the workers and the workers themselves share: the board with what is posted, and what tells them of each other.
 #[derive(Drop)]
-pub struct Signals {
+pub struct Signals<N: OfJob> {
+    /// Where workers post what their processes committed.
+    pub board: Board<N>,
     /// Is raised once the run has begun.
     pub begun: Flag,
     /// Is raised once the loop takes what is posted; no process runs away from it then.
@@ -49,16 +52,17 @@ fn ring_all<R: Wait>(rt: &R, bells: &[Bell]) {
     }
 }
 
-impl Signals {
-    /// Of a run that has not begun, of so many processes by so many workers.
+impl<N: OfJob> Signals<N> {
+    /// Of a run that has not begun, of so many processes by so many workers. Nothing is posted.
     ///
     /// # Errors
     ///
     /// No memory for the bells and the leads.
-    pub fn new(alloc: Global, processes: usize, workers: usize) -> Result<Signals, AllocError>
+    pub fn new(alloc: Global, processes: usize, workers: usize) -> Result<Self, AllocError>
         ensures { IfOk result (λ signals. length signals.bells.items ≡ workers) }
     {
         Ok(Signals {
+            board: Board::new(alloc),
             begun: Flag::new(),
             paced: Flag::new(),
             news: Bell::new(),
@@ -70,11 +74,11 @@ impl Signals {
     }
 
     /// Where workers post, and what they look at.
-    pub fn stream<'a, N: OfJob>(&'a self, board: &'a Board<N>) -> Stream<'a, N>
+    pub fn stream(&self) -> Stream<'_, N>
         ensures { result.bells.now ≡ self.now.bells.items }
     {
         Stream {
-            board,
+            board: &self.board,
             news: &self.news,
             stop: self.stop.view(),
             paced: &self.paced,
@@ -105,7 +109,7 @@ impl Signals {
     }
 
     /// Tells the workers that pieces were taken off the board.
-    pub fn note_taken<N: OfJob, R: Wait>(&self, rt: &R, pieces: &[Piece<N>]) {
+    pub fn note_taken<R: Wait>(&self, rt: &R, pieces: &[Piece<N>]) {
         let mut may_go_on = false;
         for piece in pieces {
             if self.leads.take_off(piece.process, piece.part.entry_count()) {
@@ -165,60 +169,57 @@ fn write_known<N: OfJob, W: Write>(
 /// A write failed, or there is no memory for a line. The writer holds a beginning of the lines.
 pub(crate) fn write_joined<N: OfJob, W: Write>(
     alloc: Global,
-    backlog: &mut Backlog<N>,
+    merger: &mut Merger<'_, N>,
     before: Written,
-    lines: &mut TraceWriter<'_, N>,
     writer: &mut W,
 ) -> Result<Written, WriteError>
     requires of_run { IsOfRun N.job.limit before.mark }
     requires within { rank N.job.limit before.mark ≤ end_of N.job.limit N.job.horizon }
-    ensures tree { lines.new ≡ lines.old }
-    ensures ok { IfOk result (GoesOn N.job lines.old
+    ensures tree { merger.new.lines ≡ merger.old.lines }
+    ensures ok { IfOk result (GoesOn N.job merger.old.lines
         (W.contents writer.old) (W.contents writer.new) before) }
     ensures within { IfOk result (λ after.
         rank N.job.limit after.mark ≤ end_of N.job.limit N.job.horizon) }
-    ensures err { OnErr result (Falters N.job lines.old
+    ensures err { OnErr result (Falters N.job merger.old.lines
         (W.contents writer.old) (W.contents writer.new) before) }
 {
     // What nothing is added to goes on at once.
     a_trace_is_its_pieces::<Bags>();
-    match write_known(alloc, backlog, before, lines, writer)? {
+    match write_known(alloc, &merger.backlog, before, &mut merger.lines, writer)? {
         Some(written) => {
-            backlog.let_go(written.mark);
+            merger.backlog.let_go(written.mark);
             Ok(written)
         }
         None => Ok(before),
     }
 }
 
-// Takes off a board what was posted, writes what is then known of the trace, and lets go of it. Where a piece is lost the run is to
+// Takes off the board what was posted, writes what is then known of the trace, and lets go of it. Where a piece is lost the run is to
 // end, since the trace has a gap there.
 fn write_posted<N: OfJob, R: Wait, W: Write>(
     rt: &R,
     alloc: Global,
-    board: &Board<N>,
-    backlog: &mut Backlog<N>,
-    signals: &Signals,
+    signals: &Signals<N>,
+    merger: &mut Merger<'_, N>,
     before: Written,
-    lines: &mut TraceWriter<'_, N>,
     writer: &mut W,
 ) -> Result<Written, WriteError>
     requires of_run { IsOfRun N.job.limit before.mark }
     requires within { rank N.job.limit before.mark ≤ end_of N.job.limit N.job.horizon }
-    ensures tree { lines.new ≡ lines.old }
-    ensures ok { IfOk result (GoesOn N.job lines.old
+    ensures tree { merger.new.lines ≡ merger.old.lines }
+    ensures ok { IfOk result (GoesOn N.job merger.old.lines
         (W.contents writer.old) (W.contents writer.new) before) }
     ensures within { IfOk result (λ after.
         rank N.job.limit after.mark ≤ end_of N.job.limit N.job.horizon) }
-    ensures err { OnErr result (Falters N.job lines.old
+    ensures err { OnErr result (Falters N.job merger.old.lines
         (W.contents writer.old) (W.contents writer.new) before) }
 {
-    let pieces = board.take(rt, alloc);
+    let pieces = signals.board.take(rt, alloc);
     signals.note_taken(rt, &pieces);
-    if backlog.extend_all(pieces).is_err() {
+    if merger.backlog.extend_all(pieces).is_err() {
         signals.stop(rt);
     }
-    write_joined(alloc, backlog, before, lines, writer)
+    write_joined(alloc, merger, before, writer)
 }
 
 /// Writes the trace of a job, with the names of a tree, as its workers post it, until their run has ended: at each ring for news
@@ -231,18 +232,16 @@ fn write_posted<N: OfJob, R: Wait, W: Write>(
 pub fn write_news<N: OfJob, R: Wait, W: Write>(
     rt: &R,
     alloc: Global,
-    board: &Board<N>,
-    backlog: &mut Backlog<N>,
-    signals: &Signals,
-    lines: &mut TraceWriter<'_, N>,
+    signals: &Signals<N>,
+    merger: &mut Merger<'_, N>,
     writer: &mut W,
 ) -> Result<Written, WriteError>
-    ensures tree { lines.new ≡ lines.old }
-    ensures written { IfOk result (IsWrittenTo N.job lines.old
+    ensures tree { merger.new.lines ≡ merger.old.lines }
+    ensures written { IfOk result (IsWrittenTo N.job merger.old.lines
         (W.contents writer.old) (W.contents writer.new)) }
     ensures within { IfOk result (λ w.
         rank N.job.limit w.mark ≤ end_of N.job.limit N.job.horizon) }
-    ensures err { OnErr result (IsBegun N.job lines.old
+    ensures err { OnErr result (IsBegun N.job merger.old.lines
         (W.contents writer.old) (W.contents writer.new)) }
 {
     // Lines are continued by those of the next piece.
@@ -255,7 +254,7 @@ pub fn write_news<N: OfJob, R: Wait, W: Write>(
     for _ in rt.forever() {
         let seen = signals.news.rings(rt);
         let is_last = signals.ended.is_raised();
-        written = write_posted(rt, alloc, board, backlog, signals, written, lines, writer)?;
+        written = write_posted(rt, alloc, signals, merger, written, writer)?;
         if is_last {
             return Ok(written);
         }

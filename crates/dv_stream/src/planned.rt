@@ -1,24 +1,21 @@
 //! The processes of a plan, run by workers.
 
-ghost use Rattle.std.specs.Prelude.{◌≡◌, ◌≢◌, ◌↔◌, ◌<◌, ℕ, List, Some, slice_get, length, IfOk, IsSome, OnErr};
+ghost use Rattle.std.specs.Prelude.{◌≡◌, ◌<◌, List, length, IfOk, OnErr};
 ghost use Rattle.dv_bag.specs.Bag.{Counts};
 ghost use Rattle.dv_bag.specs.declared.entry.Entry.{Entry as MeantEntry};
 ghost use Rattle.dv_board.specs.Jobs.{IsMergeable};
-ghost use Rattle.dv_core.specs.Worlds.{end_time};
-ghost use Rattle.dv_devs.specs.Clocks.{least_rank};
+ghost use Rattle.dv_core.specs.Conservative.{IsConservative, state_by};
 ghost use Rattle.dv_lines.specs.Entries.{line_of};
+ghost use Rattle.dv_local.specs.States.{settled_by, view_by};
 ghost use Rattle.dv_plan.specs.Beginning.{CanRun};
-ghost use Rattle.dv_stream.specs.Clocks.{AreWithin};
+ghost use Rattle.dv_stream.specs.Endings.{HasRunByWorkers};
 ghost use Rattle.dv_stream.specs.Written.{IsBegun, IsWrittenTo};
 ghost use Rattle.dv_text.specs.Names.{tree_names};
-ghost use Rattle.dv_time.specs.Time.{rank};
-ghost use Rattle.dv_time.specs.declared.time.Time.{Time as MeantTime};
-ghost use Rattle.dv_stream.specs.declared.ran.RunEnded.TheVariants.{Cut, Whole};
-ghost use Rattle.dv_stream.specs.declared.ran.Why.TheVariants.{Rounds, Stopped};
+ghost use Rattle.dv_work.specs.Crews.{IsCrewFor};
 
 use crate::ran::RanByWorkers;
 use crate::watch::{Watch, Watched};
-use crate::workers::{Crew, stream_watched};
+use crate::workers::stream_watched;
 use dv_core::PlannedJob;
 use dv_lines::{TreeWords, WrittenRecord, WrittenRecords};
 use dv_local::LocalRun;
@@ -28,17 +25,28 @@ use dv_proc::Process;
 use dv_react::Atomic;
 use dv_text::WriteError;
 use dv_tree::Tree;
+use dv_work::Crew;
 use dv_written::{HandsOver, MakesRecord, OfJob};
-use std::alloc::Global;
+use std::alloc::{AllocError, Global};
 use std::io::Write;
 use std::marker::Brand;
 use std::sync::Wait;
 use std::thread::Threads;
 
-/// Runs the processes of a plan from their start on threads, a worker for each of `works`, and writes the trace, with the names of
-/// a tree, while they run. Process p belongs to worker p mod the number of workers. So many packets may be on their way on each link;
-/// one more may be in the hand of its sender. `watch` may watch each turn and stop the run for a cause; of several causes that of the
-/// worker with the least number is told. Whatever it does, and whatever the timing of the threads, what was written is the trace
+/// The workers of a run.
+#[derive(Drop)]
+pub struct Workers<'w, K, G> {
+    /// What the turns of each work with, by the worker's number.
+    pub works: Vec<K>,
+    /// How many packets may be on their way on each link; one more may be in the hand of its sender.
+    pub capacity: usize,
+    /// Who watches each turn.
+    pub watch: &'w G,
+}
+
+/// Runs the processes of a plan from their start on threads, and writes the trace, with the names of a tree, while they run. Process p
+/// belongs to worker p mod the number of workers. `watch` may watch each turn and stop the run for a cause; of several causes that of
+/// the worker with the least number is told. Whatever it does, and whatever the timing of the threads, what was written is the trace
 /// before the least of the clocks, none of which is past the end, and a run is told whole exactly where every clock is at the end.
 ///
 /// # Errors
@@ -56,9 +64,7 @@ pub fn stream_plan_by_workers<
     alloc: Global,
     job: &J,
     plan: Plan<A>,
-    works: Vec<A::Work>,
-    capacity: usize,
-    watch: &G,
+    workers: Workers<'_, A::Work, G>,
     tree: &Tree,
     writer: &mut W,
 ) -> Result<RanByWorkers<G::Cause>, WriteError>
@@ -68,29 +74,16 @@ where
     requires run { CanRun J.means A.behaviour A.fits job.now plan }
     requires merges { IsMergeable (J.means job.now) }
     requires some { 0 < (J.means job.now).processes }
-    requires workers { 0 < length works.items }
-    requires capacity { 0 < capacity }
+    requires workers { 0 < length workers.works.items }
+    requires capacity { 0 < workers.capacity }
+    ensures run { IfOk result (HasRunByWorkers (J.means job.now)) }
     ensures written { IfOk result (λ w. IsWrittenTo (J.means job.now) tree.now
         (W.contents writer.old) (W.contents writer.new) w.ran.written) }
-    ensures some_clocks { IfOk result (λ w. 0 < length w.ran.clocks.items) }
-    ensures count { IfOk result (λ w. length w.ran.clocks.items ≡ (J.means job.now).processes) }
-    ensures least { IfOk result (λ w. rank (J.means job.now).limit w.ran.written.mark
-        ≡ least_rank (J.means job.now).limit w.ran.clocks.items) }
-    ensures within { IfOk result (λ w. AreWithin (J.means job.now).horizon
-        (J.means job.now).limit w.ran.clocks.items) }
-    ensures whole { IfOk result (λ w. (w.ran.ended ≡ Whole)
-        ↔ ((p : ℕ) (t : MeantTime) → slice_get w.ran.clocks.items p ≡ Some t
-        → t ≡ end_time (J.means job.now))) }
-    ensures ended { IfOk result (λ w. w.ran.ended ≢ Cut Rounds) }
-    ensures cause { IfOk result (λ w. IsSome w.cause ↔ (w.ran.ended ≡ Cut Stopped)) }
     ensures err { OnErr result (IsBegun (J.means job.now) tree.now
         (W.contents writer.old) (W.contents writer.new)) }
 {
     let words = TreeWords::of(alloc, tree)?;
-    let gate = Watched { watch };
-    stream_with_words::<Brand, J, A, G, R, W>(
-        rt, alloc, job, plan, works, capacity, &gate, &words, writer,
-    )
+    stream_with_words::<Brand, J, A, G, R, W>(rt, alloc, job, plan, workers, &words, writer)
 }
 
 // Makes the records by the words, and runs the processes of a plan with them. No parameter has the job in its type, so a caller can choose
@@ -108,9 +101,7 @@ fn stream_with_words<
     alloc: Global,
     job: &J,
     plan: Plan<A>,
-    works: Vec<A::Work>,
-    capacity: usize,
-    gate: &Watched<'_, G>,
+    workers: Workers<'_, A::Work, G>,
     words: &'w TreeWords<'w>,
     writer: &mut W,
 ) -> Result<RanByWorkers<G::Cause>, WriteError>
@@ -122,37 +113,35 @@ where
     requires run { CanRun J.means A.behaviour A.fits job.now plan }
     requires merges { IsMergeable (J.means job.now) }
     requires some { 0 < (J.means job.now).processes }
-    requires workers { 0 < length works.items }
-    requires capacity { 0 < capacity }
+    requires workers { 0 < length workers.works.items }
+    requires capacity { 0 < workers.capacity }
+    ensures run { IfOk result (HasRunByWorkers (J.means job.now)) }
     ensures written { IfOk result (λ w. IsWrittenTo (J.means job.now) words.now
         (W.contents writer.old) (W.contents writer.new) w.ran.written) }
-    ensures some_clocks { IfOk result (λ w. 0 < length w.ran.clocks.items) }
-    ensures count { IfOk result (λ w. length w.ran.clocks.items ≡ (J.means job.now).processes) }
-    ensures least { IfOk result (λ w. rank (J.means job.now).limit w.ran.written.mark
-        ≡ least_rank (J.means job.now).limit w.ran.clocks.items) }
-    ensures within { IfOk result (λ w. AreWithin (J.means job.now).horizon
-        (J.means job.now).limit w.ran.clocks.items) }
-    ensures whole { IfOk result (λ w. (w.ran.ended ≡ Whole)
-        ↔ ((p : ℕ) (t : MeantTime) → slice_get w.ran.clocks.items p ≡ Some t
-        → t ≡ end_time (J.means job.now))) }
-    ensures ended { IfOk result (λ w. w.ran.ended ≢ Cut Rounds) }
-    ensures cause { IfOk result (λ w. IsSome w.cause ↔ (w.ran.ended ≡ Cut Stopped)) }
     ensures err { OnErr result (IsBegun (J.means job.now) words.now
         (W.contents writer.old) (W.contents writer.new)) }
 {
+    let Workers {
+        works,
+        capacity,
+        watch,
+    } = workers;
     let records: WrittenRecords<'w, N> = words.records();
-    begin_and_stream::<N, J, A, WrittenRecord<'w, N>, WrittenRecords<'w, N>, G, R, W>(
-        rt, alloc, job, plan, works, capacity, gate, &records, words, writer,
+    let crew = begin_crew::<N, J, A, WrittenRecord<'w, N>, WrittenRecords<'w, N>>(
+        alloc, job, plan, works, capacity, &records,
+    )?;
+    let gate = Watched { watch };
+    stream_begun::<N, J, A, WrittenRecord<'w, N>, G, R, W>(
+        rt, alloc, job, crew, &gate, words, writer,
     )
 }
 
-// Begins the processes of a plan, each with a record that is made for it, and runs them.
-fn begin_and_stream<
+// Runs a crew of the processes of a plan, whose records are of any kind.
+fn stream_begun<
     N: OfJob + Send + Sync,
     J: PlannedJob,
     A: Atomic + Drop + Send,
     K: HandsOver<N> + Send,
-    M: MakesRecord<K>,
     G: Watch,
     R: Threads + Wait + Sync,
     W: Write,
@@ -160,11 +149,8 @@ fn begin_and_stream<
     rt: &R,
     alloc: Global,
     job: &J,
-    plan: Plan<A>,
-    works: Vec<A::Work>,
-    capacity: usize,
+    crew: Crew<Process<LocalRun<A, K>>, A::Work>,
     gate: &Watched<'_, G>,
-    records: &M,
     words: &TreeWords,
     writer: &mut W,
 ) -> Result<RanByWorkers<G::Cause>, WriteError>
@@ -172,32 +158,48 @@ where
     A::Work: Send + Drop,
     requires job { N.job ≡ J.means job.now }
     requires lines { (e : MeantEntry) → line_of (tree_names words.now) e ≡ N.line e }
-    requires comes { (a : A) (bags : List Counts) → A.comes a bags }
-    requires run { CanRun J.means A.behaviour A.fits job.now plan }
+    requires crew { IsCrewFor (J.means job.now) (state_by (view_by A.behaviour K.told))
+        (λ p. K.handed p.local.record)
+        (IsConservative (view_by A.behaviour K.told) (settled_by A.behaviour K.settled)) crew }
     requires merges { IsMergeable (J.means job.now) }
     requires some { 0 < (J.means job.now).processes }
-    requires workers { 0 < length works.items }
-    requires capacity { 0 < capacity }
+    ensures run { IfOk result (HasRunByWorkers (J.means job.now)) }
     ensures written { IfOk result (λ w. IsWrittenTo (J.means job.now) words.now
         (W.contents writer.old) (W.contents writer.new) w.ran.written) }
-    ensures some_clocks { IfOk result (λ w. 0 < length w.ran.clocks.items) }
-    ensures count { IfOk result (λ w. length w.ran.clocks.items ≡ (J.means job.now).processes) }
-    ensures least { IfOk result (λ w. rank (J.means job.now).limit w.ran.written.mark
-        ≡ least_rank (J.means job.now).limit w.ran.clocks.items) }
-    ensures within { IfOk result (λ w. AreWithin (J.means job.now).horizon
-        (J.means job.now).limit w.ran.clocks.items) }
-    ensures whole { IfOk result (λ w. (w.ran.ended ≡ Whole)
-        ↔ ((p : ℕ) (t : MeantTime) → slice_get w.ran.clocks.items p ≡ Some t
-        → t ≡ end_time (J.means job.now))) }
-    ensures ended { IfOk result (λ w. w.ran.ended ≢ Cut Rounds) }
-    ensures cause { IfOk result (λ w. IsSome w.cause ↔ (w.ran.ended ≡ Cut Stopped)) }
     ensures err { OnErr result (IsBegun (J.means job.now) words.now
         (W.contents writer.old) (W.contents writer.new)) }
 {
+    stream_watched::<N, J, Process<LocalRun<A, K>>, G, R, W>(
+        rt, alloc, job, crew, gate, words, writer,
+    )
+}
+
+// A crew of the processes of a plan, each with a record that is made for it.
+fn begin_crew<N: OfJob, J: PlannedJob, A: Atomic + Drop, K: HandsOver<N>, M: MakesRecord<K>>(
+    alloc: Global,
+    job: &J,
+    plan: Plan<A>,
+    works: Vec<A::Work>,
+    capacity: usize,
+    records: &M,
+) -> Result<Crew<Process<LocalRun<A, K>>, A::Work>, AllocError>
+where
+    A::Work: Drop,
+    requires comes { (a : A) (bags : List Counts) → A.comes a bags }
+    requires run { CanRun J.means A.behaviour A.fits job.now plan }
+    requires workers { 0 < length works.items }
+    requires capacity { 0 < capacity }
+    ensures { IfOk result (IsCrewFor (J.means job.now) (state_by (view_by A.behaviour K.told))
+        (λ p. K.handed p.local.record)
+        (IsConservative (view_by A.behaviour K.told) (settled_by A.behaviour K.settled))) }
+{
+    let _ = job;
     let Plan { links, shares } = plan;
     let processes = begin_each::<A, K, M>(alloc, shares, records)?;
-    let crew = Crew { processes, works };
-    stream_watched::<N, J, Process<LocalRun<A, K>>, G, R, W>(
-        rt, alloc, job, &links, crew, capacity, gate, words, writer,
-    )
+    Ok(Crew {
+        channels: links,
+        processes,
+        works,
+        capacity,
+    })
 }

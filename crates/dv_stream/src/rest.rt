@@ -13,11 +13,11 @@ ghost use Rattle.dv_time.specs.declared.time.Time.{Time as MeantTime};
 ghost use Rattle.dv_stream.specs.declared.ran.RunEnded.TheVariants.{Cut, Whole};
 ghost use Rattle.dv_stream.specs.declared.ran.Why.TheVariants.{Rounds, Stopped};
 
+use crate::merged::Merger;
 use crate::news::write_joined;
 use crate::ran::{RunEnded, Why};
 use crate::written::Written;
-use dv_board::{Backlog, Board, Piece};
-use dv_lines::TraceWriter;
+use dv_board::{Board, Piece};
 use dv_plan::least::least_clock;
 use dv_proc::window::is_same;
 use dv_text::WriteError;
@@ -46,27 +46,26 @@ pub fn write_rest<N: OfJob, R: Wait, W: Write>(
     rt: &R,
     alloc: Global,
     board: &Board<N>,
-    backlog: &mut Backlog<N>,
+    merger: &mut Merger<'_, N>,
     rest: Vec<Piece<N>>,
     before: Written,
-    lines: &mut TraceWriter<'_, N>,
     writer: &mut W,
 ) -> Result<Written, WriteError>
     requires rest { All (IsPiece N.job) rest.items }
     requires of_run { IsOfRun N.job.limit before.mark }
     requires within { rank N.job.limit before.mark ≤ end_of N.job.limit N.job.horizon }
-    ensures tree { lines.new ≡ lines.old }
-    ensures ok { IfOk result (GoesOn N.job lines.old
+    ensures tree { merger.new.lines ≡ merger.old.lines }
+    ensures ok { IfOk result (GoesOn N.job merger.old.lines
         (W.contents writer.old) (W.contents writer.new) before) }
     ensures within { IfOk result (λ after.
         rank N.job.limit after.mark ≤ end_of N.job.limit N.job.horizon) }
-    ensures err { OnErr result (Falters N.job lines.old
+    ensures err { OnErr result (Falters N.job merger.old.lines
         (W.contents writer.old) (W.contents writer.new) before) }
 {
     // Where a piece is lost, the clocks up to which the processes are kept tell it.
-    let _ = backlog.extend_all(board.take(rt, alloc));
-    let _ = backlog.extend_all(rest);
-    write_joined(alloc, backlog, before, lines, writer)
+    let _ = merger.backlog.extend_all(board.take(rt, alloc));
+    let _ = merger.backlog.extend_all(rest);
+    write_joined(alloc, merger, before, writer)
 }
 
 /// The clocks of processes whose trace was written up to a mark: those up to which they are kept, if the mark is the least of them.

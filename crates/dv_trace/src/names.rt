@@ -46,7 +46,7 @@ impl<'t> Directory<'t> {
 }
 
 fn components_of(alloc: Global, tree: &Tree) -> Result<IndexMap<String, u32>, AllocError> {
-    let mut components = IndexMap::new(alloc);
+    let mut components = IndexMap::with_capacity(alloc, tree.component_count())?;
     for component in 0..tree.component_count() {
         components.insert(tree.path_text(alloc, component)?, component as u32)?;
     }

@@ -5,7 +5,7 @@
 //! around. All ways that lead to an address have to agree with its mark.
 //!
 //! It is for programs that come from elsewhere. Those of the compiler (`dv_gen`) are valid by proof, so no run uses
-//! the validator: it stands in the tests of `dv_lists` and `dv_programs` alone. It does not say why a list is
+//! the validator: it stands in the tests of `test_lists` and `test_programs` alone. It does not say why a list is
 //! refused.
 #![tactic(auto)]
 

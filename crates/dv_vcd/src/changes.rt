@@ -9,10 +9,13 @@ use crate::values::{
     push_count, push_datum, push_nothing, push_number, push_standing, push_string, push_unknown,
 };
 use dv_bag::Input;
+use dv_eval::Domain;
+use dv_text::{WriteError, hand_over_if_long};
 use dv_trace::{Datum, EntryHead, Event, LineLists, Reach, Sending};
 use dv_tree::Tree;
 use indexmap::IndexMap;
 use std::alloc::{AllocError, Global};
+use std::io::Write;
 
 /// The text of the changes so far, as far as the writer has it not yet, and what is shown behind them.
 #[derive(Drop)]
@@ -72,8 +75,8 @@ impl<'a> Changes<'a> {
         }
     }
 
-    /// What everything shows at the start.
-    pub(crate) fn start(&mut self) -> Result<(), AllocError> {
+    /// What everything shows at the start. The writer has some of it then.
+    pub(crate) fn start<W: Write>(&mut self, writer: &mut W) -> Result<(), WriteError> {
         self.text.push_str("#0\n$dumpvars\n")?;
         if self.inputs.is_some() {
             let count = self.tree.input_count();
@@ -82,11 +85,13 @@ impl<'a> Changes<'a> {
         let count = self.tree.output_count();
         push_ports(&mut self.text, &self.ports, self.shown.outputs, count)?;
         for (component, shown) in self.shown.components.iter().enumerate() {
-            push_start(&mut self.text, shown)?;
+            push_start(&mut self.text, shown, domains_of(self.tree, component))?;
             let count = output_count(self.tree, component);
             push_ports(&mut self.text, &self.ports, shown.port(0), count)?;
+            hand_over_if_long(&mut self.text, writer)?;
         }
-        self.text.push_str("$end\n")
+        self.text.push_str("$end\n")?;
+        Ok(())
     }
 
     /// Goes on to a tick, by the inputs that arrive up to it.
@@ -172,7 +177,8 @@ impl<'a> Changes<'a> {
             Event::Transition { kind: _, phase } => {
                 let phase = phase_name(self.tree, component, phase);
                 move_to(&mut self.text, shown, Standing::Phase(phase))?;
-                follow_state(&mut self.text, shown, &lists.state)?;
+                let domains = domains_of(self.tree, component);
+                follow_state(&mut self.text, shown, domains, &lists.state)?;
             }
             Event::Fault(fault) => move_to(&mut self.text, shown, Standing::Fault(fault))?,
         }
@@ -224,6 +230,15 @@ impl<'a> Changes<'a> {
     }
 }
 
+// The domains of what a component holds: of its variables, flags, bags and queues.
+fn domains_of<'t>(tree: &'t Tree<'t>, component: usize) -> &'t [Domain] {
+    if component < tree.component_count() {
+        tree.scope(component).domains()
+    } else {
+        &[]
+    }
+}
+
 fn output_count(tree: &Tree, component: usize) -> usize {
     if component < tree.component_count() {
         tree.scope(component).output_count()
@@ -250,10 +265,15 @@ fn push_ports(
 }
 
 // What a component shows at the start, but for its ports.
-fn push_start(text: &mut String, shown: &Shown<'_>) -> Result<(), AllocError> {
+fn push_start(text: &mut String, shown: &Shown<'_>, domains: &[Domain]) -> Result<(), AllocError> {
     push_standing(text, shown.standing, shown.first)?;
     for (index, datum) in shown.state.iter().enumerate() {
-        push_datum(text, shown.form(index), *datum, shown.variable(index))?;
+        push_datum(
+            text,
+            Form::at(domains, index),
+            *datum,
+            shown.variable(index),
+        )?;
         if let Datum::Held(values) = datum {
             push_count(text, values.count, shown.size(index))?;
         }
@@ -288,12 +308,13 @@ fn move_to<'a>(
 fn follow_state<'a>(
     text: &mut String,
     shown: &mut Shown<'a>,
+    domains: &[Domain],
     state: &[Datum<'a>],
 ) -> Result<(), AllocError> {
     for (index, datum) in state.iter().enumerate() {
         match shown.state.get(index).copied() {
             Some(before) if before != *datum => {
-                push_change(text, shown, index, before, *datum)?;
+                push_change(text, shown, Form::at(domains, index), index, before, *datum)?;
                 set_datum(&mut shown.state, index, *datum);
             }
             Some(_) | None => {}
@@ -312,11 +333,12 @@ fn set_datum<'a>(state: &mut [Datum<'a>], index: usize, datum: Datum<'a>) {
 fn push_change(
     text: &mut String,
     shown: &Shown<'_>,
+    form: Form,
     index: usize,
     before: Datum<'_>,
     datum: Datum<'_>,
 ) -> Result<(), AllocError> {
-    push_datum(text, shown.form(index), datum, shown.variable(index))?;
+    push_datum(text, form, datum, shown.variable(index))?;
     match (before, datum) {
         (Datum::Held(before), Datum::Held(values)) if before.count != values.count => {
             push_count(text, values.count, shown.size(index))

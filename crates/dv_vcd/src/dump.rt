@@ -101,7 +101,7 @@ pub fn write_vcd<W: Write>(
     let mut text = String::new(alloc);
     write_header(alloc, &declared, &mut text, writer)?;
     let mut changes = Changes::new(alloc, &*tree, text, shown, survey.ports, inputs);
-    changes.start()?;
+    changes.start(writer)?;
     let part = read_part(trace, options.end);
     write_changes(alloc, &*tree, part, survey.reach, changes, writer)?;
     Ok(survey.reach)

@@ -23,6 +23,14 @@ impl Form {
             Domain::Held { .. } => Form::Text,
         }
     }
+
+    /// The form of what holds values of the domain at an index.
+    pub(crate) fn at(domains: &[Domain], index: usize) -> Form {
+        match domains.get(index) {
+            Some(domain) => Form::of(*domain),
+            None => Form::Text,
+        }
+    }
 }
 
 impl fmt::Display for Form {

@@ -112,7 +112,8 @@ fn push_component(
     // No variable and no port is named by a reserved word.
     push_variable(text, Form::Text, shown.first, "phases")?;
     for (index, name) in scope.variables().iter().enumerate() {
-        push_held(text, shown, index, tree.name(*name))?;
+        let form = Form::at(scope.domains(), index);
+        push_held(text, shown, form, index, tree.name(*name))?;
     }
     for (index, name) in scope.outputs().iter().enumerate() {
         let code = shown.port(index);
@@ -125,10 +126,10 @@ fn push_component(
 fn push_held(
     text: &mut String,
     shown: &Shown<'_>,
+    form: Form,
     index: usize,
     name: &str,
 ) -> Result<(), AllocError> {
-    let form = shown.form(index);
     push_variable(text, form, shown.variable(index), name)?;
     if form != Form::Text {
         return Ok(());

@@ -1,6 +1,5 @@
 //! What is shown of each component, and under which codes.
 
-use crate::forms::Form;
 use dv_bag::Fault;
 use dv_eval::Domain;
 use dv_trace::{Datum, Values};
@@ -21,7 +20,7 @@ pub(crate) struct Shown<'a> {
     /// The code of the phase.
     pub(crate) first: u64,
     pub(crate) standing: Standing<'a>,
-    pub(crate) domains: &'a [Domain],
+    /// What the variables, flags, bags and queues hold.
     pub(crate) state: Vec<Datum<'a>>,
 }
 
@@ -33,21 +32,12 @@ impl Shown<'_> {
 
     /// The code of the size of the bag or the queue at an index.
     pub(crate) fn size(&self, index: usize) -> u64 {
-        self.variable(self.domains.len())
-            .saturating_add(index as u64)
+        self.variable(self.state.len()).saturating_add(index as u64)
     }
 
     /// The code of the output port at an index.
     pub(crate) fn port(&self, index: usize) -> u64 {
-        self.size(self.domains.len()).saturating_add(index as u64)
-    }
-
-    /// The form of the variable at an index.
-    pub(crate) fn form(&self, index: usize) -> Form {
-        match self.domains.get(index) {
-            Some(domain) => Form::of(*domain),
-            None => Form::Text,
-        }
+        self.size(self.state.len()).saturating_add(index as u64)
     }
 }
 
@@ -70,7 +60,6 @@ pub(crate) fn all_shown<'a>(alloc: Global, tree: &'a Tree<'a>) -> Result<AllShow
         let shown = Shown {
             first: outputs,
             standing: Standing::Phase(start_phase(tree, component)),
-            domains: scope.domains(),
             state: start_state(alloc, scope.domains())?,
         };
         outputs = shown.port(scope.output_count());

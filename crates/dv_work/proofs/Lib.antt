@@ -7,6 +7,6 @@ pub mod Ends
 pub mod Making
 pub mod Reporting
 pub mod Posting
-pub mod Crewing
+pub mod ByWorker
 pub mod Endings
 pub mod Keeping

@@ -1,28 +1,18 @@
--- The processes of one worker, and what it leaves.
-use Rattle.std.specs.Prelude.{◌≡◌, ℕ, ◌%◌, List, slice_get, Some}
+-- What a run by workers is made of.
+use Rattle.std.specs.Prelude.{◌≡◌, ◌<◌, length}
 use Rattle.std.specs.List.{All}
-use Rattle.std.specs.declared.vec.Vec.{Vec}
-use Rattle.std.specs.declared.alloc.Global.{Global}
+use Rattle.dv_bag.specs.Part.{nothing}
 use Rattle.dv_conservative.specs.World.{Job}
 use Rattle.dv_core.specs.ProcessState.{ProcessState}
-use Rattle.dv_link.specs.declared.link.Link.{Link}
+use Rattle.dv_core.specs.Worlds.{AreMadeFor}
 use Rattle.dv_record.specs.Told.{Handed}
-use Rattle.dv_work.specs.Seats.{Reports, Sits}
-use Rattle.dv_work.specs.declared.seat.Seat.{Seat}
-use Rattle.dv_work.specs.declared.worker.Worked.{Worked}
+use Rattle.dv_work.specs.declared.crew.Crew.{Crew}
 
-pub record Seated {N P : Type 0} (job : Job) (state : P → ProcessState) (handed : P → Handed) (IsValid : P → Type 0)
-    (links : List (Link N)) (crew : Vec (Seat P) Global) : Type 0 where
-  pub sits : All (Sits job state handed IsValid links) crew.items
-
-pub record Reported {P C : Type 0} (job : Job) (state : P → ProcessState) (handed : P → Handed) (IsValid : P → Type 0) (w : Worked P C)
-    : Type 0 where
-  pub reports : All (Reports job state handed IsValid) w.seats.items
-
--- whoever is in the crew of a worker has a number that is that of the worker mod so many
-abbrev pub IsCrewOf : {P : Type 0} → (workers worker : ℕ) → List (Seat P) → Type 0
-IsCrewOf {P} workers worker seats = (i : ℕ) (s : Seat P) → slice_get seats i ≡ Some s → s.number % workers ≡ worker
-
--- so it is in all crews
-abbrev pub AreByWorker : {P : Type 0} → (workers : ℕ) → List (Vec (Seat P) Global) → Type 0
-AreByWorker {P} workers crews = (w : ℕ) (crew : Vec (Seat P) Global) → slice_get crews w ≡ Some crew → IsCrewOf workers w crew.items
+-- It is made for a job: of new processes, which have handed over nothing, with the channels between them; some worker is there, and
+-- each link has room.
+pub record IsCrewFor {P K : Type 0} (job : Job) (state : P → ProcessState) (handed : P → Handed) (IsValid : P → Type 0)
+    (crew : Crew P K) : Type 0 where
+  pub made : AreMadeFor (λ (j : Job). j) state IsValid job crew.channels.items crew.processes.items
+  pub kept : All (λ x. (handed x).past ≡ nothing) crew.processes.items
+  pub workers : 0 < length crew.works.items
+  pub room : 0 < crew.capacity

@@ -2,10 +2,12 @@
 pub mod Ends
 pub mod Seats
 -- The processes of one worker, and what it leaves.
+pub mod Workers
+-- What a run by workers is made of.
 pub mod Crews
 -- Processes as they get the ends of their links.
 pub mod Making
--- What a run is made of, and what it reports.
+-- What a run reports.
 pub mod Reached
 -- Flags, and how a run ends.
 pub mod Flags

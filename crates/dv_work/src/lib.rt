@@ -1,6 +1,6 @@
 //! Logical processes on threads: each worker owns its processes and the ends of their links.
 //!
-//! `run_streamed` starts the workers of a job. A worker visits its processes one after the other: at each visit it
+//! `run_streamed` starts the workers of a `Crew`, which has the processes of a job. A worker visits its processes one after the other: at each visit it
 //! takes a packet from each link that leads there, lets the process turn, and puts what it prepared; now and then it
 //! posts what was committed to the board of a `Stream`, and it waits at its `Bell` where nothing moved. A `Gate` is
 //! asked before each turn, and may stop the run. For any timing of the threads, what a process posts and what is left
@@ -66,6 +66,8 @@
 
 /// Bells, and flags.
 pub mod bell;
+/// What a run by workers is made of.
+pub mod crew;
 /// Who watches the turns.
 pub mod gate;
 /// How much of what processes posted waits to be taken.
@@ -84,6 +86,7 @@ pub mod setup;
 pub mod worker;
 
 pub use bell::{Bell, Flag, FlagView, Raised, bells_of};
+pub use crew::Crew;
 pub use gate::{Gate, Open};
 pub use lead::{Lead, Leads};
 pub use post::Stream;

@@ -6,7 +6,7 @@ ghost use Rattle.std.specs.List.{All};
 ghost use Rattle.dv_board.specs.declared.posts.Piece.{Piece as MeantPiece};
 ghost use Rattle.dv_core.specs.Worlds.{end_time};
 ghost use Rattle.dv_work.specs.declared.report.Ended.TheVariants.{Whole};
-ghost use Rattle.dv_work.specs.Crews.{Reported};
+ghost use Rattle.dv_work.specs.Workers.{Reported};
 ghost use Rattle.dv_work.specs.Endings.{EndsFor, cause_of, ended_by, first_of, lacks_memory};
 ghost use Rattle.dv_work.specs.Flags.{IsOfFlag};
 ghost use Rattle.dv_work.specs.Reached.{AreReached};

@@ -1,28 +1,25 @@
 //! Runs processes by workers.
 
-ghost use Rattle.std.specs.Prelude.{◌≡◌, ◌<◌, ◌≤◌, ◌↔◌, ◌+◌, ◌^◌, ℕ, length, map, slice_get, IfErr, IfOk, IfSome, IsSome, Some};
+ghost use Rattle.std.specs.Prelude.{◌≡◌, ◌<◌, ◌≤◌, ◌↔◌, ◌+◌, ℕ, length, slice_get, IfErr, IfOk, IfSome, IsSome, Some};
 ghost use Rattle.std.specs.List.{All};
-ghost use Rattle.dv_bag.specs.Part.{nothing};
 ghost use Rattle.dv_board.specs.declared.posts.Piece.{Piece as MeantPiece};
-ghost use Rattle.dv_conservative.specs.World.{Channel as MeantChannel};
-ghost use Rattle.dv_core.specs.Worlds.{AreMadeFor, end_time};
-ghost use Rattle.dv_proc.specs.Channels.{meant_channel};
+ghost use Rattle.dv_core.specs.Worlds.{end_time};
 ghost use Rattle.dv_work.specs.declared.report.Ended.TheVariants.{Cancelled, Whole};
-ghost use Rattle.dv_work.specs.Crews.{Reported, Seated};
+ghost use Rattle.dv_work.specs.Crews.{IsCrewFor};
+ghost use Rattle.dv_work.specs.Workers.{Reported, Seated};
 ghost use Rattle.dv_work.specs.Flags.{IsOfFlag};
-ghost use Rattle.dv_work.specs.Making.{AreNew};
 ghost use Rattle.dv_work.specs.Reached.{AreReached};
 
 use crate::bell::Flag;
+use crate::crew::Crew;
 use crate::gate::Gate;
 use crate::post::Stream;
 use crate::report::{Report, report_of};
 use crate::seat::{Floor, Seat};
-use crate::setup::{connect, crews_of, seats_of};
+use crate::setup::{connect, seats_by_worker, seats_of};
 use crate::worker::{Halt, Worked, work_at};
 use dv_core::{LogicalProcess, PlannedJob, ProcessHandsOver};
 use dv_link::Link;
-use dv_proc::Channel;
 use dv_written::OfJob;
 use std::alloc::{AllocError, Global};
 use std::marker::PhantomData;
@@ -37,7 +34,7 @@ pub struct Kept<N, P> {
 }
 
 impl<N: OfJob, P: LogicalProcess, C> Promise<Worked<P, C>> for Kept<N, P> {
-    ghost use Rattle.dv_work.specs.Crews.{Reported};
+    ghost use Rattle.dv_work.specs.Workers.{Reported};
 
     ghost kept_by = { λ p r. Reported N.job P.state P.handed P.valid r };
 }
@@ -59,23 +56,23 @@ fn start<
     floor: &'s Floor<'s, N>,
     gate: &'s G,
     number: usize,
-    crew: Vec<Seat<P>>,
+    seats: Vec<Seat<P>>,
     work: P::Work,
 ) -> Result<Handle<N, P, G::Cause>, Worked<P, G::Cause>>
 where
     P::Work: Send + Drop + 's,
     P::Record: Send,
-    requires seated { Seated N.job P.state P.handed P.valid floor.now.links.now crew }
+    requires seated { Seated N.job P.state P.handed P.valid floor.now.links.now seats }
     requires bells { number < length floor.now.stream.bells.now }
     ensures { IfErr result (Reported N.job P.state P.handed P.valid) }
 {
     let started = scope.spawn_with(
         Kept { of: PhantomData },
         move || -> Worked<P, G::Cause>
-            requires { Seated N.job P.state P.handed P.valid floor.now.links.now crew
+            requires { Seated N.job P.state P.handed P.valid floor.now.links.now seats
                 × (number < length floor.now.stream.bells.now) }
             ensures { Reported N.job P.state P.handed P.valid result }
-        { work_at(rt, floor, gate, number, crew, work) },
+        { work_at(rt, floor, gate, number, seats, work) },
     );
     match started {
         Ok(handle) => Ok(handle),
@@ -100,23 +97,23 @@ fn add_worked<N: OfJob, P: LogicalProcess, C: Drop>(
     Ok(all.push(worked)?)
 }
 
-// Takes the last crew out, with what it works with.
-fn last_crew<N: OfJob, P: LogicalProcess>(
+// Takes out the processes of the last worker, with what it works with.
+fn last_seats<N: OfJob, P: LogicalProcess>(
     links: &[Link<N>],
-    crews: &mut Vec<Vec<Seat<P>>>,
+    by_worker: &mut Vec<Vec<Seat<P>>>,
     works: &mut Vec<P::Work>,
 ) -> Option<(Vec<Seat<P>>, P::Work)>
 where
     P::Work: Drop,
-    requires { All (Seated N.job P.state P.handed P.valid links.now) crews.old.items }
+    requires { All (Seated N.job P.state P.handed P.valid links.now) by_worker.old.items }
     ensures one { IfSome result (λ r. Seated N.job P.state P.handed P.valid links.now r.0) }
-    ensures rest { All (Seated N.job P.state P.handed P.valid links.now) crews.new.items }
-    ensures count { IfSome result (λ _. length crews.new.items + 1 ≡ length crews.old.items) }
+    ensures rest { All (Seated N.job P.state P.handed P.valid links.now) by_worker.new.items }
+    ensures count { IfSome result (λ _. length by_worker.new.items + 1 ≡ length by_worker.old.items) }
 {
     let _ = links.len();
     let work = works.pop()?;
-    let crew = crews.pop()?;
-    Some((crew, work))
+    let seats = by_worker.pop()?;
+    Some((seats, work))
 }
 
 // Joins the last thread.
@@ -145,21 +142,21 @@ fn start_and_join<
     alloc: Global,
     floor: &'s Floor<'s, N>,
     gate: &'s G,
-    mut crews: Vec<Vec<Seat<P>>>,
+    mut by_worker: Vec<Vec<Seat<P>>>,
     mut works: Vec<P::Work>,
 ) -> Result<Vec<Worked<P, G::Cause>>, AllocError>
 where
     P::Work: Send + Drop + 's,
     P::Record: Send,
-    requires seated { All (Seated N.job P.state P.handed P.valid floor.now.links.now) crews.items }
-    requires bells { length crews.items ≤ length floor.now.stream.bells.now }
+    requires seated { All (Seated N.job P.state P.handed P.valid floor.now.links.now) by_worker.items }
+    requires bells { length by_worker.items ≤ length floor.now.stream.bells.now }
     ensures { IfOk result (λ all. All (Reported N.job P.state P.handed P.valid) all.items) }
 {
-    let mut handles: Vec<Handle<N, P, G::Cause>> = Vec::with_capacity(alloc, crews.len())?;
-    let mut all = Vec::with_capacity(alloc, crews.len())?;
-    while let Some((crew, work)) = last_crew(floor.links, &mut crews, &mut works) {
-        let number = crews.len();
-        match start(scope, rt, floor, gate, number, crew, work) {
+    let mut handles: Vec<Handle<N, P, G::Cause>> = Vec::with_capacity(alloc, by_worker.len())?;
+    let mut all = Vec::with_capacity(alloc, by_worker.len())?;
+    while let Some((seats, work)) = last_seats(floor.links, &mut by_worker, &mut works) {
+        let number = by_worker.len();
+        match start(scope, rt, floor, gate, number, seats, work) {
             Ok(handle) => handles.push(handle)?,
             Err(worked) => add_worked::<N, P, G::Cause>(&mut all, worked)?,
         }
@@ -170,8 +167,8 @@ where
     Ok(all)
 }
 
-// Runs the crews of a job, each on a thread of its own.
-fn run_crews<
+// Runs the processes of each worker on a thread of its own.
+fn run_all<
     N: OfJob + Send + Sync,
     P: ProcessHandsOver<N> + Send,
     G: Gate<P>,
@@ -181,76 +178,68 @@ fn run_crews<
     alloc: Global,
     floor: &Floor<'_, N>,
     gate: &G,
-    crews: Vec<Vec<Seat<P>>>,
+    by_worker: Vec<Vec<Seat<P>>>,
     works: Vec<P::Work>,
 ) -> Result<Vec<Worked<P, G::Cause>>, AllocError>
 where
     P::Work: Send + Drop,
     P::Record: Send,
-    requires seated { All (Seated N.job P.state P.handed P.valid floor.now.links.now) crews.items }
-    requires bells { length crews.items ≤ length floor.now.stream.bells.now }
+    requires seated { All (Seated N.job P.state P.handed P.valid floor.now.links.now) by_worker.items }
+    requires bells { length by_worker.items ≤ length floor.now.stream.bells.now }
     ensures { IfOk result (λ all. All (Reported N.job P.state P.handed P.valid) all.items) }
 {
     thread::scope(
         thread::scope_env(),
         rt,
         |scope| -> Result<Vec<Worked<P, G::Cause>>, AllocError>
-            requires { All (Seated N.job P.state P.handed P.valid floor.now.links.now) crews.items
-                × (length crews.items ≤ length floor.now.stream.bells.now) }
+            requires { All (Seated N.job P.state P.handed P.valid floor.now.links.now) by_worker.items
+                × (length by_worker.items ≤ length floor.now.stream.bells.now) }
             ensures { IfOk result (λ all. All (Reported N.job P.state P.handed P.valid) all.items) }
-        { start_and_join(scope, rt, alloc, floor, gate, crews, works) },
+        { start_and_join(scope, rt, alloc, floor, gate, by_worker, works) },
     )
 }
 
-// Runs the processes of a job, with the links between them, by a worker for each of `works`, and posts what they commit.
+// Runs a crew, with a link for each of its channels, and posts what its processes commit.
 fn run_job<
     N: OfJob + Send + Sync,
-    J: PlannedJob,
     P: ProcessHandsOver<N> + Send,
     G: Gate<P>,
     R: Threads + Wait + Sync,
 >(
     rt: &R,
     alloc: Global,
-    job: &J,
-    channels: &[Channel],
-    processes: Vec<P>,
-    works: Vec<P::Work>,
-    capacity: usize,
+    crew: Crew<P, P::Work>,
     gate: &G,
     stream: Stream<'_, N>,
 ) -> Result<Vec<Worked<P, G::Cause>>, AllocError>
 where
     P::Work: Send + Drop,
     P::Record: Send,
-    requires job { N.job ≡ J.means job.now }
-    requires processes { AreNew N.job P.state P.handed P.valid processes.items }
-    requires links { map meant_channel channels.now ≡ N.job.channels }
-    requires ends { (l : ℕ) (c : MeantChannel) → slice_get N.job.channels l ≡ Some c
-        → (c.source < N.job.processes) × (c.target < N.job.processes) }
-    requires few { length channels.now < 2 ^ 32 }
-    requires capacity { 0 < capacity }
-    requires workers { 0 < length works.items }
-    requires bells { length works.items ≤ length stream.bells.now }
+    requires crew { IsCrewFor N.job P.state P.handed P.valid crew }
+    requires bells { length crew.works.items ≤ length stream.bells.now }
     ensures { IfOk result (λ all. All (Reported N.job P.state P.handed P.valid) all.items) }
 {
-    let _ = job;
+    let Crew {
+        channels,
+        processes,
+        works,
+        capacity,
+    } = crew;
     let workers = works.len();
     let mut seats = seats_of::<N, P>(alloc, processes)?;
-    let links = connect::<N, P>(alloc, channels, capacity, workers, &mut seats)?;
-    let crews = crews_of(alloc, &links, workers, seats)?;
+    let links = connect::<N, P>(alloc, &channels, capacity, workers, &mut seats)?;
+    let by_worker = seats_by_worker(alloc, &links, workers, seats)?;
     let flag = Flag::new();
     let floor = Floor {
         links: &links,
         flag: &flag,
         stream,
     };
-    run_crews(rt, alloc, &floor, gate, crews, works)
+    run_all(rt, alloc, &floor, gate, by_worker, works)
 }
 
-/// Runs new processes of a job on threads, one thread for each of `works`, which is what a worker's turns work with, and posts on the
-/// board of a stream meanwhile. Process p belongs to worker p mod the number of workers, which waits at the bell of its number. So many
-/// packets may be on their way on each link; one more may be in the hand of its sender. Each worker posts what its processes committed,
+/// Runs a crew of new processes of a job on threads, one thread for each worker, and posts on the board of a stream meanwhile. Process p
+/// belongs to worker p mod the number of workers, which waits at the bell of its number. Each worker posts what its processes committed,
 /// a piece of each that begins where its last one ended: now and then while it goes on, before it sleeps, and where they are done. It
 /// adds to the lead of a process before it posts its piece, and rings `news` after all of them. What was posted is kept nowhere else;
 /// the rest is in the report. Where the board has no memory for a piece, the piece is gone and the worker ends, out of memory.
@@ -278,10 +267,7 @@ pub fn run_streamed<
     rt: &R,
     alloc: Global,
     job: &J,
-    channels: &[Channel],
-    processes: Vec<P>,
-    works: Vec<P::Work>,
-    capacity: usize,
+    crew: Crew<P, P::Work>,
     gate: &G,
     stream: Stream<'a, N>,
 ) -> Result<Report<'a, N, G::Cause>, AllocError>
@@ -289,11 +275,8 @@ where
     P::Work: Send + Drop,
     P::Record: Send,
     requires job { N.job ≡ J.means job.now }
-    requires made { AreMadeFor J.means P.state P.valid job.now channels.now processes.items }
-    requires kept { All (λ x. (P.handed x).past ≡ nothing) processes.items }
-    requires capacity { 0 < capacity }
-    requires workers { 0 < length works.items }
-    requires bells { length works.items ≤ length stream.bells.now }
+    requires crew { IsCrewFor (J.means job.now) P.state P.handed P.valid crew }
+    requires bells { length crew.works.items ≤ length stream.bells.now }
     ensures reached { IfOk result (λ r. AreReached (J.means job.now) r.rest.items) }
     ensures whole { IfOk result (λ r. (r.ended ≡ Whole)
         ↔ ((p : ℕ) (x : MeantPiece N) → slice_get r.rest.items p ≡ Some x
@@ -301,10 +284,8 @@ where
     ensures cancelled { IfOk result (λ r. r.ended ≡ Cancelled → IsSome r.stopped) }
     ensures stopped { IfOk result (λ r. IfSome r.stopped (IsOfFlag stream.entry.stop.flag.now)) }
 {
-    let count = processes.len();
+    let count = crew.processes.len();
     let stop = stream.stop;
-    let all = run_job::<N, J, P, G, R>(
-        rt, alloc, job, channels, processes, works, capacity, gate, stream,
-    )?;
+    let all = run_job::<N, P, G, R>(rt, alloc, crew, gate, stream)?;
     report_of::<N, J, P, G::Cause>(alloc, job, count, all, stop)
 }

@@ -4,7 +4,7 @@ ghost use Rattle.std.specs.Prelude.{◌≡◌, ◌<◌, ◌+◌, ◌%◌, ◌++�
 ghost use Rattle.std.specs.List.{All};
 ghost use Rattle.dv_conservative.specs.World.{Channel as MeantChannel};
 ghost use Rattle.dv_proc.specs.Channels.{meant_channel};
-ghost use Rattle.dv_work.specs.Crews.{AreByWorker, Seated};
+ghost use Rattle.dv_work.specs.Workers.{AreByWorker, Seated};
 ghost use Rattle.dv_link.specs.Ends.{capacity as capacity_of};
 ghost use Rattle.dv_work.specs.Making.{AreNew, AreSeated, IsNewIn, IsNewOut, IsSeat, NamesWorkers, no_links};
 ghost use Rattle.dv_work.specs.Seats.{Sits};
@@ -127,38 +127,38 @@ pub fn connect<N: OfJob, P: LogicalProcess>(
     Ok(links)
 }
 
-// As many crews, of nobody yet.
-fn empty_crews<N: OfJob, P: LogicalProcess>(
+// No processes yet, for each of so many workers.
+fn empty_seats<N: OfJob, P: LogicalProcess>(
     alloc: Global,
     links: &[Link<N>],
     workers: usize,
 ) -> Result<Vec<Vec<Seat<P>>>, AllocError>
-    ensures count { IfOk result (λ crews. length crews.items ≡ workers) }
-    ensures seated { IfOk result (λ crews. All (Seated N.job P.state P.handed P.valid links.now)
-        crews.items) }
-    ensures workers { IfOk result (λ crews. AreByWorker workers crews.items) }
+    ensures count { IfOk result (λ by_worker. length by_worker.items ≡ workers) }
+    ensures seated { IfOk result (λ by_worker. All (Seated N.job P.state P.handed P.valid links.now)
+        by_worker.items) }
+    ensures workers { IfOk result (λ by_worker. AreByWorker workers by_worker.items) }
 {
     let _ = links.len();
-    let mut crews = Vec::with_capacity(alloc, workers)?;
+    let mut by_worker = Vec::with_capacity(alloc, workers)?;
     for _worker in 0..workers {
-        crews.push(Vec::new(alloc))?;
+        by_worker.push(Vec::new(alloc))?;
     }
-    Ok(crews)
+    Ok(by_worker)
 }
 
-// Gives a crew a process more.
+// Gives a worker a process more.
 fn add_seat<N: OfJob, P: LogicalProcess>(
     links: &[Link<N>],
-    crew: &mut Vec<Seat<P>>,
+    seats: &mut Vec<Seat<P>>,
     seat: Seat<P>,
 ) -> Result<(), AllocError>
-    requires crew { Seated N.job P.state P.handed P.valid links.now crew.old }
+    requires seats { Seated N.job P.state P.handed P.valid links.now seats.old }
     requires seat { Sits N.job P.state P.handed P.valid links.now seat }
-    ensures crew { OnOk result (Seated N.job P.state P.handed P.valid links.now crew.new) }
-    ensures items { OnOk result (crew.new.items ≡ crew.old.items ++ seat ∷ []) }
+    ensures seats { OnOk result (Seated N.job P.state P.handed P.valid links.now seats.new) }
+    ensures items { OnOk result (seats.new.items ≡ seats.old.items ++ seat ∷ []) }
 {
     let _ = links.len();
-    Ok(crew.push(seat)?)
+    Ok(seats.push(seat)?)
 }
 
 /// The processes of each worker: process p is that of worker p mod `workers`.
@@ -166,7 +166,7 @@ fn add_seat<N: OfJob, P: LogicalProcess>(
 /// # Errors
 ///
 /// No memory.
-pub fn crews_of<N: OfJob, P: LogicalProcess>(
+pub fn seats_by_worker<N: OfJob, P: LogicalProcess>(
     alloc: Global,
     links: &[Link<N>],
     workers: usize,
@@ -174,15 +174,15 @@ pub fn crews_of<N: OfJob, P: LogicalProcess>(
 ) -> Result<Vec<Vec<Seat<P>>>, AllocError>
     requires seats { All (Sits N.job P.state P.handed P.valid links.now) seats.items }
     requires workers { 0 < workers }
-    ensures count { IfOk result (λ crews. length crews.items ≡ workers) }
-    ensures seated { IfOk result (λ crews. All (Seated N.job P.state P.handed P.valid links.now)
-        crews.items) }
-    ensures workers { IfOk result (λ crews. AreByWorker workers crews.items) }
+    ensures count { IfOk result (λ by_worker. length by_worker.items ≡ workers) }
+    ensures seated { IfOk result (λ by_worker. All (Seated N.job P.state P.handed P.valid links.now)
+        by_worker.items) }
+    ensures workers { IfOk result (λ by_worker. AreByWorker workers by_worker.items) }
 {
-    let mut crews = empty_crews(alloc, links, workers)?;
+    let mut by_worker = empty_seats(alloc, links, workers)?;
     for seat in seats {
         let worker = seat.number as usize % workers;
-        add_seat(links, &mut crews[worker], seat)?;
+        add_seat(links, &mut by_worker[worker], seat)?;
     }
-    Ok(crews)
+    Ok(by_worker)
 }

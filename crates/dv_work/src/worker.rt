@@ -3,7 +3,7 @@
 ghost use Rattle.std.specs.Prelude.{◌≡◌, ◌≢◌, ◌<◌, ◌+◌, ◌↔◌, ◌⊎◌, false, true, length, None, IfOk, OnErr, OnOk};
 ghost use Rattle.std.specs.List.{All};
 ghost use Rattle.dv_proc.specs.declared.process.Turned.TheVariants.{Done, Moved};
-ghost use Rattle.dv_work.specs.Crews.{Reported, Seated};
+ghost use Rattle.dv_work.specs.Workers.{Reported, Seated};
 ghost use Rattle.dv_work.specs.Seats.{HasEvents, HasToldAll, HasToldAtFirst, HoldsNone, IsNull, Reports, Sits};
 ghost use Rattle.dv_work.specs.Seats.{EachKeepsNoneBack, KeepsNoneBack, KeepsNoneBackAt, NoneIsNew, OthersStay};
 

@@ -1,7 +1,7 @@
 //! The files that the words of a command line name.
 
 use crate::plans::partition_of_plan;
-use crate::told::{Texts, tell_line};
+use crate::told::{Texts, tell_unread};
 use dv_cause::Source;
 use dv_command::{PartitionChoice, TraceFiles};
 use dv_partition::Partition;
@@ -95,6 +95,58 @@ impl Parting {
     }
 }
 
+/// What a file is read from, piece by piece.
+#[derive(Drop)]
+pub enum FileReader<F, I> {
+    /// A file of the system.
+    File(F),
+    /// Standard input.
+    Input(I),
+}
+
+impl<F: Read, I: Read> Read for FileReader<F, I> {
+    fn read(&mut self, buf: &mut [u8]) -> io::Result<usize> {
+        match self {
+            FileReader::File(file) => file.read(buf),
+            FileReader::Input(input) => input.read(buf),
+        }
+    }
+}
+
+/// A file that was opened, and of which nothing was read.
+#[derive(Drop)]
+pub struct OpenedFile<'a, F, I> {
+    /// Its name, as it is told.
+    pub name: &'a str,
+    /// What it holds.
+    pub reader: FileReader<F, I>,
+}
+
+/// The name of the file that a word names, as it is told.
+fn told_name(word: &str) -> &str {
+    if word == STANDARD_INPUT {
+        "<stdin>"
+    } else {
+        word
+    }
+}
+
+/// What was made of the file with a name. `None` if the file cannot be read: that is told, with the reason.
+///
+/// # Errors
+///
+/// No memory for it.
+fn unless_unread<R: Eprint, T>(rt: &R, name: &str, answer: io::Result<T>) -> io::Result<Option<T>> {
+    match answer {
+        Ok(made) => Ok(Some(made)),
+        Err(error) if matches!(error.kind(), ErrorKind::OutOfMemory) => Err(error),
+        Err(error) => {
+            tell_unread(rt, name, &error);
+            Ok(None)
+        }
+    }
+}
+
 /// The bytes of the file that a word names, or of standard input where the word is `-`. `None` if they cannot be read: that was
 /// told, with the reason.
 ///
@@ -105,19 +157,43 @@ pub fn read<'a, R: AllocGlobal + Files + Input + Eprint>(
     rt: &R,
     word: &'a str,
 ) -> io::Result<Option<FileBytes<'a>>> {
-    let (name, bytes) = if word == STANDARD_INPUT {
-        ("<stdin>", standard_input(rt))
+    let bytes = if word == STANDARD_INPUT {
+        standard_input(rt)
     } else {
-        (word, fs::read(rt, word))
+        fs::read(rt, word)
     };
-    match bytes {
-        Ok(bytes) => Ok(Some(FileBytes { name, bytes })),
-        Err(error) if matches!(error.kind(), ErrorKind::OutOfMemory) => Err(error),
-        Err(error) => {
-            tell_line(rt, format_args!("cannot read {name}: {error}"));
-            Ok(None)
-        }
+    let name = told_name(word);
+    match unless_unread(rt, name, bytes)? {
+        Some(bytes) => Ok(Some(FileBytes { name, bytes })),
+        None => Ok(None),
     }
+}
+
+/// The file that a word names, or standard input where the word is `-`, to be read piece by piece. `None` if it cannot be opened:
+/// that was told, with the reason.
+///
+/// # Errors
+///
+/// No memory for it.
+pub fn open<'a, R: Files + Input + Eprint>(
+    rt: &R,
+    word: &'a str,
+) -> io::Result<Option<OpenedFile<'a, R::File, R::Reader>>> {
+    let reader = if word == STANDARD_INPUT {
+        Ok(FileReader::Input(rt.reader()))
+    } else {
+        open_file(rt, word)
+    };
+    let name = told_name(word);
+    match unless_unread(rt, name, reader)? {
+        Some(reader) => Ok(Some(OpenedFile { name, reader })),
+        None => Ok(None),
+    }
+}
+
+/// A file of the system.
+fn open_file<R: Files, I>(rt: &R, name: &str) -> io::Result<FileReader<R::File, I>> {
+    Ok(FileReader::File(fs::open(rt, name)?))
 }
 
 /// All of standard input.

@@ -26,6 +26,11 @@ pub fn tell_text<R: Eprint>(rt: &R, text: &str) {
     let _ = eprint!(rt; "{text}");
 }
 
+/// Tells that a file cannot be read, and why.
+pub fn tell_unread<R: Eprint>(rt: &R, name: &str, error: &io::Error) {
+    tell_line(rt, format_args!("cannot read {name}: {error}"));
+}
+
 /// Tells why the system failed, in its words.
 pub fn tell_reason<R: Eprint>(rt: &R, error: &io::Error) {
     let _ = eprintln!(rt; "{error}");

@@ -1,9 +1,9 @@
 //! What is asked of a trace and its model.
 
-use crate::files::{TraceBytes, read_trace};
+use crate::files::{OpenedFile, open, read, read_trace};
 use crate::numbers::stats_options;
 use crate::printed::{Printed, print_through};
-use crate::told::tell_line;
+use crate::told::{Texts, tell_line, tell_unread};
 use crate::{REFUSED, USAGE};
 use dv_command::{Stats, Table, TraceFiles, Waves};
 use dv_trace::{End, Reach};
@@ -25,7 +25,7 @@ fn end_of(files: &TraceFiles) -> End {
 /// The status where a view of a trace was to be printed. That the trace has no end is told, and how far it reaches.
 fn status_of_view<R: AllocGlobal + Eprint>(
     rt: &R,
-    bytes: &TraceBytes<'_>,
+    texts: Texts<'_>,
     printed: &Printed<Reach, ViewError>,
     is_explained: bool,
 ) -> u8 {
@@ -34,7 +34,7 @@ fn status_of_view<R: AllocGlobal + Eprint>(
     {
         tell_line(rt, *reach);
     }
-    printed.status(rt, bytes.texts(), is_explained)
+    printed.status(rt, texts, is_explained)
 }
 
 /// What a tick is, where that is given, and else a second; `None` where the text is no timescale, which is told.
@@ -78,28 +78,32 @@ pub fn dump_trace<R: AllocGlobal + Files + Input + Print + Eprint>(
             writer,
         )
     });
-    Ok(status_of_view(rt, &bytes, &printed, waves.files.explained))
+    Ok(status_of_view(rt, bytes.texts(), &printed, waves.files.explained))
 }
 
-/// Prints the numbers that were asked for, and answers the status. Files are read in the order model, trace.
+/// Prints the numbers that were asked for, and answers the status. Files are read in the order model, trace; the trace is read piece
+/// by piece, as it is counted, and its first piece before the model is checked.
 pub fn count_trace<R: AllocGlobal + Files + Input + Print + Eprint>(
     rt: &R,
     stats: &Stats,
 ) -> io::Result<u8> {
-    let Some(bytes) = read_trace(rt, &stats.files, None)? else {
+    let files = &stats.files;
+    let Some(model) = read(rt, files.model.as_str())? else {
         return Ok(REFUSED);
     };
-    let options = stats_options(
-        &stats.choice,
-        stats.choice.only.as_ref(),
-        end_of(&stats.files),
-    );
+    let Some(OpenedFile { name, mut reader }) = open(rt, files.trace.as_str())? else {
+        return Ok(REFUSED);
+    };
+    let options = stats_options(&stats.choice, stats.choice.only.as_ref(), end_of(files));
     let alloc = rt.alloc();
     let printed = print_through(rt, |writer| {
-        let mut trace: &[u8] = &bytes.trace.bytes;
-        stats_bytes(alloc, &bytes.model.bytes, &mut trace, &options, writer)
+        stats_bytes(alloc, &model.bytes, &mut reader, &options, writer)
     });
-    Ok(status_of_view(rt, &bytes, &printed, stats.files.explained))
+    if let Err(ViewError::Unread(error)) = &printed.result {
+        tell_unread(rt, name, error);
+        return Ok(REFUSED);
+    }
+    Ok(status_of_view(rt, model.texts(), &printed, files.explained))
 }
 
 /// Prints the table that was asked for, and answers the status. Files are read in the order model, trace, inputs.
@@ -129,5 +133,5 @@ pub fn tabulate_trace<R: AllocGlobal + Files + Input + Print + Eprint>(
             writer,
         )
     });
-    Ok(status_of_view(rt, &bytes, &printed, table.files.explained))
+    Ok(status_of_view(rt, bytes.texts(), &printed, table.files.explained))
 }

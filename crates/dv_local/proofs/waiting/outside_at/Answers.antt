@@ -12,7 +12,7 @@ use Rattle.dv_conservative.specs.Links.{Delivery as Meant, inbox}
 use Rattle.dv_share.specs.Links.{deliveries_of, delivery_of}
 use Rattle.dv_share.proofs.Inboxes.{inbox_nothing, inbox_same}
 use Rattle.dv_share.proofs.Sums.{moved_delivers}
-use Rattle.dv_local.specs.Comings.{entered_by}
+use Rattle.dv_local.specs.Arrivals.{entered_by}
 use Rattle.dv_local.specs.Shares.{AreOfRun}
 use Rattle.dv_local.proofs.Entering.{all_entered, entered, entered_bags}
 use Rattle.dv_local.proofs.waiting.outside_at.Goals as goal

@@ -29,8 +29,8 @@ returns-in_err-components-clause-err g c =
     OnErr-always _ (nothing_printed j.tree.now.names (file_of j.tree.now.file) j.inputs.now j.horizon j.limit
     (g.W.Write.contents c.args.writer.now))
 
-pub returns-in_err-benches-clause-err : goal.returns-in_err-benches-clause-err
-returns-in_err-benches-clause-err g c =
+pub returns-in_err-works-clause-err : goal.returns-in_err-works-clause-err
+returns-in_err-works-clause-err g c =
     let j = c.args.job.now in
     OnErr-always _ (nothing_printed j.tree.now.names (file_of j.tree.now.file) j.inputs.now j.horizon j.limit
     (g.W.Write.contents c.args.writer.now))
@@ -78,10 +78,17 @@ returns-clause-printed g c =
     let r = c.in_ok-worked.worked.ran in
     let is = c.in_ok-worked.ensures in
     is_printed j c.requires.text c.requires.accepted laws {old = g.W.Write.contents c.args.writer.now}
-    {new = g.W.Write.contents c.work_components.new.writer} r is.written is.least is.some_clocks is.count is.within is.whole.0
+    {new = g.W.Write.contents c.work_components.new.writer} r is.written is.run.least is.run.some_clocks is.run.count is.run.within
+    is.run.whole.0
+
+pub returns-clause-ended : goal.returns-clause-ended
+returns-clause-ended g c = c.in_ok-worked.ensures.run.ended
+
+pub returns-clause-cause : goal.returns-clause-cause
+returns-clause-cause g c = c.in_ok-worked.ensures.run.cause
 
 pub returns-clause-partial : goal.returns-clause-partial
 returns-clause-partial g c = λ partial.
     let j = c.args.job.now in
-    let is = c.in_ok-worked.ensures in
+    let is = c.in_ok-worked.ensures.run in
     cut_before_end (text_job j) c.in_ok-worked.worked.ran.clocks.items is.some_clocks is.within (λ all. partial (is.whole.1 all))

@@ -10,7 +10,7 @@ returns-in_err-written-clause-err g c =
     let contents = g.W.Write.contents in
     let old = contents c.loop.writer in
     let new = contents c.write_posted.new.writer in
-    OnErr-always _ (begun_from job c.args.lines.now c.a_trace_is_its_pieces.ensures.lines {a = contents c.args.writer.now} {b = old}
+    OnErr-always _ (begun_from job c.args.merger.now.lines c.a_trace_is_its_pieces.ensures.lines {a = contents c.args.writer.now} {b = old}
     {c = new}
     c.loop.written c.loop.invariant.written
     (subst (λ t. Falters job t old new c.loop.written) c.loop.invariant.tree c.in_err-written.ensures.err))
@@ -21,7 +21,7 @@ returns-then-is_last-clause-written g c =
     let contents = g.W.Write.contents in
     let old = contents c.loop.writer in
     let new = contents c.write_posted.new.writer in
-    written_further job c.args.lines.now c.a_trace_is_its_pieces.ensures.lines {a = contents c.args.writer.now} {b = old} {c = new}
+    written_further job c.args.merger.now.lines c.a_trace_is_its_pieces.ensures.lines {a = contents c.args.writer.now} {b = old} {c = new}
     c.loop.written c.loop.invariant.written c.in_ok-written.written
     (subst (λ t. GoesOn job t old new c.loop.written c.in_ok-written.written) c.loop.invariant.tree c.in_ok-written.ensures.ok)
 
@@ -34,7 +34,7 @@ loop-preserved g c =
     record {
       tree = c.in_ok-written.ensures.tree ∙ c.loop.invariant.tree;
       written =
-          written_further job c.args.lines.now c.a_trace_is_its_pieces.ensures.lines {a = contents c.args.writer.now} {b = old} {c = new}
+          written_further job c.args.merger.now.lines c.a_trace_is_its_pieces.ensures.lines {a = contents c.args.writer.now} {b = old} {c = new}
           c.loop.written c.loop.invariant.written c.in_ok-written.written
           (subst (λ t. GoesOn job t old new c.loop.written c.in_ok-written.written) c.loop.invariant.tree c.in_ok-written.ensures.ok);
       within = c.in_ok-written.ensures.within;

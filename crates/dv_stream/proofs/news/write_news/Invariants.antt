@@ -7,7 +7,7 @@ abbrev pub invariant-loop : goal.invariant-loop
 invariant-loop g l =
     let job = g.N.OfJob.job in
     record {
-      tree : l.lines ≡ l.fn.lines;
-      written : IsWrittenTo job l.fn.lines (g.W.Write.contents l.fn.writer) (g.W.Write.contents l.writer) l.written;
+      tree : l.merger.lines ≡ l.fn.merger.lines;
+      written : IsWrittenTo job l.fn.merger.lines (g.W.Write.contents l.fn.writer) (g.W.Write.contents l.writer) l.written;
       within : rank job.limit l.written.mark ≤ end_of job.limit job.horizon;
     }

@@ -1,6 +1,6 @@
 use Rattle.std.proofs.lemmas.List.Elements.{All-pop}
 use Rattle.dv_work.specs.declared.worker.Worked.{Worked}
-use Rattle.dv_work.specs.Crews.{Reported}
+use Rattle.dv_work.specs.Workers.{Reported}
 use Rattle.dv_work.proofs.report.last_worked.Goals as goal
 
 pub returns-clause-one : goal.returns-clause-one

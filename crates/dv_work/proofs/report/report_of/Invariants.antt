@@ -1,6 +1,6 @@
 use Rattle.std.proofs.Common.{◌≡◌, List, ◌++◌, Option, vec_len}
 use Rattle.std.specs.List.{All, list_any}
-use Rattle.dv_work.specs.Crews.{Reported}
+use Rattle.dv_work.specs.Workers.{Reported}
 use Rattle.dv_work.specs.Endings.{first_cause, lacks_memory}
 use Rattle.dv_work.specs.Reached.{AreReached}
 use Rattle.dv_work.specs.declared.worker.Halt.{Halt}

@@ -1,6 +1,6 @@
 use Rattle.std.proofs.lemmas.List.Elements.{All-same, All-push}
 use Rattle.dv_work.specs.declared.worker.Worked.{Worked}
-use Rattle.dv_work.specs.Crews.{Reported}
+use Rattle.dv_work.specs.Workers.{Reported}
 use Rattle.dv_work.proofs.run.add_worked.Goals as goal
 
 pub returns-in_err-push : goal.returns-in_err-push

@@ -10,7 +10,7 @@ use Rattle.dv_link.specs.Ends.{capacity}
 use Rattle.std.specs.List.{All}
 use Rattle.std.proofs.lemmas.List.Elements.{All-push, All-same, All-set}
 use Rattle.dv_work.specs.declared.seat.Seat.{Seat}
-use Rattle.dv_work.proofs.Crewing.{in_more, names_none, out_more}
+use Rattle.dv_work.proofs.ByWorker.{in_more, names_none, out_more}
 use Rattle.dv_work.proofs.Lists.{at_index}
 use Rattle.dv_work.proofs.Making.{channel_at, new_in, new_out, seated_more, seats_grown}
 use Rattle.dv_work.proofs.setup.connect.Goals as goal

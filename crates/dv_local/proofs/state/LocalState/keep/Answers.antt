@@ -1,12 +1,11 @@
-use Rattle.std.proofs.Common.{◌≡◌, true, List, ◌++◌, map, filter, Option, None, Result, Ok, Err, OnOk, OnErr, sym, ap, subst, ◌∙◌}
+use Rattle.std.proofs.Common.{◌≡◌, true, List, ◌++◌, filter, Option, None, Result, Ok, Err, OnOk, OnErr, sym, ap, subst, ◌∙◌}
 use Rattle.dv_time.specs.Time.{time_of}
 use Rattle.dv_time.specs.declared.time.Time.{Time}
 use Rattle.dv_conservative.specs.Events.{deliveries_at}
-use Rattle.dv_agenda.specs.Comings.{Arrivals, arrivals_at, coming_at}
-use Rattle.dv_agenda.specs.declared.arrival.Coming.{Coming}
+use Rattle.dv_local.specs.Arrivals.{Arrivals, arrivals_at, brings, coming_at}
 use Rattle.dv_proc.specs.Local.{DeliverAlike, View, are_for_ports}
 use Rattle.dv_proc.specs.Packets.{meant_events}
-use Rattle.dv_local.specs.Comings.{brings, coming_of}
+use Rattle.dv_proc.specs.declared.packet.Event.{Event}
 use Rattle.dv_local.specs.Shares.{share_by}
 use Rattle.dv_local.specs.States.{AllArrive, held_by, settled_by, view_by}
 use Rattle.dv_local.specs.Undoing.{arrivals_but}
@@ -29,8 +28,8 @@ returns-clause-is_kept g c =
     let es = c.args.events.now in
     let old : Arrivals = s.inbox in
     let new : Arrivals = c.add_all.new.self in
-    let comings : c.deref.result.now ≡ map coming_of (filter (brings s.share.tables.limit) es) = c.deref.ensures.value
-    ∙ c.in_ok-comings.ensures in
+    let brought : c.deref.result.now ≡ filter (brings s.share.tables.limit) es = c.deref.ensures.value
+    ∙ c.in_ok-brought.ensures in
     let here : are_for_ports (view_by g.A.Atomic.behaviour g.R.Record.told s).share (meant_events es) ≡ true =
     subst (λ (v : View). are_for_ports v.share (meant_events es) ≡ true) (sym c.settle.ensures.view) c.requires.ports in
     record {
@@ -43,7 +42,7 @@ returns-clause-is_kept g c =
           (AllArrive t.limit t.members.items new)
           c.add_all.ensures.added c.add_all.ensures.err
           (λ added. kept_arrive g.A.Atomic.behaviour t.models.items t.limit t.members.items old new es
-          (λ u. added u ∙ ap (λ (cs : List Coming). arrivals_at u old ++ coming_at u cs) comings) here k.arrive)
+          (λ u. added u ∙ ap (λ (cs : List Event). arrivals_at u old ++ coming_at u cs) brought) here k.arrive)
           (λ same. subst (λ (a : Arrivals). AllArrive t.limit t.members.items a) (sym same) k.arrive);
       within = k.within;
       before = k.before;
@@ -60,8 +59,8 @@ returns-clause-kept g c =
     let es = c.args.events.now in
     let old : Arrivals = s.inbox in
     let new : Arrivals = c.add_all.new.self in
-    let comings : c.deref.result.now ≡ map coming_of (filter (brings s.share.tables.limit) es) = c.deref.ensures.value
-    ∙ c.in_ok-comings.ensures in
+    let brought : c.deref.result.now ≡ filter (brings s.share.tables.limit) es = c.deref.ensures.value
+    ∙ c.in_ok-brought.ensures in
     let view : view_by b told s ≡ view_by b told c.args.self.now = c.settle.ensures.view in
     on_ok c.add_all.result _ ((u : Time) → arrivals_at u new ≡ arrivals_at u old ++ coming_at u c.deref.result.now) c.add_all.ensures.added
     (λ added. record {
@@ -72,11 +71,11 @@ returns-clause-kept g c =
       held = λ n.
           let u = time_of limit n in
           let e : arrivals_but s.undo.taken u new ≡ arrivals_but s.undo.taken u old ++ coming_at u
-          (map coming_of (filter (brings s.share.tables.limit) es)) =
+          (filter (brings s.share.tables.limit) es) =
           subst (λ (o : Option Time). arrivals_but o u new
-          ≡ arrivals_but o u old ++ coming_at u (map coming_of (filter (brings s.share.tables.limit) es)))
+          ≡ arrivals_but o u old ++ coming_at u (filter (brings s.share.tables.limit) es))
           (sym c.settle.ensures.at_rest.taken)
-          (added u ∙ ap (λ (cs : List Coming). arrivals_at u old ++ coming_at u cs) comings) in
+          (added u ∙ ap (λ (cs : List Event). arrivals_at u old ++ coming_at u cs) brought) in
           subst (λ (v : View). DeliverAlike (held_by limit s.undo.taken new n)
           (v.held n ++ deliveries_at v.share.limit (meant_events es) n)) view
           (kept_alike limit n (arrivals_but s.undo.taken u old) (arrivals_but s.undo.taken u new) es e);

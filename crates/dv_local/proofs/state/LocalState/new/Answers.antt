@@ -1,10 +1,10 @@
-use Rattle.std.proofs.Common.{◌<◌, List, length, map, ap, sym, subst, ◌∙◌}
+use Rattle.std.proofs.Common.{◌<◌, List, length, ap, sym, subst, ◌∙◌}
 use Rattle.dv_time.specs.Time.{time_of}
-use Rattle.dv_agenda.specs.declared.arrival.Arrival.{Arrival}
+use Rattle.dv_share.specs.Links.{deliveries_of}
+use Rattle.dv_share.specs.declared.link.Delivery.{Delivery as DeliveryOfCode}
 use Rattle.dv_react.specs.declared.running.Running.{Running}
 use Rattle.dv_share.specs.Share.{AreComponents, StandByIndex}
 use Rattle.dv_share.specs.declared.index.Indexed.{Indexed}
-use Rattle.dv_local.specs.States.{delivery_of}
 use Rattle.dv_local.specs.Undoing.{AreWithin, undone, waits_of}
 use Rattle.dv_local.proofs.Begun.{none_arrive, nothing_yet}
 use Rattle.dv_local.proofs.Undoing.{all_none}
@@ -31,5 +31,5 @@ returns-clause-kept g c =
     }
 
 pub returns-clause-held : goal.returns-clause-held
-returns-clause-held g c = λ n. ap (λ (xs : List Arrival). map delivery_of xs)
+returns-clause-held g c = λ n. ap (λ (xs : List DeliveryOfCode). deliveries_of xs)
     (nothing_yet c.new.result c.new.ensures.empty (time_of c.args.share.tables.limit n))

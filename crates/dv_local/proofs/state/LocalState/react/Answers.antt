@@ -1,12 +1,11 @@
-use Rattle.std.proofs.Common.{◌≡◌, ◌∙◌, ℕ, ◌+◌, ◌≤◌, ◌++◌, List, Some, Result, length, map, count_by, sym, ap, subst, arith}
+use Rattle.std.proofs.Common.{◌≡◌, ◌∙◌, ℕ, ◌+◌, ◌≤◌, ◌++◌, List, Some, Result, length, count_by, sym, ap, subst, arith}
 use Rattle.std.proofs.lemmas.List.{length-append}
 use Rattle.dv_time.specs.Time.{IsOfRun, rank}
 use Rattle.dv_bag.specs.Bag.{Counts}
 use Rattle.dv_bag.specs.declared.entry.Entry.{Entry}
 use Rattle.dv_bag.specs.declared.entry.Outer.{Outer}
 use Rattle.dv_bag.specs.declared.fault.Fault.{Fault}
-use Rattle.dv_agenda.specs.Comings.{arrivals_at}
-use Rattle.dv_agenda.specs.declared.arrival.Arrival.{Arrival}
+use Rattle.dv_local.specs.Arrivals.{arrivals_at}
 use Rattle.dv_bag.specs.Part.{PartOf}
 use Rattle.dv_conservative.specs.Flat.{network}
 use Rattle.dv_conservative.specs.Links.{carried, inbox}
@@ -24,7 +23,6 @@ use Rattle.dv_record.proofs.Open.{open_after}
 use Rattle.dv_proc.specs.Accesses.{IsAfterEmission, entries_at, imminent_at, receiving_at}
 use Rattle.dv_proc.specs.Local.{IsAfterInstant, View, input_at}
 use Rattle.dv_proc.proofs.Accesses.{instant_found}
-use Rattle.dv_local.specs.Comings.{delivered_by}
 use Rattle.dv_local.specs.Commits.{HaveReacted}
 use Rattle.dv_local.specs.Shares.{share_by}
 use Rattle.dv_local.specs.States.{held_by, imminent_of, view_by}
@@ -49,14 +47,13 @@ returns-clause-reacted g c =
     let gs = x.emitted.items in
     let same-es : es ≡ gs = c.as_slice-emitted.ensures.value in
     let outside = c.in_ok-outside.outside in
-    let ds = c.deref.result.now in
+    let ds = c.at.result.now in
     let meant = deliveries_of ds in
     let xs = c.arrivals.new.received.items in
     let rs = x.components.running in
     let ss = c.commit.new.components.running in
     let n = rank t.limit c.args.now in
-    let held : ds ≡ map delivered_by (arrivals_at c.args.now x.inbox) =
-    c.deref.ensures.value ∙ c.in_ok-held.ensures ∙ ap (λ (ys : List Arrival). map delivered_by ys) c.at.ensures in
+    let held : ds ≡ arrivals_at c.args.now x.inbox = c.at.ensures in
     let among : AreAmong (indices_of gs) (indices_of xs) =
     subst (λ (fs : List (Indexed (Result (List Counts) Fault))). AreAmong (indices_of fs) (indices_of xs)) same-es
     c.in_ok-arrivals.ensures.emitted in
@@ -113,7 +110,7 @@ returns-clause-visits g c =
     let xs = c.arrivals.new.received.items in
     let rs = x.components.running in
     let outside = c.in_ok-outside.outside in
-    let ds = c.deref.result.now in
+    let ds = c.at.result.now in
     let of_run : IsOfRun t.limit c.args.now = subst (λ (s : Share). IsOfRun s.limit c.args.now) (sym found.share) c.requires.of_run in
     let k = rank t.limit c.args.now in
     let same-k : k ≡ n = ap (λ (s : Share). rank s.limit c.args.now) found.share in
@@ -128,8 +125,7 @@ returns-clause-visits g c =
     c.in_ok-commit.ensures.reacted in
     let least : entries_at v n ≤ length xs =
     omega (arith, grown, told_few, ap (λ (p : PartOf). length p.entries) c.in_ok-outer.ensures.told) in
-    let held : ds ≡ map delivered_by (arrivals_at c.args.now x.inbox) =
-    c.deref.ensures.value ∙ c.in_ok-held.ensures ∙ ap (λ (ys : List Arrival). map delivered_by ys) c.at.ensures in
+    let held : ds ≡ arrivals_at c.args.now x.inbox = c.at.ensures in
     let taken = (c.emit.ensures.at_rest c.settle.ensures.at_rest).taken in
     let input : (outside, deliveries_of ds) ≡ input_at (view_by b told x) k =
     input_is b told x c.args.now outside ds of_run taken (c.in_ok-outside.ensures t.limit of_run) held in

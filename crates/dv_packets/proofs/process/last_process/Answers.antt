@@ -1,4 +1,0 @@
-use Rattle.dv_packets.proofs.process.last_process.Goals as goal
-
-pub returns : goal.returns
-returns c = let h = c.in_ok-process.ensures in record { process = h.process; at_rest = h.settled }
