@@ -32,7 +32,8 @@ earliest_above f a w h k = earliest_assoc f a w ∙ ap (λ (v : Option Time). ea
 
 pub earliest_keeps : (a w v : Option Time) → earliest a v ≡ a → earliest (earliest a w) v ≡ earliest a w
 earliest_keeps a w v h =
-    sym (earliest_assoc a w v) ∙ ap (earliest a) (earliest_comm w v) ∙ earliest_assoc a v w ∙ ap (λ (x : Option Time). earliest x w) h
+    sym (earliest_assoc a w v) ∙ ap (earliest a) (earliest_comm w v) ∙ earliest_assoc a v w
+    ∙ ap (λ (x : Option Time). earliest x w) h
 
 pub earliest_second : (a w : Option Time) → earliest (earliest a w) w ≡ earliest a w
 earliest_second a w = sym (earliest_assoc a w w) ∙ ap (earliest a) (twice w)
@@ -54,7 +55,8 @@ first_more (w ∷ ws) (suc c) =
 pub first_least : (ws : List (Option Time)) (p : ℕ) → earliest (first_of ws) (get_or ws p None) ≡ first_of ws
 first_least [] p = refl
 first_least (w ∷ ws) zero =
-    earliest_comm (earliest w (first_of ws)) w ∙ earliest_assoc w w (first_of ws) ∙ ap (λ (v : Option Time). earliest v (first_of ws)) (twice w)
+    earliest_comm (earliest w (first_of ws)) w ∙ earliest_assoc w w (first_of ws)
+    ∙ ap (λ (v : Option Time). earliest v (first_of ws)) (twice w)
 first_least (w ∷ ws) (suc p) =
     sym (earliest_assoc w (first_of ws) (get_or ws p None)) ∙ ap (earliest w) (first_least ws p)
 
@@ -65,7 +67,8 @@ first_there (w ∷ ws) t e = elim (either w (first_of ws)) [
   | inr d ↦ let q = first_there ws t (sym d ∙ e) in (suc q.0, q.1)
 ]
 
-all_later : (ws : List (Option Time)) (a : Option Time) → ((q : ℕ) → earliest a (get_or ws q None) ≡ a) → earliest a (first_of ws) ≡ a
+all_later : (ws : List (Option Time)) (a : Option Time) → ((q : ℕ) → earliest a (get_or ws q None) ≡ a)
+    → earliest a (first_of ws) ≡ a
 all_later [] a h = earliest-none a
 all_later (w ∷ ws) a h =
     earliest_assoc a w (first_of ws)
@@ -73,7 +76,8 @@ all_later (w ∷ ws) a h =
     ∙ all_later ws a (λ q. h (suc q))
 
 -- a wait of the list before which none ends is the first
-pub first_is : (ws : List (Option Time)) (p : ℕ) (a : Option Time) → get_or ws p None ≡ a → ((q : ℕ) → earliest a (get_or ws q None) ≡ a)
+pub first_is : (ws : List (Option Time)) (p : ℕ) (a : Option Time) → get_or ws p None ≡ a
+    → ((q : ℕ) → earliest a (get_or ws q None) ≡ a)
     → a ≡ first_of ws
 first_is ws p a e h =
     sym (all_later ws a h)
@@ -128,7 +132,8 @@ due_more t ws c =
     let e : 0 + c ≡ c = omega arith in
     due_more_from 0 t ws c ∙ ap (λ (n : ℕ). due_at t (take c ws) ++ one_due (ends_at t (get_or ws c None)) n) e
 
-due_skip_by : (t : Time) (ws : List (Option Time)) (c n : ℕ) → ((p : ℕ) → c ≤ p → p < c + n → ends_at t (get_or ws p None) ≡ false)
+due_skip_by : (t : Time) (ws : List (Option Time)) (c n : ℕ)
+    → ((p : ℕ) → c ≤ p → p < c + n → ends_at t (get_or ws p None) ≡ false)
     → due_at t (take (c + n) ws) ≡ due_at t (take c ws)
 due_skip_by t ws c zero h = ap (λ (n : ℕ). due_at t (take n ws)) (add-zero c)
 due_skip_by t ws c (suc n) h =
@@ -139,7 +144,8 @@ due_skip_by t ws c (suc n) h =
     ∙ append-nil (due_at t (take (c + n) ws))
     ∙ due_skip_by t ws c n (λ p le lt. h p le (omega arith))
 
-pub due_skip : (t : Time) (ws : List (Option Time)) (c d : ℕ) → c ≤ d → ((p : ℕ) → c ≤ p → p < d → ends_at t (get_or ws p None) ≡ false)
+pub due_skip : (t : Time) (ws : List (Option Time)) (c d : ℕ) → c ≤ d
+    → ((p : ℕ) → c ≤ p → p < d → ends_at t (get_or ws p None) ≡ false)
     → due_at t (take d ws) ≡ due_at t (take c ws)
 due_skip t ws c d le h =
     let e : d ≡ c + (d - c) = omega arith in
@@ -193,7 +199,8 @@ few_due t (w ∷ ws) k = few (ends_at t w) (due_from (k + 1) t ws) (few_due t ws
     few false ps h = omega arith
 
 -- what is the first wait where an index waits for another time: that one, where none of the others ends before
-pub first_after : (ws : List (Option Time)) (index : ℕ) (f w : Option Time) → index < length ws → f ≡ first_of ws → earliest w f ≡ w
+pub first_after : (ws : List (Option Time)) (index : ℕ) (f w : Option Time) → index < length ws → f ≡ first_of ws
+    → earliest w f ≡ w
     → w ≡ first_of (set ws index w)
 first_after ws index f w lt e h =
     first_is (set ws index w) index w (get_or-set_same ws index w None lt) (λ q. elim (cases_eq q index) [

@@ -1,13 +1,14 @@
--- What is known of the least waits in the slots when an index has another wait.
+-- What is known of the least waits in the slots when a component has another wait.
 use Rattle.std.proofs.Common.{◌≡◌, ◌≢◌, inl, inr, ◌⊎◌, ℕ, zero, suc, ◌<◌, List, length, replicate, set, get_or-set_same, get_or-set_other}
 use Rattle.std.proofs.Common.{get_or, Option, Some, None, refl, sym, ap, subst, ◌∙◌}
 use Rattle.std.proofs.lemmas.Bool.{cases_eq}
+use Rattle.std.proofs.lemmas.List.{get_or_default}
 use Rattle.dv_time.specs.declared.time.Time.{Time}
 use Rattle.dv_time.specs.Time.{earliest}
 use Rattle.dv_agenda.specs.Wheel.{IsHeld, IsLow, IsOfSlot, least_at, slot}
 use Rattle.dv_agenda.specs.declared.least.Least.{Least}
 use Rattle.dv_agenda.specs.declared.least.Least.TheVariants.{Known, Unknown}
-use Rattle.dv_agenda.proofs.FirstWaits.{either, earliest_keeps}
+use Rattle.dv_agenda.proofs.FirstWaits.{either}
 
 -- what is known of a slot, where that of a slot is written
 pub elsewhere : (leasts : List Least) (s q : ℕ) (l : Least) → q ≢ s → least_at (set leasts s l) q ≡ least_at leasts q
@@ -16,19 +17,35 @@ elsewhere leasts s q l ne = get_or-set_other leasts s q l Unknown ne
 pub written : (leasts : List Least) (s q : ℕ) (l : Least) → s < length leasts → q ≡ s → least_at (set leasts s l) q ≡ l
 written leasts s q l lt e = ap (least_at (set leasts s l)) e ∙ get_or-set_same leasts s l Unknown lt
 
--- one more index of a slot has a time
-pub low_entered : (leasts : List Least) (at s : ℕ) (least w : Option Time) (t : Time) → at < length leasts
-    → least_at leasts at ≡ Known least
-    → IsLow (least_at leasts s) w → IsLow (least_at (set leasts at (Known (earliest least (Some t)))) s) w
-low_entered leasts at s least w t lt e h = elim (cases_eq s at) [
+-- what is read at a slot is what is known of it
+pub known_is : (leasts : List Least) (at : ℕ) (l : Least) → at < length leasts → l ≡ get_or leasts at l → least_at leasts at ≡ l
+known_is leasts at l lt read = get_or_default leasts at Unknown l lt ∙ sym read
+
+-- what is low in the slots stays so, where what is written at one keeps what was low there
+pub low_written : (leasts : List Least) (at : ℕ) (old l : Least) → at < length leasts → old ≡ get_or leasts at old
+    → ((w : Option Time) → IsLow old w → IsLow l w) → (s : ℕ) (w : Option Time) → IsLow (least_at leasts s) w
+    → IsLow (least_at (set leasts at l) s) w
+low_written leasts at old l lt read keeps s w h = elim (cases_eq s at) [
   | inl d ↦
-      let was : IsLow (Known least) w = subst (λ (l : Least). IsLow l w) (ap (least_at leasts) d ∙ e) h in
-      subst (λ (l : Least). IsLow l w) (sym (written leasts at s (Known (earliest least (Some t))) lt d))
-      (earliest_keeps least (Some t) w was)
-  | inr ne ↦ subst (λ (l : Least). IsLow l w) (sym (elsewhere leasts at s (Known (earliest least (Some t))) ne)) h
+      subst (λ (k : Least). IsLow k w) (sym (written leasts at s l lt d))
+      (keeps w (subst (λ (k : Least). IsLow k w) (ap (least_at leasts) d ∙ known_is leasts at old lt read) h))
+  | inr ne ↦ subst (λ (k : Least). IsLow k w) (sym (elsewhere leasts at s l ne)) h
 ]
 
-of_slot_entered : (ws : List (Option Time)) (now at index : ℕ) (least : Option Time) (t : Time) → get_or ws index None ≡ Some t
+-- what is known of the slots is so, where what is written at one is so when what was known of it was
+pub held_written : (leasts : List Least) (ws : List (Option Time)) (now at : ℕ) (old l : Least) → at < length leasts
+    → old ≡ get_or leasts at old → (IsHeld ws now at old → IsHeld ws now at l)
+    → ((q : ℕ) → IsHeld ws now q (least_at leasts q)) → (s : ℕ) → IsHeld ws now s (least_at (set leasts at l) s)
+held_written leasts ws now at old l lt read keeps h s = elim (cases_eq s at) [
+  | inl d ↦
+      subst (IsHeld ws now s) (sym (written leasts at s l lt d))
+      (subst (λ (q : ℕ). IsHeld ws now q l) (sym d)
+      (keeps (subst (IsHeld ws now at) (known_is leasts at old lt read) (h at))))
+  | inr ne ↦ subst (IsHeld ws now s) (sym (elsewhere leasts at s l ne)) (h s)
+]
+
+-- one more component waits for a time of a slot
+pub of_slot_entered : (ws : List (Option Time)) (now at index : ℕ) (least : Option Time) (t : Time) → get_or ws index None ≡ Some t
     → slot t.tick now ≡ at → IsOfSlot ws now at least → IsOfSlot ws now at (earliest least (Some t))
 of_slot_entered ws now at index least t e is h = by (either least (Some t))
   where
@@ -36,27 +53,7 @@ of_slot_entered ws now at index least t e is h = by (either least (Some t))
     by (inl d) = subst (IsOfSlot ws now at) (sym d) h
     by (inr d) = subst (IsOfSlot ws now at) (sym d) (is, (index, e))
 
-pub held_entered : (leasts : List Least) (ws : List (Option Time)) (now at index s : ℕ) (least : Option Time) (t : Time)
-    → at < length leasts → least_at leasts at ≡ Known least → get_or ws index None ≡ Some t → slot t.tick now ≡ at
-    → ((r : ℕ) → IsHeld ws now r (least_at leasts r))
-    → IsHeld ws now s (least_at (set leasts at (Known (earliest least (Some t)))) s)
-held_entered leasts ws now at index s least t lt e here is h = elim (cases_eq s at) [
-  | inl d ↦
-      let was : IsOfSlot ws now at least = subst (IsHeld ws now at) e (h at) in
-      subst (IsHeld ws now s) (sym (written leasts at s (Known (earliest least (Some t))) lt d))
-      (subst (λ (r : ℕ). IsOfSlot ws now r (earliest least (Some t))) (sym d) (of_slot_entered ws now at index least t here is was))
-  | inr ne ↦ subst (IsHeld ws now s) (sym (elsewhere leasts at s (Known (earliest least (Some t))) ne)) (h s)
-]
-
--- nothing is known of a slot any more
-pub low_forgotten : (leasts : List Least) (at s : ℕ) (w : Option Time) → at < length leasts → IsLow (least_at leasts s) w
-    → IsLow (least_at (set leasts at Unknown) s) w
-low_forgotten leasts at s w lt h = elim (cases_eq s at) [
-  | inl d ↦ subst (λ (l : Least). IsLow l w) (sym (written leasts at s Unknown lt d)) tt
-  | inr ne ↦ subst (λ (l : Least). IsLow l w) (sym (elsewhere leasts at s Unknown ne)) h
-]
-
--- a wait of a slot is one still when an index has another wait, unless the index had it
+-- a wait of a slot is one still when a component has another wait, unless the component had it
 of_slot_still : (ws : List (Option Time)) (now s index : ℕ) (w f : Option Time) → index < length ws
     → ((t : Time) → f ≡ Some t → slot t.tick now ≡ s → get_or ws index None ≢ Some t)
     → IsOfSlot ws now s f → IsOfSlot (set ws index w) now s f
@@ -65,7 +62,7 @@ of_slot_still ws now s index w (Some t) lt other h =
     let ne : h.1.0 ≢ index = λ d. other t refl h.0 (ap (λ (i : ℕ). get_or ws i None) (sym d) ∙ h.1.1) in
     (h.0, (h.1.0, get_or-set_other ws index h.1.0 w None ne ∙ h.1.1))
 
--- an index of another slot, or of none
+-- a component of another slot, or of none
 pub held_by : (ws : List (Option Time)) (now s index : ℕ) (w : Option Time) (l : Least) → index < length ws
     → ((t : Time) → slot t.tick now ≡ s → get_or ws index None ≢ Some t)
     → IsHeld ws now s l → IsHeld (set ws index w) now s l
@@ -77,7 +74,8 @@ pub held_none : (ws : List (Option Time)) (now s index : ℕ) (w : Option Time) 
 held_none ws now s index w l lt e h =
     held_by ws now s index w l lt (λ t is d. let no : None ≡ Some t = sym e ∙ d in absurd (cc)) h
 
-same_slot : (now at : ℕ) (v : Option Time) (t u : Time) → v ≡ Some t → v ≡ Some u → slot t.tick now ≡ at → slot u.tick now ≡ at
+same_slot : (now at : ℕ) (v : Option Time) (t u : Time) → v ≡ Some t → v ≡ Some u → slot t.tick now ≡ at
+    → slot u.tick now ≡ at
 same_slot now at v t u e d is =
     let both : Some u ≡ Some t = sym d ∙ e in
     let one : u ≡ t = cc in
@@ -88,7 +86,7 @@ held_other : (ws : List (Option Time)) (now at index s : ℕ) (w : Option Time) 
 held_other ws now at index s w t l fits e is ne h =
     held_by ws now s index w l fits (λ u of_s d. ne (sym of_s ∙ same_slot now at (get_or ws index None) t u e d is)) h
 
--- what is known of slots, where that of the slot of the time that an index had is right when it has another wait
+-- what is known of slots, where that of the slot of the time that a component had is right when it has another wait
 pub held_after : (ws : List (Option Time)) (now at index s : ℕ) (w : Option Time) (t : Time) (l : Least) (leasts : List Least)
     → at < length leasts → index < length ws → get_or ws index None ≡ Some t → slot t.tick now ≡ at
     → IsHeld (set ws index w) now at l → ((r : ℕ) → IsHeld ws now r (least_at leasts r))
@@ -102,20 +100,15 @@ held_after ws now at index s w t l leasts lt fits e is here h = elim (cases_eq s
       (held_other ws now at index s w t (least_at leasts s) fits e is ne (h s))
 ]
 
-held_still : (ws : List (Option Time)) (now s index : ℕ) (w : Option Time) (t : Time) (l : Least) → index < length ws
-    → get_or ws index None ≡ Some t → l ≢ Known (Some t) → IsHeld ws now s l → IsHeld (set ws index w) now s l
-held_still ws now s index w t Unknown fits at other h = tt
-held_still ws now s index w t (Known f) fits at other h =
-    of_slot_still ws now s index w f fits (λ u e is x. other (ap Known (e ∙ sym x ∙ at))) h
-
--- the same where the index had not the least of its slot
-pub held_left : (leasts : List Least) (ws : List (Option Time)) (now at index s : ℕ) (w : Option Time) (t : Time) → index < length ws
-    → get_or ws index None ≡ Some t → slot t.tick now ≡ at → least_at leasts at ≢ Known (Some t)
-    → ((r : ℕ) → IsHeld ws now r (least_at leasts r)) → IsHeld (set ws index w) now s (least_at leasts s)
-held_left leasts ws now at index s w t fits e is other h = elim (cases_eq s at) [
-  | inl d ↦ held_still ws now s index w t (least_at leasts s) fits e (λ x. other (ap (least_at leasts) (sym d) ∙ x)) (h s)
-  | inr ne ↦ held_other ws now at index s w t (least_at leasts s) fits e is ne (h s)
-]
+-- the same with what was known of that slot
+pub held_left : (ws : List (Option Time)) (now at index : ℕ) (w : Option Time) (t : Time) (leasts : List Least) (old l : Least)
+    → at < length leasts → index < length ws → get_or ws index None ≡ Some t → slot t.tick now ≡ at
+    → old ≡ get_or leasts at old
+    → (IsHeld ws now at old → IsHeld (set ws index w) now at l) → ((r : ℕ) → IsHeld ws now r (least_at leasts r))
+    → (s : ℕ) → IsHeld (set ws index w) now s (least_at (set leasts at l) s)
+held_left ws now at index w t leasts old l lt fits e is read keeps h s =
+    held_after ws now at index s w t l leasts lt fits e is
+    (keeps (subst (IsHeld ws now at) (known_is leasts at old lt read) (h at))) h
 
 none_in : (ws : List (Option Time)) (now s n q : ℕ) → IsHeld ws now s (get_or (replicate n (Known None)) q Unknown)
 none_in ws now s zero q = tt

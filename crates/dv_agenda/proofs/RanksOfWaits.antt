@@ -36,7 +36,8 @@ of_run limit (Some t) (Some u) h k = elim (cases_lt (rank limit u) (rank limit t
   | inr le ↦ subst (IsWaitOfRun limit) (sym (not_after limit t u h k le)) h
 ]
 
-first_of_run : (limit : ℕ) (ws : List (Option Time)) (cs : List Component) → AreNextTimes limit ws cs → IsWaitOfRun limit (first_of ws)
+first_of_run : (limit : ℕ) (ws : List (Option Time)) (cs : List Component) → AreNextTimes limit ws cs
+    → IsWaitOfRun limit (first_of ws)
 first_of_run limit [] [] h = tt
 first_of_run limit [] (c ∷ cs) h = absurd h
 first_of_run limit (w ∷ ws) [] h = absurd h
@@ -63,6 +64,7 @@ same_as_rank limit n u h = elim (cases_eq (rank limit u) n) [
       grind (arith, nat_tests)
 ]
 
-pub ends_as_imminent : (limit n : ℕ) (w : Option Time) → IsWaitOfRun limit w → ends_at (time_of limit n) w ≡ is_at n (rank_if limit w)
+pub ends_as_imminent : (limit n : ℕ) (w : Option Time) → IsWaitOfRun limit w
+    → ends_at (time_of limit n) w ≡ is_at n (rank_if limit w)
 ends_as_imminent limit n None h = refl
 ends_as_imminent limit n (Some u) h = same_as_rank limit n u h

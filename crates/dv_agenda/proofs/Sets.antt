@@ -12,14 +12,15 @@ use Rattle.std.specs.Int.RustNames.{bit_or}
 use lib.Bits.{bit_and}
 use lib.Count.{trailing_of_zero}
 use Rattle.std.proofs.Common.{w64}
-use Rattle.dv_agenda.specs.Wheel.{IsHeaded, has}
+use Rattle.dv_agenda.specs.Sets.{IsHeaded, has}
 
 pub has_is : (words : List ℕ) (p : ℕ) → has words p ≡ bit_at (get_or words (p / 64) 0) (p % 64)
 unfolding has
 has_is words p = refl
 
 -- a word is written
-written : (words : List ℕ) (p n x : ℕ) → n < 64 * length words → p / 64 ≡ n / 64 → has (set words (n / 64) x) p ≡ bit_at x (p % 64)
+written : (words : List ℕ) (p n x : ℕ) → n < 64 * length words → p / 64 ≡ n / 64
+    → has (set words (n / 64) x) p ≡ bit_at x (p % 64)
 written words p n x lt e =
     has_is (set words (n / 64) x) p
     ∙ ap (λ (i : ℕ). bit_at (get_or (set words (n / 64) x) i 0) (p % 64)) e
@@ -175,7 +176,8 @@ none_left words at p nothing le lt =
     ∙ ap (λ (y : ℕ). bit_at y (p - at)) nothing
     ∙ bit_at-zero (p - at)
 
-pub none_before : (words : List ℕ) (at p rest : ℕ) → rest ≡ get_or words (at / 64) 0 / 2 ^ (at % 64) → get_or words (at / 64) 0 < 2 ^ 64
+pub none_before : (words : List ℕ) (at p rest : ℕ) → rest ≡ get_or words (at / 64) 0 / 2 ^ (at % 64)
+    → get_or words (at / 64) 0 < 2 ^ 64
     → rest ≢ 0 → rest < 2 ^ 64 → at ≤ p → p < at + trailing_zeros w64 rest → has words p ≡ 0
 none_before words at p rest is below some small le lt =
     let zeros = bit_at-trailing_zeros w64 rest (omega arith) small in
@@ -265,7 +267,8 @@ nil_there words at p lt e =
     ∙ ap (λ (y : ℕ). bit_at y (p % 64)) (get_or-set_same words at 0 0 lt)
     ∙ bit_at-zero (p % 64)
 
-pub headed_taken : (heads heads2 words : List ℕ) (at : ℕ) → IsHeaded heads words → at < length words → length heads2 ≡ length heads
+pub headed_taken : (heads heads2 words : List ℕ) (at : ℕ) → IsHeaded heads words → at < length words
+    → length heads2 ≡ length heads
     → ((q : ℕ) → q ≢ at → has heads2 q ≡ has heads q) → IsHeaded heads2 (set words at 0)
 headed_taken heads heads2 words at h lt size others =
     let same : length (set words at 0) ≡ length words = length-set words at 0 in

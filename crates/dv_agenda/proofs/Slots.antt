@@ -16,7 +16,8 @@ unfolding slot_from
 slot_same f level t now e =
     ap (λ b. cond b (64 * level + t % 64) (slot_from f (level + 1) (t / 64) (now / 64))) (eq-eqb (t / 64) (now / 64) e)
 
-pub slot_other : (f level t now : ℕ) → t / 64 ≢ now / 64 → slot_from (suc f) level t now ≡ slot_from f (level + 1) (t / 64) (now / 64)
+pub slot_other : (f level t now : ℕ) → t / 64 ≢ now / 64
+    → slot_from (suc f) level t now ≡ slot_from f (level + 1) (t / 64) (now / 64)
 unfolding slot_from
 slot_other f level t now ne =
     ap (λ b. cond b (64 * level + t % 64) (slot_from f (level + 1) (t / 64) (now / 64))) (ne_eqb (t / 64) (now / 64) ne)

@@ -1,15 +1,10 @@
--- Sets of numbers as bits of words, and the slots of a wheel of times.
-use Rattle.std.specs.Prelude.{◌≡◌, ℕ, zero, suc, ◌+◌, ◌*◌, ◌/◌, ◌%◌, ◌^◌, ◌≤◌, length, nat_eq, if◌then◌else◌, Bool, false, List, Option}
+-- The slots of a wheel of times, and what is known of the least wait in each.
+use Rattle.std.specs.Prelude.{◌≡◌, ℕ, zero, suc, ◌+◌, ◌*◌, ◌/◌, ◌%◌, ◌≤◌, nat_eq, if◌then◌else◌, Bool, false, List, Option}
 use Rattle.std.specs.Prelude.{Some, None, slice_index_or}
-use Rattle.std.specs.Int.{bit_at}
 use Rattle.dv_time.specs.declared.time.Time.{Time}
 use Rattle.dv_time.specs.Time.{earliest}
 use Rattle.dv_agenda.specs.declared.least.Least.{Least}
 use Rattle.dv_agenda.specs.declared.least.Least.TheVariants.{Known, Unknown}
-
--- 1 where a set has a number
-unfoldable pub has : List ℕ → ℕ → ℕ
-has words p = bit_at (slice_index_or words (p / 64) 0) (p % 64)
 
 -- The slot of a tick: 64 for each digit in base 64 above which it is as the present tick is, from a level on, and behind so many
 -- digits one slot for all others.
@@ -21,10 +16,14 @@ slot_from (suc levels) level tick now =
 unfoldable pub slot : ℕ → ℕ → ℕ
 slot tick now = slot_from 10 0 tick now
 
--- a wait does not end before the present tick
+-- a wait does not end before a tick
 abbrev pub IsFrom : ℕ → Option Time → Type 0
 IsFrom now None = Unit {0}
 IsFrom now (Some t) = now ≤ t.tick
+
+-- no wait ends before a tick
+abbrev pub AreFrom : List (Option Time) → ℕ → Type 0
+AreFrom waits now = (index : ℕ) → IsFrom now (slice_index_or waits index None)
 
 -- what is known of the least wait in a slot
 abbrev pub least_at : List Least → ℕ → Least
@@ -35,14 +34,7 @@ abbrev pub IsLow : Least → Option Time → Type 0
 IsLow Unknown w = Unit {0}
 IsLow (Known least) w = earliest least w ≡ least
 
--- The index of a wait is in the set of its slot, which is among the slots that are in use, and of which no lesser wait is known.
-abbrev pub IsIn : ℕ → List ℕ → List ℕ → List Least → ℕ → ℕ → Option Time → Type 0
-IsIn now used indices leasts span index None = Unit {0}
-IsIn now used indices leasts span index (Some t) =
-    (has used (slot t.tick now) ≡ 1) × (has indices (slot t.tick now * span + index) ≡ 1)
-    × IsLow (least_at leasts (slot t.tick now)) (Some t)
-
--- an index of a slot has a wait, if it is one
+-- a wait that is one of a slot's is what a component waits for
 abbrev pub IsOfSlot : List (Option Time) → ℕ → ℕ → Option Time → Type 0
 IsOfSlot waits now s None = Unit {0}
 IsOfSlot waits now s (Some t) = (slot t.tick now ≡ s) × ((index : ℕ) × (slice_index_or waits index None ≡ Some t))
@@ -56,10 +48,3 @@ IsHeld waits now s (Known least) = IsOfSlot waits now s least
 abbrev pub in_slot : ℕ → ℕ → Option Time → Bool
 in_slot now s None = false
 in_slot now s (Some t) = nat_eq (slot t.tick now) s
-
--- for each word that has a number the heads have its index
-pub record IsHeaded (heads words : List ℕ) : Type 0 where
-  pub room : length words ≤ 64 * length heads
-  pub few : length words ≤ 2 ^ 50
-  pub heads_few : length heads ≤ 2 ^ 50
-  pub headed : (p : ℕ) → has words p ≡ 1 → has heads (p / 64) ≡ 1

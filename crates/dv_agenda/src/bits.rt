@@ -2,7 +2,7 @@
 
 ghost use Rattle.std.specs.Prelude.{◌≡◌, ◌≢◌, ℕ, ◌+◌, ◌*◌, ◌/◌, ◌^◌, ◌<◌, ◌≤◌, length};
 ghost use Rattle.std.specs.Int.{bit_at, trailing_zeros, w64};
-ghost use Rattle.dv_agenda.specs.Wheel.{has};
+ghost use Rattle.dv_agenda.specs.Sets.{has};
 
 /// Adds a number to a set.
 #[inline]

@@ -1,4 +1,4 @@
-//! An agenda of few indices: each is looked at.
+//! An agenda of few components: each is looked at.
 
 ghost use Rattle.std.specs.Prelude.{◌≡◌, ◌+◌, ◌^◌, ◌<◌, ◌≤◌, ◌++◌, OnErr, OnOk, length};
 ghost use Rattle.std.specs.Vec.{vec_capacity, vec_len};
@@ -8,10 +8,10 @@ use crate::wait::{is_due, push_due};
 use dv_time::{Time, earliest};
 use std::alloc::AllocError;
 
-/// So many indices at most are few: to look at each takes less time than to keep them in slots.
+/// So many components at most are few: it takes less time to look at each than to keep them in slots.
 pub(crate) const FEW: usize = 16;
 
-/// The first time that an index waits for.
+/// The first time that a component waits for.
 pub(crate) fn first_of_few(waits: &[Option<Time>]) -> Option<Time>
     ensures { result ≡ first_of waits.now }
 {
@@ -22,7 +22,7 @@ pub(crate) fn first_of_few(waits: &[Option<Time>]) -> Option<Time>
     first
 }
 
-/// Adds the indices that wait for a time to a list, in ascending order.
+/// Adds the components that wait for a time to a list, in ascending order.
 pub(crate) fn gather_few(
     waits: &[Option<Time>],
     time: Time,

@@ -13,8 +13,8 @@ use dv_time::{Time, earliest};
 pub(crate) struct FirstWait {
     pub(crate) wait: Option<Time>,
     pub(crate) known: bool,
-    /// How many of the indices that were due last wait as they did then: when none is left the next first wait is looked for, and
-    /// not each time that one of the first waits ends.
+    /// How many of the components that were due last wait still as they did then. The next first wait is looked for when none is left,
+    /// and not each time that one of them has another wait.
     pub(crate) left: usize,
 }
 
@@ -30,7 +30,7 @@ pub(crate) fn found(wait: Option<Time>) -> FirstWait
     }
 }
 
-/// Keeps what is known when an index waits for another time than before.
+/// Keeps what is known when a component waits for another time than before.
 #[inline]
 pub(crate) fn change(first: &mut FirstWait, before: Option<Time>, wait: Option<Time>)
     ensures { (ws : List (Option Time)) (index : ℕ) → index < length ws

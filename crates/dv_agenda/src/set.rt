@@ -1,7 +1,7 @@
 //! A set of numbers, of which the next is found fast even where there are few.
 
 ghost use Rattle.std.specs.Prelude.{◌≡◌, ◌≢◌, ℕ, ◌+◌, ◌*◌, ◌/◌, ◌^◌, ◌<◌, ◌≤◌, List, length, replicate, slice_index_or, IfOk};
-ghost use Rattle.dv_agenda.specs.Wheel.{has};
+ghost use Rattle.dv_agenda.specs.Sets.{has};
 
 use crate::bits;
 use std::alloc::{AllocError, Global};
@@ -17,7 +17,7 @@ pub(crate) struct Set {
 
 impl Model for Set {
     ghost use Rattle.std.specs.Prelude.{List, ℕ};
-    ghost use Rattle.dv_agenda.specs.Wheel.{IsHeaded};
+    ghost use Rattle.dv_agenda.specs.Sets.{IsHeaded};
 
     ghost Value = { List ℕ };
 

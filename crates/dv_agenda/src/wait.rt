@@ -1,4 +1,4 @@
-//! Waits of indices: a time, or none.
+//! Waits of components: a time, or none.
 
 ghost use Rattle.std.specs.Prelude.{◌≡◌, ℕ, ◌+◌, ◌^◌, ◌<◌, ◌≤◌, ◌↔◌, ◌++◌, IsTrue, List, None, OnErr, OnOk, length, slice_index_or, take};
 ghost use Rattle.std.specs.Vec.{vec_capacity};
@@ -15,7 +15,7 @@ pub(crate) fn is_same(one: Option<Time>, other: Option<Time>) -> bool
     one == other
 }
 
-/// What an index waits for; one that is not there waits for nothing.
+/// What a component waits for. One that is not there waits for nothing.
 #[inline]
 pub(crate) fn wait_at(waits: &[Option<Time>], index: usize) -> Option<Time>
     ensures { result ≡ slice_index_or waits.now index None }
@@ -27,7 +27,7 @@ pub(crate) fn wait_at(waits: &[Option<Time>], index: usize) -> Option<Time>
     }
 }
 
-/// Whether an index waits for a time.
+/// Whether a component waits for a time.
 #[inline]
 pub(crate) fn is_due(waits: &[Option<Time>], index: usize, time: Time) -> bool
     ensures due { result ≡ ends_at time (slice_index_or waits.now index None) }
@@ -39,7 +39,7 @@ pub(crate) fn is_due(waits: &[Option<Time>], index: usize, time: Time) -> bool
     }
 }
 
-/// Adds an index to a list, if it waits for a time.
+/// Adds a component to a list, if it waits for a time.
 #[inline]
 pub(crate) fn push_due(
     waits: &[Option<Time>],

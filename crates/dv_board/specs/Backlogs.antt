@@ -32,7 +32,7 @@ pub record IsHeld {N : Type 0} (job : Job) (mark : Time) (p : ℕ) (h : Held N) 
   pub order : IsNoLater job mark h.clock
   pub part : h.part ≡ committed job p h.from h.clock
 
--- an index for each process
+-- one for each process
 pub record AreHeld {N : Type 0} (job : Job) (mark : Time) (held : List (Held N)) : Type 0 where
   pub merges : IsMergeable job
   pub some : 0 < job.processes

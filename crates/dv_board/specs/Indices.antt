@@ -1,4 +1,4 @@
--- What becomes of a process's index in a backlog.
+-- What becomes of what a backlog keeps of a process.
 use Rattle.std.specs.Prelude.{if◌then◌else◌}
 use Rattle.dv_time.specs.Time.{is_before}
 use Rattle.dv_time.specs.declared.time.Time.{Time}

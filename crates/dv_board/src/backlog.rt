@@ -72,9 +72,9 @@ fn least_clock<N: OfJob>(held: &[Held<N>]) -> Time
     ensures { IsLeast result (map (λ h. h.clock) held.now) }
 {
     let mut least = held[0].clock;
-    for index in held {
-        if index.clock.is_before(least) {
-            least = index.clock;
+    for kept in held {
+        if kept.clock.is_before(least) {
+            least = kept.clock;
         }
     }
     least
@@ -85,8 +85,8 @@ fn clocks_of<N: OfJob>(alloc: Global, held: &[Held<N>]) -> Result<Vec<Time>, All
     ensures { IfOk result (λ clocks. clocks.items ≡ map (λ h. h.clock) held.now) }
 {
     let mut clocks = Vec::with_capacity(alloc, held.len())?;
-    for index in held {
-        clocks.push(index.clock)?;
+    for kept in held {
+        clocks.push(kept.clock)?;
     }
     Ok(clocks)
 }
@@ -103,8 +103,8 @@ fn pieces_between<'h, N: OfJob>(
         ≡ map (λ h. since from (before upto h.part)) held.now) }
 {
     let mut pieces = Vec::with_capacity(alloc, held.len())?;
-    for index in held {
-        pieces.push(PartSlice::between(&index.part, from, upto))?;
+    for kept in held {
+        pieces.push(PartSlice::between(&kept.part, from, upto))?;
     }
     Ok(pieces)
 }
@@ -114,8 +114,8 @@ fn let_go_all<N: OfJob>(held: &mut Vec<Held<N>>, time: Time)
     requires { All (λ h. IsByTime h.part) held.old.items }
     ensures { held.new.items ≡ map (rest_of time) held.old.items }
 {
-    for index in held.iter_mut() {
-        index.let_go(time);
+    for kept in held.iter_mut() {
+        kept.let_go(time);
     }
 }
 
@@ -124,7 +124,7 @@ impl<N: OfJob> Backlog<N> {
     ///
     /// # Errors
     ///
-    /// No memory for the indices of so many processes.
+    /// No memory for so many processes.
     pub fn new(alloc: Global, processes: u32) -> Result<Self, AllocError>
         requires processes { processes ≡ N.job.processes }
         requires some { 0 < processes }

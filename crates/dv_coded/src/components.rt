@@ -111,7 +111,7 @@ fn members(
     Ok(members)
 }
 
-// A component, whose model has an index and programs.
+// A component, with the index of its model among those that have components, and with the model's programs.
 fn member(
     bench: &mut Bench,
     tree: &Tree,

@@ -9,7 +9,7 @@
 //! process.
 #![tactic(auto)]
 
-/// An index to run programs at.
+/// What programs are run with.
 pub mod bench;
 /// The components of a text.
 pub mod components;

@@ -93,7 +93,7 @@ impl Models {
     }
 }
 
-// No index for each model of a text.
+// For each model of a text that it has no index yet.
 fn no_indices(alloc: Global, models: &[Model]) -> Result<Vec<Option<u32>>, AllocError>
     ensures { IfOk result (λ indices. indices.items ≡ map (λ _. None) models.now) }
 {

@@ -5,21 +5,39 @@ use crate::follower::Follower;
 use crate::told::FileText;
 use dv_bag::Inputs;
 use dv_flat::LinkLists;
-use dv_trace::{LineBuffer, TraceReader};
+use dv_trace::{End, LineCutter, LineLists, TakeLine, TraceReader};
 use dv_tree::Tree;
 use std::alloc::Global;
 use std::io;
-use std::io::{ErrorKind, Write};
+use std::io::Write;
 
 /// A writer that takes the bytes of a trace as a run prints them, and explains the first faults of its components. Of the trace it keeps
 /// what each component is, and the lines of the last instant, so that it takes the same memory for any number of lines.
 #[derive(Drop)]
 pub struct FaultWriter<'t> {
+    lines: LineCutter<Following<'t>>,
+}
+
+/// What reads the lines of a trace, and what follows what they say.
+#[derive(Drop)]
+struct Following<'t> {
     reader: TraceReader<'t>,
     follower: Follower<'t>,
-    lines: LineBuffer,
-    // Why nothing more is taken.
-    error: Option<FaultsError>,
+}
+
+impl TakeLine for Following<'_> {
+    type Error = FaultsError;
+
+    // A follower is given whole lines, whose lists are their own.
+    fn take_line<'a>(
+        &mut self,
+        line: &'a [u8],
+        _lists: &mut LineLists<'a>,
+    ) -> Result<(), FaultsError> {
+        let line = self.reader.read_line(line)?;
+        self.follower.add(&line)?;
+        Ok(())
+    }
 }
 
 impl<'t> FaultWriter<'t> {
@@ -37,11 +55,12 @@ impl<'t> FaultWriter<'t> {
         limit: u32,
         model: FileText<'t>,
     ) -> Result<Self, FaultsError> {
-        Ok(FaultWriter {
+        let following = Following {
             reader: TraceReader::new(alloc, tree)?,
             follower: Follower::new(alloc, tree, links, inputs.as_slice(), limit, model)?,
-            lines: LineBuffer::new(alloc),
-            error: None,
+        };
+        Ok(FaultWriter {
+            lines: LineCutter::new(alloc, following),
         })
     }
 
@@ -52,45 +71,22 @@ impl<'t> FaultWriter<'t> {
     ///
     /// `Refused` or `Memory` where a write to this one failed by it. `Memory`: no memory for the text.
     pub fn finish(self) -> Result<String, FaultsError> {
-        let FaultWriter {
+        let FaultWriter { lines } = self;
+        // A run ends its last line.
+        let Following {
             reader: _,
             follower,
-            lines: _,
-            error,
-        } = self;
-        if let Some(error) = error {
-            return Err(error);
-        }
+        } = lines.finish(End::Optional)?;
         Ok(follower.finish()?)
-    }
-
-    // Takes the lines that end in these bytes.
-    fn take(&mut self, bytes: &[u8]) -> Result<(), FaultsError> {
-        for piece in bytes.split_inclusive(|byte| *byte == b'\n') {
-            if let Some(line) = self.lines.add(piece)? {
-                let line = self.reader.read_line(line)?;
-                self.follower.add(&line)?;
-            }
-        }
-        Ok(())
     }
 }
 
 impl Write for FaultWriter<'_> {
     fn write(&mut self, buf: &[u8]) -> io::Result<usize> {
-        if self.error.is_some() {
-            return Err(io::Error::from(ErrorKind::Other));
-        }
-        match self.take(buf) {
-            Ok(()) => Ok(buf.len()),
-            Err(error) => {
-                self.error = Some(error);
-                Err(io::Error::from(ErrorKind::Other))
-            }
-        }
+        self.lines.write(buf)
     }
 
     fn flush(&mut self) -> io::Result<()> {
-        Ok(())
+        self.lines.flush()
     }
 }

@@ -211,7 +211,9 @@ impl<'w, N: OfJob> HandsOver<N> for WrittenRecord<'w, N> {
         self.entries = 0;
         self.lines = 0;
         self.past = self.told.again();
-        mem::replace(&mut self.kept, WrittenPart::new(alloc))
+        // The next part is mostly as long as this one.
+        let next = WrittenPart::with_room(alloc, self.kept.entry_count());
+        mem::replace(&mut self.kept, next)
     }
 }
 

@@ -1,6 +1,6 @@
 -- Arrivals by time: a map in code and what it stands for.
 use Rattle.std.proofs.Common.{◌≡◌, inl, inr, ℕ, ◌+◌, ◌-◌, ◌<◌, ◌≤◌, Bool, true, false, cond, List, [], ◌∷◌, ◌++◌, length, take}
-use Rattle.std.proofs.Common.{map, Option, Some, None, refl, sym, ap, subst, arith, ◌∙◌, append_assoc, get_or}
+use Rattle.std.proofs.Common.{drop, map, Option, Some, None, refl, sym, ap, subst, arith, ◌∙◌, append_assoc, get_or}
 use Rattle.std.specs.Cmp.{IsTotalOrder}
 use Rattle.std.specs.BTreeMap.{BTreeMap, IsLowerBound, get, is_at}
 use Rattle.std.specs.FinMap as finite
@@ -14,10 +14,13 @@ use Rattle.std.specs.declared.cmp.Ordering.TheVariants.{Less, Equal, Greater}
 use Rattle.std.proofs.lemmas.Bool.{cases_lt, false≢true}
 use Rattle.std.proofs.lemmas.Bool.Decides.{nat_tests}
 use Rattle.std.proofs.lemmas.Cmp.{nat_cmp_total, on_total, then_total}
-use Rattle.std.proofs.lemmas.List.{append-nil, length_push, nil_from_length, take_at, take_more}
+use Rattle.std.proofs.Math.Seq.{take-add}
+use Rattle.std.proofs.lemmas.List.{append-nil, length_push, nil_from_length, length-drop, take_all, take_at, take_more}
+use Rattle.std.proofs.lemmas.List.Elements.{All-head, All-tail}
 use Rattle.dv_time.specs.Time.{is_before, time_cmp}
 use Rattle.dv_time.specs.declared.time.Time.{Time}
-use Rattle.dv_local.specs.Arrivals.{AllFilled, arrivals_at, arrivals_of, coming_at, delivery_in, items_at, items_of, or_nothing}
+use Rattle.dv_local.specs.Arrivals.{AllFilled, AreAt, BringOnlyAt, arrivals_at, arrivals_of, coming_at, delivery_in, items_at, items_of}
+use Rattle.dv_local.specs.Arrivals.{or_nothing}
 use Rattle.dv_agenda.specs.Waits.{same_time}
 use Rattle.dv_share.specs.declared.link.Delivery.{Delivery}
 use Rattle.dv_proc.specs.declared.packet.Event.{Event}
@@ -127,16 +130,48 @@ back_step events left d low fits t old new before e n =
     ∙ ap (λ (found : List Delivery). before ++ found) (coming_at-append t (take (left - 1) events) (get_or events (left - 1) d ∷ [])))
     n
 
--- one event more
-pub add_step : (events : List Event) (done : ℕ) (d : Event) → done < length events → (t : Time) (first old new : List Delivery)
-    → old ≡ first ++ coming_at t (take done events) → new ≡ old ++ coming_at t (get_or events done d ∷ [])
-    → new ≡ first ++ coming_at t (take (done + 1) events)
-add_step events done d lt t first old new e n =
+-- events of a time more
+pub run_step : (events : List Event) (done count : ℕ) (t : Time) (first old new : List Delivery)
+    → old ≡ first ++ coming_at t (take done events) → new ≡ old ++ coming_at t (take count (drop done events))
+    → new ≡ first ++ coming_at t (take (done + count) events)
+run_step events done count t first old new e n =
+    let run = take count (drop done events) in
     n
-    ∙ ap (λ (xs : List Delivery). xs ++ coming_at t (get_or events done d ∷ [])) e
-    ∙ append_assoc first (coming_at t (take done events)) (coming_at t (get_or events done d ∷ []))
-    ∙ ap (λ (found : List Delivery). first ++ found) (sym (coming_at-append t (take done events) (get_or events done d ∷ [])))
-    ∙ ap (λ (cs : List Event). first ++ coming_at t cs) (sym (take_more events done d lt))
+    ∙ ap (λ (xs : List Delivery). xs ++ coming_at t run) e
+    ∙ append_assoc first (coming_at t (take done events)) (coming_at t run)
+    ∙ ap (λ (found : List Delivery). first ++ found) (sym (coming_at-append t (take done events) run))
+    ∙ ap (λ (cs : List Event). first ++ coming_at t cs) (sym (take-add done count events))
+
+same_as : (a b c : Time) → same_time a b ≡ true → same_time a c ≡ same_time b c
+same_as a b c e = grind (arith, nat_tests)
+
+-- from an index on
+pub rest_is : (events : List Event) (done : ℕ) → take (length events - done) (drop done events) ≡ drop done events
+rest_is events done = take_all (length events - done) (drop done events) (omega (arith, length-drop done events))
+
+pub rest_length : (events : List Event) (done : ℕ)
+    → length (take (length events - done) (drop done events)) ≡ length events - done
+rest_length events done = ap length (rest_is events done) ∙ length-drop done events
+
+-- events that are all at one time bring something at that time alone
+pub brings_only_at : (time : Time) (es : List Event) → AreAt time es → BringOnlyAt time es
+brings_only_at time [] all t = nothing (same_time time t)
+  where
+    none : List Delivery
+    none = []
+
+    nothing : (b : Bool) → none ≡ cond b none none
+    nothing true = refl
+    nothing false = refl
+brings_only_at time (e ∷ es) all t =
+    let at : same_time e.time time ≡ true = All-head (λ (x : Event). same_time x.time time ≡ true) e es all in
+    let others = brings_only_at time es (All-tail (λ (x : Event). same_time x.time time ≡ true) e es all) t in
+    one_more (same_time e.time t) (same_time time t) (delivery_in e) (map delivery_in es) (coming_at t es) (same_as e.time time t at) others
+  where
+    one_more : (b c : Bool) (d : Delivery) (ds rest : List Delivery) → b ≡ c → rest ≡ cond c ds []
+        → cond b (d ∷ rest) rest ≡ cond c (d ∷ ds) []
+    one_more b true d ds rest same is = ap (λ (x : Bool). cond x (d ∷ rest) rest) same ∙ ap (λ (xs : List Delivery). d ∷ xs) is
+    one_more b false d ds rest same is = ap (λ (x : Bool). cond x (d ∷ rest) rest) same ∙ is
 
 reversed : (o : Ordering) → is_gt (ordering_reverse o) ≡ is_lt o
 reversed Less = refl

@@ -1,5 +1,6 @@
 -- What events bring, and what arrives at each time.
-use Rattle.std.specs.Prelude.{ℕ, ◌<◌, Bool, ◌&&◌, nat_le, nat_lt, if◌then◌else◌, List, [], ◌∷◌, length, map, Option, Some, None}
+use Rattle.std.specs.Prelude.{◌≡◌, ℕ, ◌<◌, Bool, true, ◌&&◌, nat_le, nat_lt, if◌then◌else◌, List, [], ◌∷◌, length, map, Option, Some, None}
+use Rattle.std.specs.List.{All}
 use Rattle.std.specs.Option.{IfSome}
 use Rattle.std.specs.BTreeMap.{BTreeMap, get}
 use Rattle.std.specs.FinMap as finite
@@ -27,6 +28,14 @@ entered_by i = record { component = 0; port = i.port; value = i.value; copies = 
 abbrev pub coming_at : Time → List Event → List Delivery
 coming_at t [] = []
 coming_at t (e ∷ es) = if same_time e.time t then delivery_in e ∷ coming_at t es else coming_at t es
+
+-- all of some events are at a time
+abbrev pub AreAt : Time → List Event → Type 0
+AreAt time es = All (λ (e : Event). same_time e.time time ≡ true) es
+
+-- at their time they bring what they are, and at no other time anything
+abbrev pub BringOnlyAt : Time → List Event → Type 0
+BringOnlyAt time es = (t : Time) → coming_at t es ≡ (if same_time time t then map delivery_in es else [])
 
 -- arrivals by time, in the order in which they came
 abbrev pub Arrivals : Type 0

@@ -7,7 +7,7 @@ ghost use Rattle.dv_time.specs.declared.time.Time.{Time};
 ghost use Rattle.dv_local.specs.Arrivals.{arrivals_at, coming_at};
 ghost use Rattle.dv_agenda.specs.Waits.{same_time};
 
-use crate::by_time::{ByTime, add, take_all_back};
+use crate::by_time::{ByTime, add_run, first_run, take_all_back};
 use dv_proc::Event;
 use dv_share::Delivery;
 use std::alloc::{AllocError, Global};
@@ -111,11 +111,15 @@ impl Inbox {
             → arrivals_at t self.new ≡ arrivals_at t self.old ++ coming_at t events.now) }
         ensures err { OnErr result (self.new ≡ self.old) }
     {
-        for (done, event) in events.iter().enumerate() {
-            if add(&mut self.by_time, self.alloc, event).is_err() {
+        let mut done = 0;
+        while done < events.len() {
+            let rest = &events[done..];
+            let (time, count) = first_run(rest);
+            if add_run(&mut self.by_time, self.alloc, time, &rest[..count]).is_err() {
                 take_all_back(&mut self.by_time, &events[..done]);
                 return Err(AllocError);
             }
+            done += count;
         }
         Ok(())
     }

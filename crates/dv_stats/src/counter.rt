@@ -3,7 +3,7 @@
 use crate::counts::Counts;
 use crate::error::StatsError;
 use crate::options::StatsOptions;
-use dv_trace::{End, LineLists, Reach, TraceReader};
+use dv_trace::{End, LineLists, Reach, TakeLine, TraceReader};
 use dv_tree::Tree;
 use std::alloc::{AllocError, Global};
 
@@ -30,8 +30,20 @@ impl<'t> Counter<'t> {
         }))
     }
 
-    /// Counts the next line, which is given without its line feed. Its lists take the place of those of another line.
-    pub(crate) fn add<'a>(
+    /// What was counted, and how far the trace reaches that ends behind the last line.
+    pub(crate) fn end(self, end: End) -> Result<(Counts, Reach), StatsError> {
+        let Counter { reader, mut counts } = self;
+        let reach = reader.end(end)?;
+        counts.finish();
+        Ok((counts, reach))
+    }
+}
+
+impl TakeLine for Counter<'_> {
+    type Error = StatsError;
+
+    // Counts the line.
+    fn take_line<'a>(
         &mut self,
         line: &'a [u8],
         lists: &mut LineLists<'a>,
@@ -39,13 +51,5 @@ impl<'t> Counter<'t> {
         let head = self.reader.read_into(line, lists)?;
         self.counts.add(head, lists)?;
         Ok(())
-    }
-
-    /// What was counted, and how far the trace reaches that ends behind the last line.
-    pub(crate) fn end(self, end: End) -> Result<(Counts, Reach), StatsError> {
-        let Counter { reader, mut counts } = self;
-        let reach = reader.end(end)?;
-        counts.finish();
-        Ok((counts, reach))
     }
 }

@@ -4,12 +4,11 @@ use crate::counter::Counter;
 use crate::error::StatsError;
 use crate::listing::write_counts;
 use crate::options::StatsOptions;
-use dv_trace::{End, LineBuffer, LineLists, Reach};
+use dv_trace::{LineCutter, Reach};
 use dv_tree::Tree;
-use memchr::{memchr, memchr_iter};
 use std::alloc::{AllocError, Global};
 use std::io;
-use std::io::{ErrorKind, Write};
+use std::io::Write;
 
 /// A writer that takes the bytes of a trace, in any pieces, and counts what their lines say. Of the bytes it keeps the line that has not
 /// ended yet, so that without quantiles it takes the same memory for any number of lines.
@@ -18,10 +17,7 @@ pub struct StatsWriter<'t> {
     alloc: Global,
     tree: &'t Tree<'t>,
     options: StatsOptions<'t>,
-    counter: Counter<'t>,
-    lines: LineBuffer,
-    // Why nothing more is counted.
-    error: Option<StatsError>,
+    lines: LineCutter<Counter<'t>>,
 }
 
 impl<'t> StatsWriter<'t> {
@@ -42,9 +38,7 @@ impl<'t> StatsWriter<'t> {
             alloc,
             tree,
             options: *options,
-            counter,
-            lines: LineBuffer::new(alloc),
-            error: None,
+            lines: LineCutter::new(alloc, counter),
         }))
     }
 
@@ -65,76 +59,21 @@ impl<'t> StatsWriter<'t> {
             alloc,
             tree,
             options,
-            mut counter,
             lines,
-            error,
         } = self;
-        if let Some(error) = error {
-            return Err(error);
-        }
-        // What stands behind the last line feed is a line where the trace has to have an end.
-        if options.end == End::Required {
-            counter.add(lines.rest(), &mut LineLists::new(alloc))?;
-        }
+        let counter = lines.finish(options.end)?;
         let (counts, reach) = counter.end(options.end)?;
         write_counts(alloc, tree, &counts, &options, writer)?;
         Ok(reach)
-    }
-
-    // Counts the lines that end in these bytes, and keeps what is behind them. The first one may have begun in bytes before them.
-    fn take(&mut self, bytes: &[u8]) -> Result<(), StatsError> {
-        let Some(first) = memchr(b'\n', bytes) else {
-            return self.keep(bytes);
-        };
-        let begin = first.saturating_add(1);
-        self.take_first(bytes.get(..begin).unwrap_or(&[]))?;
-        let others = bytes.get(begin..).unwrap_or(&[]);
-        let rest = self.take_lines(others)?;
-        self.keep(others.get(rest..).unwrap_or(&[]))
-    }
-
-    // Counts the lines that begin and end in these bytes, and tells how many bytes they are.
-    fn take_lines(&mut self, bytes: &[u8]) -> Result<usize, StatsError> {
-        let mut lists = LineLists::new(self.alloc);
-        let mut rest: usize = 0;
-        for end in memchr_iter(b'\n', bytes) {
-            let line = bytes.get(rest..end).unwrap_or(&[]);
-            self.counter.add(line, &mut lists)?;
-            rest = end.saturating_add(1);
-        }
-        Ok(rest)
-    }
-
-    // Keeps the beginning of a line.
-    fn keep(&mut self, bytes: &[u8]) -> Result<(), StatsError> {
-        self.lines.add(bytes)?;
-        Ok(())
-    }
-
-    // Counts the line that ends in these bytes, of which the last is its line feed.
-    fn take_first(&mut self, bytes: &[u8]) -> Result<(), StatsError> {
-        if let Some(line) = self.lines.add(bytes)? {
-            self.counter.add(line, &mut LineLists::new(self.alloc))?;
-        }
-        Ok(())
     }
 }
 
 impl Write for StatsWriter<'_> {
     fn write(&mut self, buf: &[u8]) -> io::Result<usize> {
-        if self.error.is_some() {
-            return Err(io::Error::from(ErrorKind::Other));
-        }
-        match self.take(buf) {
-            Ok(()) => Ok(buf.len()),
-            Err(error) => {
-                self.error = Some(error);
-                Err(io::Error::from(ErrorKind::Other))
-            }
-        }
+        self.lines.write(buf)
     }
 
     fn flush(&mut self) -> io::Result<()> {
-        Ok(())
+        self.lines.flush()
     }
 }

@@ -46,9 +46,9 @@ pub struct Signals<N: OfJob> {
 }
 
 // Rings the bells of all workers.
-fn ring_all<R: Wait>(rt: &R, bells: &[Bell]) {
+fn ring_all(bells: &[Bell]) {
     for bell in bells {
-        bell.ring(rt);
+        bell.ring();
     }
 }
 
@@ -109,7 +109,7 @@ impl<N: OfJob> Signals<N> {
     }
 
     /// Tells the workers that pieces were taken off the board.
-    pub fn note_taken<R: Wait>(&self, rt: &R, pieces: &[Piece<N>]) {
+    pub fn note_taken(&self, pieces: &[Piece<N>]) {
         let mut may_go_on = false;
         for piece in pieces {
             if self.leads.take_off(piece.process, piece.part.entry_count()) {
@@ -117,14 +117,14 @@ impl<N: OfJob> Signals<N> {
             }
         }
         if may_go_on {
-            ring_all(rt, &self.bells);
+            ring_all(&self.bells);
         }
     }
 
     /// Tells the loop that the run has ended.
     pub fn end<R: Wait>(&self, rt: &R) {
         self.ended.raise(rt, &[]);
-        self.news.ring(rt);
+        self.news.ring();
     }
 }
 
@@ -215,7 +215,7 @@ fn write_posted<N: OfJob, R: Wait, W: Write>(
         (W.contents writer.old) (W.contents writer.new) before) }
 {
     let pieces = signals.board.take(rt, alloc);
-    signals.note_taken(rt, &pieces);
+    signals.note_taken(&pieces);
     if merger.backlog.extend_all(pieces).is_err() {
         signals.stop(rt);
     }
@@ -252,7 +252,7 @@ pub fn write_news<N: OfJob, R: Wait, W: Write>(
     }
     signals.paced.raise(rt, &[]);
     for _ in rt.forever() {
-        let seen = signals.news.rings(rt);
+        let seen = signals.news.rings();
         let is_last = signals.ended.is_raised();
         written = write_posted(rt, alloc, signals, merger, written, writer)?;
         if is_last {

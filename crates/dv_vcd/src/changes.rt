@@ -2,8 +2,9 @@
 
 use crate::arrivals::arrivals_of;
 use crate::forms::Form;
+use crate::marks::Marks;
 use crate::ports::Ports;
-use crate::shown::{AllShown, Shown, Standing};
+use crate::shown::{AllShown, Shown, ShownDatum, Standing};
 use crate::survey::tick_behind;
 use crate::values::{
     push_count, push_datum, push_nothing, push_number, push_standing, push_string, push_unknown,
@@ -13,7 +14,6 @@ use dv_eval::Domain;
 use dv_text::{WriteError, hand_over_if_long};
 use dv_trace::{Datum, EntryHead, Event, LineLists, Reach, Sending};
 use dv_tree::Tree;
-use indexmap::IndexMap;
 use std::alloc::{AllocError, Global};
 use std::io::Write;
 
@@ -30,26 +30,8 @@ pub(crate) struct Changes<'a> {
     arrived: usize,
     // The tick at which the text is.
     tick: u64,
-    // What passed in this tick by ports that are texts, by their codes.
-    marks: IndexMap<u64, Mark<'a>>,
-}
-
-/// What passed by a port in one tick.
-#[derive(Drop)]
-enum Mark<'a> {
-    /// At one time, as the trace has it.
-    Line(&'a str),
-    /// At one time by an input of the root, or at several times.
-    Text(String),
-}
-
-impl Mark<'_> {
-    fn as_str(&self) -> &str {
-        match self {
-            Mark::Line(text) => text,
-            Mark::Text(text) => text.as_str(),
-        }
-    }
+    // What passed in this tick by ports that are texts.
+    marks: Marks,
 }
 
 impl<'a> Changes<'a> {
@@ -71,7 +53,7 @@ impl<'a> Changes<'a> {
             inputs,
             arrived: 0,
             tick: 0,
-            marks: IndexMap::new(alloc),
+            marks: Marks::new(alloc),
         }
     }
 
@@ -129,7 +111,7 @@ impl<'a> Changes<'a> {
             self.arrived = self.arrived.saturating_add(together.len());
             for arrival in arrivals_of(self.alloc, together)? {
                 let code = self.shown.inputs.saturating_add(u64::from(arrival.port));
-                self.pass(code, Mark::Text(arrival.values))?;
+                self.pass(code, arrival.values.as_str())?;
             }
         }
         Ok(())
@@ -154,7 +136,7 @@ impl<'a> Changes<'a> {
         if !self.ports.are_held() {
             self.tick = self.tick.saturating_add(1);
             writeln!(self.text, "#{}", self.tick)?;
-            for code in self.marks.keys() {
+            for code in self.marks.codes() {
                 push_nothing(&mut self.text, *code)?;
             }
         }
@@ -166,7 +148,7 @@ impl<'a> Changes<'a> {
     pub(crate) fn entry(
         &mut self,
         entry: EntryHead,
-        lists: &LineLists<'a>,
+        lists: &LineLists<'_>,
     ) -> Result<(), AllocError> {
         self.advance(entry.time.tick)?;
         let component = entry.component as usize;
@@ -187,26 +169,26 @@ impl<'a> Changes<'a> {
     }
 
     /// What leaves the model at a tick.
-    pub(crate) fn outside(&mut self, tick: u64, sent: &[Sending<'a>]) -> Result<(), AllocError> {
+    pub(crate) fn outside(&mut self, tick: u64, sent: &[Sending<'_>]) -> Result<(), AllocError> {
         self.advance(tick)?;
         self.sent(self.shown.outputs, sent)
     }
 
     // What leaves by ports whose codes are from a first one on.
-    fn sent(&mut self, first: u64, sent: &[Sending<'a>]) -> Result<(), AllocError> {
+    fn sent(&mut self, first: u64, sent: &[Sending<'_>]) -> Result<(), AllocError> {
         for sending in sent {
             let code = first.saturating_add(sending.port as u64);
-            self.pass(code, Mark::Line(sending.values.text))?;
+            self.pass(code, sending.values.text)?;
         }
         Ok(())
     }
 
     // Values of one time that pass by a port.
-    fn pass(&mut self, code: u64, mark: Mark<'a>) -> Result<(), AllocError> {
+    fn pass(&mut self, code: u64, values: &str) -> Result<(), AllocError> {
         let form = self.ports.form(code);
         match form {
-            Form::Text => self.mark(code, mark),
-            Form::Wire | Form::Integer => match mark.as_str().parse::<i64>() {
+            Form::Text => self.mark(code, values),
+            Form::Wire | Form::Integer => match values.parse::<i64>() {
                 Ok(value) => push_number(&mut self.text, form, value, code),
                 Err(_) => push_unknown(&mut self.text, form, code),
             },
@@ -214,19 +196,9 @@ impl<'a> Changes<'a> {
     }
 
     // Values that pass by a port that is a text, behind those that passed in the same tick.
-    fn mark(&mut self, code: u64, mark: Mark<'a>) -> Result<(), AllocError> {
-        match self.marks.get_mut(&code) {
-            Some(before) => {
-                let text = format!(in self.alloc; "{};{}", before.as_str(), mark.as_str())?;
-                push_string(&mut self.text, text.as_str(), code)?;
-                *before = Mark::Text(text);
-            }
-            None => {
-                push_string(&mut self.text, mark.as_str(), code)?;
-                self.marks.insert(code, mark)?;
-            }
-        }
-        Ok(())
+    fn mark(&mut self, code: u64, values: &str) -> Result<(), AllocError> {
+        let all = self.marks.add(self.alloc, code, values)?;
+        push_string(&mut self.text, all, code)
     }
 }
 
@@ -268,12 +240,8 @@ fn push_ports(
 fn push_start(text: &mut String, shown: &Shown<'_>, domains: &[Domain]) -> Result<(), AllocError> {
     push_standing(text, shown.standing, shown.first)?;
     for (index, datum) in shown.state.iter().enumerate() {
-        push_datum(
-            text,
-            Form::at(domains, index),
-            *datum,
-            shown.variable(index),
-        )?;
+        let datum = datum.datum();
+        push_datum(text, Form::at(domains, index), datum, shown.variable(index))?;
         if let Datum::Held(values) = datum {
             push_count(text, values.count, shown.size(index))?;
         }
@@ -305,27 +273,41 @@ fn move_to<'a>(
 }
 
 // Writes the variables whose values have changed.
-fn follow_state<'a>(
+fn follow_state(
     text: &mut String,
-    shown: &mut Shown<'a>,
+    shown: &mut Shown<'_>,
     domains: &[Domain],
-    state: &[Datum<'a>],
+    state: &[Datum<'_>],
 ) -> Result<(), AllocError> {
     for (index, datum) in state.iter().enumerate() {
-        match shown.state.get(index).copied() {
-            Some(before) if before != *datum => {
-                push_change(text, shown, Form::at(domains, index), index, before, *datum)?;
-                set_datum(&mut shown.state, index, *datum);
-            }
-            Some(_) | None => {}
-        }
+        follow_datum(text, shown, Form::at(domains, index), index, *datum)?;
     }
     Ok(())
 }
 
-fn set_datum<'a>(state: &mut [Datum<'a>], index: usize, datum: Datum<'a>) {
-    if let Some(shown) = state.get_mut(index) {
-        *shown = datum;
+// Writes the value of a variable, if it has changed.
+fn follow_datum(
+    text: &mut String,
+    shown: &mut Shown<'_>,
+    form: Form,
+    index: usize,
+    datum: Datum<'_>,
+) -> Result<(), AllocError> {
+    let Some(before) = shown.state.get(index) else {
+        return Ok(());
+    };
+    let before = before.datum();
+    if before == datum {
+        return Ok(());
+    }
+    push_change(text, shown, form, index, before, datum)?;
+    set_datum(&mut shown.state, index, datum)
+}
+
+fn set_datum(state: &mut [ShownDatum], index: usize, datum: Datum<'_>) -> Result<(), AllocError> {
+    match state.get_mut(index) {
+        Some(shown) => shown.set(datum),
+        None => Ok(()),
     }
 }
 

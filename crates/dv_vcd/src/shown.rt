@@ -13,6 +13,57 @@ pub(crate) enum Standing<'a> {
     Fault(Fault),
 }
 
+/// What a variable, a flag, a bag or a queue shows: as `Datum`, with a text of its own.
+#[derive(Drop)]
+pub(crate) enum ShownDatum {
+    Number(i64),
+    Flag(bool),
+    /// The values of a bag or a queue as text, and how many there are.
+    Held { text: String, count: u64 },
+}
+
+impl ShownDatum {
+    // What is shown at the start.
+    fn at_start(alloc: Global, domain: Domain) -> Self {
+        match domain {
+            Domain::Number(range) => ShownDatum::Number(range.start),
+            Domain::Flag { start } => ShownDatum::Flag(start),
+            Domain::Held { .. } => ShownDatum::Held {
+                text: String::new(alloc),
+                count: 0,
+            },
+        }
+    }
+
+    /// What is shown.
+    pub(crate) fn datum(&self) -> Datum<'_> {
+        match self {
+            ShownDatum::Number(number) => Datum::Number(*number),
+            ShownDatum::Flag(flag) => Datum::Flag(*flag),
+            ShownDatum::Held { text, count } => Datum::Held(Values {
+                text: text.as_str(),
+                count: *count,
+            }),
+        }
+    }
+
+    /// Shows something else. The memory of a text is used again.
+    pub(crate) fn set(&mut self, datum: Datum<'_>) -> Result<(), AllocError> {
+        match (self, datum) {
+            (ShownDatum::Number(shown), Datum::Number(number)) => *shown = number,
+            (ShownDatum::Flag(shown), Datum::Flag(flag)) => *shown = flag,
+            (ShownDatum::Held { text, count }, Datum::Held(values)) => {
+                text.clear();
+                text.push_str(values.text)?;
+                *count = values.count;
+            }
+            // A trace tells of each variable what is of its domain.
+            (ShownDatum::Number(_) | ShownDatum::Flag(_) | ShownDatum::Held { .. }, _) => {}
+        }
+        Ok(())
+    }
+}
+
 /// What a component shows now. Its codes follow each other: its phase, its variables, flags, bags and queues, the sizes of
 /// these, where only those of bags and queues are used, and its output ports.
 #[derive(Drop)]
@@ -21,7 +72,7 @@ pub(crate) struct Shown<'a> {
     pub(crate) first: u64,
     pub(crate) standing: Standing<'a>,
     /// What the variables, flags, bags and queues hold.
-    pub(crate) state: Vec<Datum<'a>>,
+    pub(crate) state: Vec<ShownDatum>,
 }
 
 impl Shown<'_> {
@@ -84,18 +135,10 @@ fn start_phase<'t>(tree: &'t Tree<'t>, component: usize) -> &'t str {
     }
 }
 
-fn start_state<'a>(alloc: Global, domains: &[Domain]) -> Result<Vec<Datum<'a>>, AllocError> {
+fn start_state(alloc: Global, domains: &[Domain]) -> Result<Vec<ShownDatum>, AllocError> {
     let mut state = Vec::with_capacity(alloc, domains.len())?;
     for domain in domains {
-        state.push(start_datum(*domain))?;
+        state.push(ShownDatum::at_start(alloc, *domain))?;
     }
     Ok(state)
-}
-
-fn start_datum<'a>(domain: Domain) -> Datum<'a> {
-    match domain {
-        Domain::Number(range) => Datum::Number(range.start),
-        Domain::Flag { start } => Datum::Flag(start),
-        Domain::Held { .. } => Datum::Held(Values { text: "", count: 0 }),
-    }
 }

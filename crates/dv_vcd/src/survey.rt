@@ -1,59 +1,106 @@
-//! The first reading of a trace: how far it reaches, and how its ports are shown.
+//! The first reading of a trace, by which it is tested, and which tells how its ports are shown.
 
+use crate::error::VcdError;
 use crate::ports::{Passing, Ports};
 use crate::shown::AllShown;
 use dv_bag::Input;
 use dv_trace::{
-    End, LineHead, LineLists, Reach, Sending, TraceError, TraceReader, Values, check_trace,
-    read_part,
+    End, LineCutter, LineHead, LineLists, PieceReader, Reach, Sending, TakeLine, TraceError,
+    TraceReader, Values,
 };
 use dv_tree::Tree;
 use std::alloc::Global;
+use std::io::Read;
 
-/// What the first reading of a trace tells.
-#[derive(Drop)]
-pub(crate) struct Survey {
-    pub(crate) reach: Reach,
-    pub(crate) ports: Ports,
+/// What is looked at in a first reading.
+#[derive(Clone, Copy)]
+pub(crate) struct Surveyed<'a> {
+    pub(crate) tree: &'a Tree<'a>,
+    pub(crate) shown: &'a AllShown<'a>,
+    /// The inputs that are shown.
+    pub(crate) inputs: &'a [Input],
+    /// Whether the trace has to have an end.
+    pub(crate) end: End,
 }
 
-/// Reads a trace whose ports are marked.
-pub(crate) fn survey_marked(
+/// Reads a trace to its end. Ports by which nothing has passed are returned with what passed by them.
+pub(crate) fn survey<T: Read>(
     alloc: Global,
-    tree: &Tree<'_>,
-    trace: &[u8],
-    end: End,
-) -> Result<Survey, TraceError> {
-    Ok(Survey {
-        reach: check_trace(alloc, tree, trace, end)?,
-        ports: Ports::Marked,
-    })
-}
-
-/// Reads a trace whose ports show their last values.
-pub(crate) fn survey_held(
-    alloc: Global,
-    tree: &Tree<'_>,
-    trace: &[u8],
-    end: End,
-    shown: &AllShown<'_>,
-    inputs: &[Input],
-) -> Result<Survey, TraceError> {
-    let mut reader = TraceReader::new(alloc, tree)?;
-    let mut ports = Ports::held(alloc, shown.behind)?;
-    let mut last = 0;
-    let mut lists = LineLists::new(alloc);
-    for line in read_part(trace, end).split(|byte| *byte == b'\n') {
-        let head = reader.read_into(line, &mut lists)?;
-        watch(&mut ports, shown, head, &lists.sent, &mut last);
-    }
-    let reach = reader.end(end)?;
+    surveyed: Surveyed<'_>,
+    pieces: &mut PieceReader<'_, T>,
+    ports: Ports,
+) -> Result<Ports, VcdError> {
+    let watch = Watch {
+        reader: TraceReader::new(alloc, surveyed.tree)?,
+        shown: surveyed.shown,
+        ports,
+        last: 0,
+    };
+    let mut lines = LineCutter::new(alloc, watch);
+    pieces.give_all(&mut lines)?;
+    let Watch {
+        reader,
+        shown,
+        mut ports,
+        last,
+    } = lines.finish(surveyed.end)?;
+    let reach = reader.end(surveyed.end)?;
     let behind = tick_behind(reach, last);
-    for input in inputs.iter().take_while(|input| input.time.tick < behind) {
+    for input in surveyed
+        .inputs
+        .iter()
+        .take_while(|input| input.time.tick < behind)
+    {
         let code = shown.inputs.saturating_add(u64::from(input.port));
         ports.pass(input.time.tick, code, Passing::of(input.value));
     }
-    Ok(Survey { reach, ports })
+    Ok(ports)
+}
+
+/// What reads the lines of a trace, and looks at what passes by ports.
+#[derive(Drop)]
+struct Watch<'a> {
+    reader: TraceReader<'a>,
+    shown: &'a AllShown<'a>,
+    ports: Ports,
+    // The tick of the last line by which something may have passed.
+    last: u64,
+}
+
+impl Watch<'_> {
+    // Looks at what passes by ports at a line, and keeps its tick.
+    fn look_at(&mut self, head: LineHead, sent: &[Sending<'_>]) {
+        let shown = self.shown;
+        match head {
+            LineHead::Entry(entry) => {
+                self.last = entry.time.tick;
+                if let Some(component) = shown.components.get(entry.component as usize) {
+                    pass_all(&mut self.ports, self.last, component.port(0), sent);
+                }
+            }
+            LineHead::Outside(time) => {
+                self.last = time.tick;
+                pass_all(&mut self.ports, self.last, shown.outputs, sent);
+            }
+            LineHead::Empty | LineHead::Whole(_) | LineHead::Clock(_) | LineHead::Partial => {}
+        }
+    }
+}
+
+impl TakeLine for Watch<'_> {
+    type Error = TraceError;
+
+    fn take_line<'a>(
+        &mut self,
+        line: &'a [u8],
+        lists: &mut LineLists<'a>,
+    ) -> Result<(), TraceError> {
+        let head = self.reader.read_into(line, lists)?;
+        if self.ports.are_held() {
+            self.look_at(head, &lists.sent);
+        }
+        Ok(())
+    }
 }
 
 /// The first tick behind a trace whose last line is at a tick.
@@ -66,31 +113,8 @@ pub(crate) fn tick_behind(reach: Reach, last: u64) -> u64 {
     }
 }
 
-// What passes by ports at a line. The tick of the last line is kept.
-fn watch(
-    ports: &mut Ports,
-    shown: &AllShown<'_>,
-    head: LineHead,
-    sent: &[Sending<'_>],
-    last: &mut u64,
-) {
-    match head {
-        LineHead::Entry(entry) => {
-            *last = entry.time.tick;
-            if let Some(shown) = shown.components.get(entry.component as usize) {
-                watch_sent(ports, *last, shown.port(0), sent);
-            }
-        }
-        LineHead::Outside(time) => {
-            *last = time.tick;
-            watch_sent(ports, *last, shown.outputs, sent);
-        }
-        LineHead::Empty | LineHead::Whole(_) | LineHead::Clock(_) | LineHead::Partial => {}
-    }
-}
-
 // What passes in a tick by ports whose codes are from a first one on.
-fn watch_sent(ports: &mut Ports, tick: u64, first: u64, sent: &[Sending<'_>]) {
+fn pass_all(ports: &mut Ports, tick: u64, first: u64, sent: &[Sending<'_>]) {
     for sending in sent {
         let code = first.saturating_add(sending.port as u64);
         ports.pass(tick, code, passing_of(sending.values));

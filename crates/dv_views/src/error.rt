@@ -20,9 +20,9 @@ use thiserror::Error;
 pub enum ViewError {
     /// The model, the partition or the inputs are refused, a write failed or an allocation was refused.
     Job(JobError),
-    /// The trace can't be read to its end; nothing was written.
+    /// The trace can't be read to its end; nothing was written, or, where a second reading fails, a beginning of the view.
     Unread(io::Error),
-    /// The trace is refused; nothing was written.
+    /// The trace is refused; nothing was written, or, where it was changed before a second reading, a beginning of the view.
     Trace(TraceRefusal),
     /// No component has the path of which numbers are asked for, in words; nothing was written.
     NoPath(String),
@@ -41,9 +41,9 @@ impl fmt::Display for ViewError {
     }
 }
 
-impl ViewError {
-    /// The error where a trace can't be read.
-    pub(crate) fn of_read(error: io::Error) -> Self {
+impl From<io::Error> for ViewError {
+    // The error where a trace can't be read.
+    fn from(error: io::Error) -> Self {
         match error.kind() {
             ErrorKind::OutOfMemory => ViewError::Job(JobError::Memory),
             _ => ViewError::Unread(error),
@@ -73,6 +73,7 @@ impl From<VcdError> for ViewError {
     fn from(error: VcdError) -> Self {
         match error {
             VcdError::Inputs(refusal) => ViewError::Job(JobError::Inputs(refusal)),
+            VcdError::Unread(error) => ViewError::Unread(error),
             VcdError::Refused(refusal) => ViewError::Trace(refusal),
             VcdError::Write => ViewError::Job(JobError::Write),
             VcdError::Memory => ViewError::Job(JobError::Memory),

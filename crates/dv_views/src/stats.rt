@@ -4,13 +4,10 @@ use crate::error::ViewError;
 use crate::model::{accept, load};
 use dv_hints::unknown_name;
 use dv_stats::{StatsOptions, StatsWriter};
-use dv_trace::Reach;
+use dv_trace::{PieceReader, Reach};
 use dv_tree::Tree;
 use std::alloc::{AllocError, Global};
-use std::io::{ErrorKind, Read, Write};
-
-/// How many bytes of a trace are read at a time.
-const PIECE_LENGTH: usize = 65_536;
+use std::io::{Read, Write};
 
 /// Writes what a trace of the model of a text says of each component and each output of the root, in numbers, and returns how far the
 /// trace reaches. The trace is read to its end, piece by piece, so that without quantiles memory does not grow with it.
@@ -28,25 +25,22 @@ pub fn stats_bytes<T: Read, W: Write>(
     options: &StatsOptions<'_>,
     writer: &mut W,
 ) -> Result<Reach, ViewError> {
-    let mut piece = vec![in alloc; 0; PIECE_LENGTH]?;
-    let first = read_piece(trace, &mut piece)?;
+    let mut pieces = PieceReader::begin(alloc, trace)?;
     let checked = load(alloc, model)?;
     let tree = accept(alloc, model, &checked)?;
-    count_trace(alloc, &tree, trace, &mut piece, first, options, writer)
+    count_trace(alloc, &tree, &mut pieces, options, writer)
 }
 
-// Counts a trace, of which a first piece was read, and writes the numbers.
+// Counts a trace, of which a first piece was read, and writes the numbers. Why a line is not counted is said by `finish`.
 fn count_trace<T: Read, W: Write>(
     alloc: Global,
     tree: &Tree<'_>,
-    trace: &mut T,
-    piece: &mut [u8],
-    first: usize,
+    pieces: &mut PieceReader<'_, T>,
     options: &StatsOptions<'_>,
     writer: &mut W,
 ) -> Result<Reach, ViewError> {
     let mut numbers = numbers_of(alloc, tree, options)?;
-    count_pieces(trace, piece, first, &mut numbers)?;
+    pieces.give_all(&mut numbers)?;
     Ok(numbers.finish(writer)?)
 }
 
@@ -99,34 +93,4 @@ fn shared(one: &[u32], other: &[u32]) -> usize {
         .zip(other)
         .take_while(|(one, other)| one == other)
         .count()
-}
-
-// Reads the next bytes of a trace. None are left where none were read.
-fn read_piece<T: Read>(trace: &mut T, piece: &mut [u8]) -> Result<usize, ViewError> {
-    for _ in 0..u64::MAX {
-        match trace.read(piece) {
-            Ok(length) => return Ok(length),
-            Err(error) if matches!(error.kind(), ErrorKind::Interrupted) => {}
-            Err(error) => return Err(ViewError::of_read(error)),
-        }
-    }
-    Ok(0)
-}
-
-// Counts a first piece, which was read, and the rest of the trace. Why a line is not counted is said where the numbers are asked for.
-fn count_pieces<T: Read>(
-    trace: &mut T,
-    piece: &mut [u8],
-    first: usize,
-    numbers: &mut StatsWriter<'_>,
-) -> Result<(), ViewError> {
-    let mut length = first;
-    for _ in 0..u64::MAX {
-        let bytes = piece.get(..length).unwrap_or(&[]);
-        if bytes.is_empty() || numbers.write_all(bytes).is_err() {
-            break;
-        }
-        length = read_piece(trace, piece)?;
-    }
-    Ok(())
 }

@@ -3,61 +3,74 @@
 ghost use Rattle.std.specs.Prelude.{◌≡◌, IfOk, IfSome, length};
 ghost use Rattle.dv_work.specs.Flags.{IsOfFlag};
 
-use crossbeam_utils::Backoff;
+use crossbeam_utils::CachePadded;
+use crossbeam_utils::sync::EventCount;
 use std::alloc::{AllocError, Global};
-use std::sync::{Condvar, Mutex, OnceLock, OnceToken, Wait};
+use std::hint::spin_loop;
+use std::sync::atomic::{AtomicU64, Ordering};
+use std::sync::{OnceLock, OnceToken, Wait};
+use std::thread::yield_now;
 
-// The most looks that a waiting thread takes before it sleeps: the first ones after some spins, each later one after
-// other threads had the processor. Together they take about as long as falling asleep and being woken.
-const LOOKS_BEFORE_SLEEP: u32 = 16;
+// A waiting thread looks so often at once, which takes about a microsecond: a process that is near answers within that time.
+const LOOKS_AT_ONCE: u32 = 1_024;
 
-/// An index where a thread waits for work. It counts its rings, so that a ring between a look and the wait is not lost:
+// It takes so many looks more before it sleeps, each after other threads had the processor. They take longer than falling asleep and
+// being woken, since a worker also posts before it sleeps, and others wait for it when it wakes.
+const LOOKS_BETWEEN_OTHERS: u32 = 400;
+
+/// A bell by which a thread waits for work. It counts its rings, so that a ring between a look and the wait is not lost:
 /// the waiting thread reads the count, looks for work, and waits only while the count is still the one that it read.
-/// Whoever has work for it provides the work first and rings afterwards.
+/// Whoever has work for it provides the work first and rings afterwards. Nobody takes a lock, and where nobody sleeps a
+/// ring is a step of an atomic count.
 #[derive(Drop)]
 pub struct Bell {
-    rings: Mutex<u64>,
-    rung: Condvar,
+    // Bells stand side by side, and each is rung from other threads.
+    rings: CachePadded<AtomicU64>,
+    sleepers: EventCount,
 }
 
 impl Bell {
     /// A bell that has not rung.
     pub fn new() -> Bell {
         Bell {
-            rings: Mutex::new(0),
-            rung: Condvar::new(),
+            rings: CachePadded::new(AtomicU64::new(0)),
+            sleepers: EventCount::new(),
         }
     }
 
     /// Counts a ring, and wakes all who wait.
-    pub fn ring<R: Wait>(&self, rt: &R) {
-        let mut rings = self.rings.lock(rt);
-        *rings = rings.wrapping_add(1);
-        self.rung.notify_all();
+    pub fn ring(&self) {
+        self.rings.fetch_add(1, Ordering::SeqCst);
+        self.sleepers.notify_all();
     }
 
     /// How often it rang: what is read before a look for work. It counts modulo 2^64.
-    pub fn rings<R: Wait>(&self, rt: &R) -> u64 {
-        *self.rings.lock(rt)
+    pub fn rings(&self) -> u64 {
+        self.rings.load(Ordering::SeqCst)
     }
 
     /// Checks for a moment, without sleeping, whether the count differs from `seen`, and returns whether it does.
-    pub fn rings_soon<R: Wait>(&self, rt: &R, seen: u64) -> bool {
-        let backoff = Backoff::new();
-        for _ in 0..LOOKS_BEFORE_SLEEP {
-            if self.rings(rt) != seen {
+    pub fn rings_soon(&self, seen: u64) -> bool {
+        for look in 0..LOOKS_AT_ONCE + LOOKS_BETWEEN_OTHERS {
+            if self.rings() != seen {
                 return true;
             }
-            backoff.snooze();
+            if look < LOOKS_AT_ONCE {
+                spin_loop();
+            } else {
+                yield_now();
+            }
         }
         false
     }
 
     /// Sleeps until the count differs from `seen`; returns at once if it differs already.
     pub fn wait_past<R: Wait>(&self, rt: &R, seen: u64) {
-        let _rings = self
-            .rung
-            .wait_while(rt, self.rings.lock(rt), |rings| *rings == seen);
+        // A ring counts before it wakes: one that this look misses ends the wait.
+        let wait = self.sleepers.prepare_wait();
+        if self.rings() == seen {
+            wait.wait(rt);
+        }
     }
 }
 
@@ -127,7 +140,7 @@ impl Flag {
         // Where it is raised already, it stays so.
         let _ = self.raised.set(rt, ());
         for bell in bells {
-            bell.ring(rt);
+            bell.ring();
         }
     }
 }

@@ -16,7 +16,9 @@
 //! from one, a lead of one that was too long and is not any more, or the flag. Whoever puts a packet does so first and rings the
 //! receiver's bell after it; whoever takes one rings the sender's bell after it; whoever takes pieces takes them off the leads
 //! first and rings after it; the flag is set before all bells ring. So what a visit missed came after the count was read, and its ring has raised
-//! the count or will: the count is read and changed under the bell's lock alone, and the wait begins under it.
+//! the count or will. Who is about to sleep says so first and looks at the count after it; who rings raises the count first and looks
+//! for sleepers after it. All of these are steps in one order that all threads see, so at least one of the two sees the other: the one
+//! does not fall asleep, or the other wakes it.
 //!
 //! If all workers waited with work left, every queue that a visit found empty is empty still, and every one that it found full is
 //! full still. A full queue's receiver takes from it at each visit, so none is full. A worker waits only where on each link that
@@ -56,8 +58,8 @@
 //! nothing of it is kept twice. Only its own worker posts a process, so no piece leaves a gap; where the board has no memory for one it
 //! is gone, and the run ends.
 //!
-//! A worker posts all its processes after the rounds 1, 2, 4, .. 64, and then after every 64th; and before it sleeps at its bell, and
-//! where they are done. What it did not post when it ends is in the report. A worker that finds nothing to do looks at its bell for a
+//! A worker posts all its processes after the rounds 1, 2, 4, .. and after every 64th; where a piece gets long, after every 32nd, 16th
+//! and so on, and where pieces are short again less often; and before it sleeps at its bell, and where they are done. What it did not post when it ends is in the report. A worker that finds nothing to do looks at its bell for a
 //! moment first, without sleep, and posts nothing then: processes that answer each other within microseconds would else post at each
 //! answer. While a worker sleeps its processes commit nothing. So all that a sleeping worker knows is on the board. The bell for news
 //! rings after that: whoever takes pieces off the board reads the bell's count, takes, and waits past that count, so it wakes for what

@@ -12,9 +12,47 @@ use dv_written::OfJob;
 use std::alloc::AllocError;
 use std::sync::Wait;
 
-/// The most rounds that a worker makes between two posts. A post and a ring together cost more than one turn, but almost nothing
-/// compared with this many rounds.
-pub const ROUNDS_TO_A_POST: u64 = 64;
+// The most rounds that a worker makes between two posts. A post and a ring together cost more than one turn, but almost nothing
+// compared with this many rounds.
+const ROUNDS_TO_A_POST: u64 = 64;
+
+// Where a piece has more entries than this, the next one is made after half as many rounds, and else after twice as many. So many
+// entries take about 100 kilobytes: they are written while they are near, and their memory is not new to the process each time.
+const MANY_ENTRIES: usize = 1_024;
+
+/// After which rounds a worker tells the others how far its processes have come, and posts.
+#[derive(Drop)]
+pub struct Pace {
+    rounds: u64,
+    between: u64,
+}
+
+impl Pace {
+    /// Before the first round.
+    pub fn new() -> Pace {
+        Pace {
+            rounds: 0,
+            between: ROUNDS_TO_A_POST,
+        }
+    }
+
+    /// Counts a round, and tells whether the worker posts after it. It does so now and then, and more often at first, so that a reader
+    /// sees the first lines soon.
+    pub fn posts_in_next(&mut self) -> bool {
+        self.rounds = self.rounds.wrapping_add(1);
+        self.rounds.is_power_of_two() || self.rounds.is_multiple_of(self.between)
+    }
+
+    /// The longest piece of a post had so many entries.
+    pub fn adapt(&mut self, entries: usize) {
+        let between = if entries > MANY_ENTRIES {
+            self.between / 2
+        } else {
+            self.between.saturating_mul(2)
+        };
+        self.between = between.clamp(1, ROUNDS_TO_A_POST);
+    }
+}
 
 /// Where workers post what their processes committed, and how whoever takes that holds them back.
 #[derive(Drop)]
@@ -41,12 +79,12 @@ impl<N: OfJob> Stream<'_, N> {
     }
 }
 
-// Posts what a process committed since it posted last. Tells whether there was something.
+// Posts what a process committed since it posted last, and tells how many entries that were; none where its clock has not moved.
 fn post<N: OfJob, P: ProcessHandsOver<N>, R: Wait>(
     rt: &R,
     floor: &Floor<'_, N>,
     seat: &mut Seat<P>,
-) -> Result<bool, AllocError>
+) -> Result<Option<usize>, AllocError>
     requires { Sits N.job P.state P.handed P.valid floor.now.links.now seat.old }
     ensures sits { Sits N.job P.state P.handed P.valid floor.now.links.now seat.new }
     ensures told { HasToldAll P.state seat.old → HasToldAll P.state seat.new }
@@ -55,19 +93,17 @@ fn post<N: OfJob, P: ProcessHandsOver<N>, R: Wait>(
     seat.account(floor);
     let clock = seat.process.clock();
     if !seat.posted.is_before(clock) {
-        return Ok(false);
+        return Ok(None);
     }
     let piece = seat.piece::<N>();
+    let entries = piece.part.entry_count();
     // Before it is on the board, since whoever takes it may take it off the lead at once.
-    floor
-        .stream
-        .leads
-        .add(piece.process, piece.part.entry_count());
+    floor.stream.leads.add(piece.process, entries);
     floor.stream.board.post(rt, piece)?;
-    Ok(true)
+    Ok(Some(entries))
 }
 
-/// Posts what the processes of a worker committed, and rings for it.
+/// Posts what the processes of a worker committed, and rings for it. Tells how many entries the longest piece had, if there was one.
 ///
 /// # Errors
 ///
@@ -76,20 +112,19 @@ pub fn post_all<N: OfJob, P: ProcessHandsOver<N>, R: Wait>(
     rt: &R,
     floor: &Floor<'_, N>,
     seats: &mut [Seat<P>],
-) -> Result<(), AllocError>
+) -> Result<Option<usize>, AllocError>
     requires { All (Sits N.job P.state P.handed P.valid floor.now.links.now) seats.old }
     ensures sits { All (Sits N.job P.state P.handed P.valid floor.now.links.now) seats.new }
     ensures told { All (HasToldAll P.state) seats.old → All (HasToldAll P.state) seats.new }
     ensures put { All HoldsNone seats.old → All HoldsNone seats.new }
 {
-    let mut news = false;
+    let mut longest = None;
     for i in 0..seats.len() {
-        if post(rt, floor, &mut seats[i])? {
-            news = true;
-        }
+        let entries = post(rt, floor, &mut seats[i])?;
+        longest = longest.max(entries);
     }
-    if news {
-        floor.stream.news.ring(rt);
+    if longest.is_some() {
+        floor.stream.news.ring();
     }
-    Ok(())
+    Ok(longest)
 }

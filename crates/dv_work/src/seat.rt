@@ -73,9 +73,9 @@ pub struct Floor<'a, N: OfJob> {
 }
 
 // Rings a worker's bell, if there is one.
-fn ring<R: Wait>(rt: &R, bells: &[Bell], worker: usize) {
+fn ring(bells: &[Bell], worker: usize) {
     if let Some(bell) = bells.get(worker) {
-        bell.ring(rt);
+        bell.ring();
     }
 }
 
@@ -137,7 +137,7 @@ impl<P: LogicalProcess> Seat<P> {
         let Some(packet) = take_from(rt, floor.links, end) else {
             return Ok(false);
         };
-        ring(rt, floor.stream.bells, end.sender);
+        ring(floor.stream.bells, end.sender);
         if let Err(_refused) = self.process.receive(packet) {
             return Err(AllocError);
         }
@@ -220,7 +220,7 @@ impl<P: LogicalProcess> Seat<P> {
         if !put_held(rt, floor.links, end) {
             return false;
         }
-        ring(rt, floor.stream.bells, end.receiver);
+        ring(floor.stream.bells, end.receiver);
         true
     }
 

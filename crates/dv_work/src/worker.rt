@@ -9,7 +9,7 @@ ghost use Rattle.dv_work.specs.Seats.{EachKeepsNoneBack, KeepsNoneBack, KeepsNon
 
 use crate::bell::Bell;
 use crate::gate::Gate;
-use crate::post::{ROUNDS_TO_A_POST, post_all};
+use crate::post::{Pace, post_all};
 use crate::seat::{Floor, Seat};
 use dv_core::{LogicalProcess, ProcessHandsOver};
 use dv_proc::Turned;
@@ -238,12 +238,6 @@ fn of_both(one: Turned, other: Turned) -> Turned
     }
 }
 
-// Whether a worker tells the others in this round how far its processes have come. It does so now and then, and more
-// often at first, so that a reader sees the first lines soon.
-fn tells_in(round: u64) -> bool {
-    round.is_power_of_two() || round % ROUNDS_TO_A_POST == 0
-}
-
 // Whether a worker posts after a round: where it tells, and always where it is done.
 fn posts_after(tells: bool, turned: Turned) -> bool {
     match turned {
@@ -265,7 +259,7 @@ fn wait_for_work<N: OfJob, P: ProcessHandsOver<N>, R: Wait>(
     requires told { All (HasToldAll P.state) seats.old }
     ensures { All (Sits N.job P.state P.handed P.valid floor.now.links.now) seats.new }
 {
-    if bell.rings_soon(rt, seen) {
+    if bell.rings_soon(seen) {
         return Ok(());
     }
     post_all(rt, floor, seats)?;
@@ -273,12 +267,13 @@ fn wait_for_work<N: OfJob, P: ProcessHandsOver<N>, R: Wait>(
     Ok(())
 }
 
-// Posts after a round, where that is due.
+// Posts after a round, where that is due, and adapts the pace to it.
 fn post_after<N: OfJob, P: ProcessHandsOver<N>, R: Wait>(
     rt: &R,
     floor: &Floor<'_, N>,
     tells: bool,
     turned: Turned,
+    pace: &mut Pace,
     seats: &mut [Seat<P>],
 ) -> Result<(), AllocError>
     requires { All (Sits N.job P.state P.handed P.valid floor.now.links.now) seats.old }
@@ -289,7 +284,10 @@ fn post_after<N: OfJob, P: ProcessHandsOver<N>, R: Wait>(
     if !posts_after(tells, turned) {
         return Ok(());
     }
-    post_all(rt, floor, seats)
+    if let Some(entries) = post_all(rt, floor, seats)? {
+        pace.adapt(entries);
+    }
+    Ok(())
 }
 
 // Waits after a round in which nothing moved.
@@ -326,16 +324,15 @@ fn rounds<N: OfJob, P: ProcessHandsOver<N>, G: Gate<P>, R: Wait>(
     ensures told { result ≡ None → All (HasToldAll P.state) seats.new }
     ensures put { result ≡ None → All HoldsNone seats.new }
 {
-    let mut count: u64 = 0;
+    let mut pace = Pace::new();
     for _ in rt.forever() {
-        count = count.wrapping_add(1);
-        let tells = tells_in(count);
-        let seen = bell.rings(rt);
+        let tells = pace.posts_in_next();
+        let seen = bell.rings();
         let turned = match round(rt, floor, gate, worker, tells, seats, work) {
             Ok(turned) => turned,
             Err(halt) => return Some(halt),
         };
-        if post_after(rt, floor, tells, turned, seats).is_err() {
+        if post_after(rt, floor, tells, turned, &mut pace, seats).is_err() {
             return Some(Halt::Memory);
         }
         if turned == Turned::Done {

@@ -41,6 +41,16 @@ impl<N: OfJob> WrittenPart<N> {
         }
     }
 
+    /// No entries, and nothing sent outside, with room for so many entries where there is memory for it.
+    pub fn with_room(alloc: Global, entries: usize) -> Self
+        ensures { result ≡ nothing }
+    {
+        WrittenPart {
+            entries: Vec::with_capacity(alloc, entries).unwrap_or(Vec::new(alloc)),
+            outer: Vec::new(alloc),
+        }
+    }
+
     /// One more entry, after those that are there.
     ///
     /// # Errors
@@ -90,6 +100,11 @@ impl<N: OfJob> WrittenPart<N> {
         ensures ok { OnOk result (self.new ≡ joined self.old more) }
         ensures err { OnErr result (self.new ≡ self.old) }
     {
+        if self.entries.is_empty() {
+            self.outer.append(&mut more.outer)?;
+            self.entries = more.entries;
+            return Ok(());
+        }
         self.entries.reserve(more.entries.len())?;
         self.outer.append(&mut more.outer)?;
         if self.entries.append(&mut more.entries).is_err() {

@@ -5,7 +5,8 @@ use crate::told::{Texts, tell_unread};
 use dv_cause::Source;
 use dv_command::{PartitionChoice, TraceFiles};
 use dv_partition::Partition;
-use std::io::{ErrorKind, Read};
+use std::fs::OpenFile;
+use std::io::{Cursor, ErrorKind, Read, Seek, SeekFrom};
 use std::rt::Files;
 use std::{fs, io};
 
@@ -113,13 +114,40 @@ impl<F: Read, I: Read> Read for FileReader<F, I> {
     }
 }
 
-/// A file that was opened, and of which nothing was read.
+/// What a file is read from, as often as is wanted.
 #[derive(Drop)]
-pub struct OpenedFile<'a, F, I> {
+pub enum SeekableReader<F> {
+    /// A regular file of the system.
+    File(F),
+    /// The bytes of another file, or of standard input, which can be read once.
+    Bytes(Cursor<Vec<u8>>),
+}
+
+impl<F: Read> Read for SeekableReader<F> {
+    fn read(&mut self, buf: &mut [u8]) -> io::Result<usize> {
+        match self {
+            SeekableReader::File(file) => file.read(buf),
+            SeekableReader::Bytes(bytes) => bytes.read(buf),
+        }
+    }
+}
+
+impl<F: Seek> Seek for SeekableReader<F> {
+    fn seek(&mut self, to: SeekFrom) -> io::Result<u64> {
+        match self {
+            SeekableReader::File(file) => file.seek(to),
+            SeekableReader::Bytes(bytes) => bytes.seek(to),
+        }
+    }
+}
+
+/// A file that was opened, and stands at its beginning.
+#[derive(Drop)]
+pub struct OpenedFile<'a, T> {
     /// Its name, as it is told.
     pub name: &'a str,
     /// What it holds.
-    pub reader: FileReader<F, I>,
+    pub reader: T,
 }
 
 /// The name of the file that a word names, as it is told.
@@ -178,7 +206,7 @@ pub fn read<'a, R: AllocGlobal + Files + Input + Eprint>(
 pub fn open<'a, R: Files + Input + Eprint>(
     rt: &R,
     word: &'a str,
-) -> io::Result<Option<OpenedFile<'a, R::File, R::Reader>>> {
+) -> io::Result<Option<OpenedFile<'a, FileReader<R::File, R::Reader>>>> {
     let reader = if word == STANDARD_INPUT {
         Ok(FileReader::Input(rt.reader()))
     } else {
@@ -189,6 +217,44 @@ pub fn open<'a, R: Files + Input + Eprint>(
         Some(reader) => Ok(Some(OpenedFile { name, reader })),
         None => Ok(None),
     }
+}
+
+/// The same, to be read as often as is wanted. What is no regular file, as a pipe, may give its bytes only once, so all of them are
+/// read and kept. `None` also if that fails.
+///
+/// # Errors
+///
+/// No memory for it, or for its bytes.
+pub fn open_seekable<'a, R: AllocGlobal + Files + Input + Eprint>(
+    rt: &R,
+    word: &'a str,
+) -> io::Result<Option<OpenedFile<'a, SeekableReader<R::File>>>> {
+    let reader = if word == STANDARD_INPUT {
+        kept_input(rt)
+    } else {
+        open_or_keep(rt, word)
+    };
+    let name = told_name(word);
+    match unless_unread(rt, name, reader)? {
+        Some(reader) => Ok(Some(OpenedFile { name, reader })),
+        None => Ok(None),
+    }
+}
+
+/// A regular file, or the bytes of another one.
+fn open_or_keep<R: AllocGlobal + Files>(rt: &R, name: &str) -> io::Result<SeekableReader<R::File>> {
+    let mut file = fs::open(rt, name)?;
+    if file.metadata()?.is_file() {
+        return Ok(SeekableReader::File(file));
+    }
+    let mut bytes = Vec::new(rt.alloc());
+    file.read_to_end(&mut bytes)?;
+    Ok(SeekableReader::Bytes(Cursor::new(bytes)))
+}
+
+/// The bytes of standard input.
+fn kept_input<R: AllocGlobal + Input, F>(rt: &R) -> io::Result<SeekableReader<F>> {
+    Ok(SeekableReader::Bytes(Cursor::new(standard_input(rt)?)))
 }
 
 /// A file of the system.

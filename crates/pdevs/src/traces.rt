@@ -1,6 +1,6 @@
 //! What is asked of a trace and its model.
 
-use crate::files::{OpenedFile, open, read, read_trace};
+use crate::files::{OpenedFile, open, open_seekable, read, read_inputs, read_trace};
 use crate::numbers::stats_options;
 use crate::printed::{Printed, print_through};
 use crate::told::{Texts, tell_line, tell_unread};
@@ -37,6 +37,21 @@ fn status_of_view<R: AllocGlobal + Eprint>(
     printed.status(rt, texts, is_explained)
 }
 
+/// The same where the trace, which has this name, was read while its view was made. That it can't be read is told.
+fn status_of_read_view<R: AllocGlobal + Eprint>(
+    rt: &R,
+    name: &str,
+    texts: Texts<'_>,
+    printed: &Printed<Reach, ViewError>,
+    is_explained: bool,
+) -> u8 {
+    if let Err(ViewError::Unread(error)) = &printed.result {
+        tell_unread(rt, name, error);
+        return REFUSED;
+    }
+    status_of_view(rt, texts, printed, is_explained)
+}
+
 /// What a tick is, where that is given, and else a second; `None` where the text is no timescale, which is told.
 fn timescale_of<R: Eprint>(rt: &R, text: Option<&String>) -> Option<Timescale> {
     let Some(text) = text else {
@@ -51,34 +66,37 @@ fn timescale_of<R: Eprint>(rt: &R, text: Option<&String>) -> Option<Timescale> {
     }
 }
 
-/// Prints the value change dump that was asked for, and answers the status. Files are read in the order model, trace, inputs.
+/// Prints the value change dump that was asked for, and answers the status. Files are read in the order model, trace, inputs; but a
+/// trace that is a regular file is only opened then, and is read twice, piece by piece, once the model and the inputs are accepted.
 pub fn dump_trace<R: AllocGlobal + Files + Input + Print + Eprint>(
     rt: &R,
     waves: &Waves,
 ) -> io::Result<u8> {
+    let files = &waves.files;
     let Some(timescale) = timescale_of(rt, waves.timescale.as_ref()) else {
         return Ok(USAGE);
     };
-    let Some(bytes) = read_trace(rt, &waves.files, waves.inputs.as_ref())? else {
+    let Some(model) = read(rt, files.model.as_str())? else {
+        return Ok(REFUSED);
+    };
+    let Some(OpenedFile { name, mut reader }) = open_seekable(rt, files.trace.as_str())? else {
+        return Ok(REFUSED);
+    };
+    let Some(inputs) = read_inputs(rt, waves.inputs.as_ref())? else {
         return Ok(REFUSED);
     };
     let options = WaveOptions {
-        end: end_of(&waves.files),
-        inputs: bytes.input_bytes(),
+        end: end_of(files),
+        inputs: inputs.as_ref().map(|inputs| inputs.bytes.as_slice()),
         holds_ports: waves.holds_ports,
         timescale,
     };
     let alloc = rt.alloc();
     let printed = print_through(rt, |writer| {
-        vcd_bytes(
-            alloc,
-            &bytes.model.bytes,
-            &bytes.trace.bytes,
-            &options,
-            writer,
-        )
+        vcd_bytes(alloc, &model.bytes, &mut reader, &options, writer)
     });
-    Ok(status_of_view(rt, bytes.texts(), &printed, waves.files.explained))
+    let texts = model.texts_with(inputs.as_ref());
+    Ok(status_of_read_view(rt, name, texts, &printed, files.explained))
 }
 
 /// Prints the numbers that were asked for, and answers the status. Files are read in the order model, trace; the trace is read piece
@@ -99,11 +117,7 @@ pub fn count_trace<R: AllocGlobal + Files + Input + Print + Eprint>(
     let printed = print_through(rt, |writer| {
         stats_bytes(alloc, &model.bytes, &mut reader, &options, writer)
     });
-    if let Err(ViewError::Unread(error)) = &printed.result {
-        tell_unread(rt, name, error);
-        return Ok(REFUSED);
-    }
-    Ok(status_of_view(rt, model.texts(), &printed, files.explained))
+    Ok(status_of_read_view(rt, name, model.texts(), &printed, files.explained))
 }
 
 /// Prints the table that was asked for, and answers the status. Files are read in the order model, trace, inputs.

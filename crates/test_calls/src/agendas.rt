@@ -26,7 +26,7 @@ fn event(tick: u64, value: i64) -> Event {
 fn an_agenda_knows_who_is_first(rt: HostRuntime) -> Result<(), Fail> {
     let mut agenda = Agenda::new(rt.alloc(), 5)?;
     same!(rt; agenda.first(), None);
-    same!(rt; agenda.indices(), 5);
+    same!(rt; agenda.len(), 5);
     agenda.set(4, Some(at(3, 1)));
     agenda.set(1, Some(at(3, 0)));
     agenda.set(0, Some(at(3, 1)));
@@ -65,7 +65,7 @@ fn an_agenda_goes_on_and_back(rt: HostRuntime) -> Result<(), Fail> {
 }
 
 #[test]
-fn an_agenda_of_one_index_or_none(rt: HostRuntime) -> Result<(), Fail> {
+fn an_agenda_of_one_component_or_none(rt: HostRuntime) -> Result<(), Fail> {
     let none = Agenda::new(rt.alloc(), 0)?;
     same!(rt; none.first(), None);
     let mut one = Agenda::new(rt.alloc(), 1)?;

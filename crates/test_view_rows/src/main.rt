@@ -6,17 +6,22 @@
 //!
 //! Each word names a folder with a model, a trace and their views; the file `warned.txt` with models and what is told
 //! of them; the file `faulted.txt` with models and what is told of their faults; the file `timescales.txt` with texts
-//! of time scales; or another file (`.txt`) with traces that are refused.
+//! of time scales; the file `twice.txt` with traces that fail or are changed while they are read twice; or another
+//! file (`.txt`) with traces that are refused.
 #![tactic(auto)]
 
 /// Models with faults.
 mod faulted;
 /// The views of a folder.
 mod folder;
+/// Readers of traces.
+mod readers;
 /// Traces that are refused.
 mod refused;
 /// Texts of time scales.
 mod timescales;
+/// Traces that are read twice.
+mod twice;
 /// The views that a folder may have.
 mod view;
 /// Models of which something is told.
@@ -35,6 +40,8 @@ fn main(rt: HostRuntime) -> io::Result<ExitCode> {
             faulted::are_as_told(&rt, word.as_str())?
         } else if word.as_str() == "timescales.txt" {
             timescales::are_as_told(&rt, word.as_str())?
+        } else if word.as_str() == "twice.txt" {
+            twice::are_as_told(&rt, word.as_str())?
         } else if word.as_str().ends_with(".txt") {
             refused::are_as_told(&rt, word.as_str())?
         } else {

@@ -1,6 +1,7 @@
 //! Traces that are refused. A line that begins with `= ` tells what is answered; what follows, up to the next one, is the trace,
 //! whose last line has a line feed. What stands before the first of them is the model.
 
+use crate::readers::ShortReader;
 use crate::view::{EVENTS, WHOLE};
 use dv_trace::{End, Reach};
 use dv_views::{
@@ -82,7 +83,7 @@ fn compare<R: AllocGlobal + Print>(rt: &R, telling: &mut Telling) -> io::Result<
 /// What is answered where the numbers of a trace are asked for.
 fn counted(alloc: Global, model: &str, trace: &str) -> Result<String, AllocError> {
     let mut written = Vec::new(alloc);
-    let mut trace = trace.as_bytes();
+    let mut trace = ShortReader::new(trace.as_bytes());
     let outcome = stats_bytes(alloc, model.as_bytes(), &mut trace, &WHOLE, &mut written);
     told(alloc, outcome, written.is_empty())
 }
@@ -95,13 +96,8 @@ fn dumped(
     options: &WaveOptions<'_>,
 ) -> Result<String, AllocError> {
     let mut written = Vec::new(alloc);
-    let outcome = vcd_bytes(
-        alloc,
-        model.as_bytes(),
-        trace.as_bytes(),
-        options,
-        &mut written,
-    );
+    let mut trace = ShortReader::new(trace.as_bytes());
+    let outcome = vcd_bytes(alloc, model.as_bytes(), &mut trace, options, &mut written);
     told(alloc, outcome, written.is_empty())
 }
 

@@ -1,5 +1,6 @@
 //! The views that a folder may have, and how each is made.
 
+use crate::readers::{PIECE_LENGTH, ShortReader};
 use dv_partition::Partition;
 use dv_trace::End;
 use dv_tree::Tree;
@@ -10,9 +11,6 @@ use dv_views::{
 };
 use std::alloc::Global;
 use std::io::Write;
-
-/// How many bytes of a trace a writer is given at a time: lines are cut, and some pieces have several.
-const PIECE_LENGTH: usize = 50;
 
 /// The model, the trace and the inputs of a folder.
 #[derive(Drop)]
@@ -238,7 +236,8 @@ fn write_dump(
         View::PartialDump => options.end = End::Optional,
         _ => {}
     }
-    vcd_bytes(alloc, &texts.model, &texts.trace, &options, written)?;
+    let mut trace = ShortReader::new(&texts.trace);
+    vcd_bytes(alloc, &texts.model, &mut trace, &options, written)?;
     Ok(())
 }
 
@@ -260,7 +259,7 @@ fn write_numbers(
         View::Partial => options.end = End::Optional,
         _ => {}
     }
-    let mut trace = texts.trace.as_slice();
+    let mut trace = ShortReader::new(&texts.trace);
     stats_bytes(alloc, &texts.model, &mut trace, &options, written)?;
     Ok(())
 }

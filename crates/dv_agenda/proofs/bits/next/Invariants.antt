@@ -1,5 +1,5 @@
 use Rattle.std.proofs.Common.{◌≡◌, ℕ, ◌-◌, ◌<◌, ◌≤◌}
-use Rattle.dv_agenda.specs.Wheel.{has}
+use Rattle.dv_agenda.specs.Sets.{has}
 use Rattle.dv_agenda.proofs.bits.next.Given as goal
 
 abbrev pub invariant-loop-at : goal.invariant-loop-at

@@ -27,7 +27,8 @@ loop-rest-preserved c =
     λ v h. subst (λ (x : Option Time). earliest x v ≡ x) (sym is) (earliest_keeps a w v h) in
     record {
       above = ap (earliest (first_of ws)) is
-          ∙ earliest_above (first_of ws) a w c.loop-rest.invariant.above (ap (earliest (first_of ws)) at ∙ first_least ws (c.args.base + k));
+          ∙ earliest_above (first_of ws) a w c.loop-rest.invariant.above
+          (ap (earliest (first_of ws)) at ∙ first_least ws (c.args.base + k));
       below = λ p lt one. elim (c.loop-rest.invariant.below p lt one) [
         | inl r ↦ elim (cases_eq p c.take_least.result) [
           | inl e ↦

@@ -4,21 +4,21 @@ use Rattle.dv_board.proofs.Indices.{IsLeastOf, first_least, least_falls, least_o
 use Rattle.dv_board.proofs.backlog.least_clock.Goals as goal
 use Rattle.dv_board.proofs.backlog.least_clock.Goals.{then-is_before, else-is_before}
 
-pub loop-index-init : goal.loop-index-init
-loop-index-init g c =
+pub loop-kept-init : goal.loop-kept-init
+loop-kept-init g c =
     let held = c.args.held.now in
     subst (λ (h : Held g.row.N.Denot). IsLeastOf held 0 h.clock) c.index-held-0.is
     (first_least held c.index-held-0.result c.requires c.index-held-0.is)
 
-pub loop-index-preserved : goal.loop-index-preserved
-loop-index-preserved g c =
+pub loop-kept-preserved : goal.loop-kept-preserved
+loop-kept-preserved g c =
     let held = c.args.held.now in
-    let k = c.loop-index.index-index in
-    let least = c.loop-index.least in
-    let h = c.index-item.result in
-    let within = c.loop-index-test.true in
-    let at = c.index-item.is in
-    let so_far = c.loop-index.invariant in
+    let k = c.loop-kept.kept-index in
+    let least = c.loop-kept.least in
+    let h = c.kept-item.result in
+    let within = c.loop-kept-test.true in
+    let at = c.kept-item.is in
+    let so_far = c.loop-kept.invariant in
     elim c.if-is_before.branch [
       | then-is_before w ↦ subst (IsLeastOf held (k + 1)) (sym w.least-is)
           (least_falls held k least h within at so_far (sym c.is_before.ensures.order ∙ w.if-is_before.true))
@@ -27,4 +27,4 @@ loop-index-preserved g c =
     ]
 
 pub returns : goal.returns
-returns g c = least_of_all c.args.held.now c.loop-index.index-index c.loop-index.least c.loop-index-test.false c.loop-index.invariant
+returns g c = least_of_all c.args.held.now c.loop-kept.kept-index c.loop-kept.least c.loop-kept-test.false c.loop-kept.invariant

@@ -1,5 +1,5 @@
 use Rattle.dv_board.proofs.Indices.{IsLeastOf}
 use Rattle.dv_board.proofs.backlog.least_clock.Given as goal
 
-abbrev pub invariant-loop-index : goal.invariant-loop-index
-invariant-loop-index g l = IsLeastOf l.fn.held l.index-index l.least
+abbrev pub invariant-loop-kept : goal.invariant-loop-kept
+invariant-loop-kept g l = IsLeastOf l.fn.held l.kept-index l.least

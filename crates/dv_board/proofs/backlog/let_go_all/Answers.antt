@@ -10,31 +10,31 @@ use Rattle.dv_board.proofs.backlog.let_go_all.Goals as goal
 
 pub let_go-requires : goal.let_go-requires
 let_go-requires g c =
-    let old = c.deref_mut-index-items.result.now in
-    let now = c.loop-index.index-items in
-    let k = c.loop-index.index-index in
-    let same = c.deref_mut-index-items.ensures.value in
+    let old = c.deref_mut-kept-items.result.now in
+    let now = c.loop-kept.kept-items in
+    let k = c.loop-kept.kept-index in
+    let same = c.deref_mut-kept-items.ensures.value in
     let by_time = subst (All (λ (h : Held g.row.N.Denot). IsByTime h.part)) (sym same) c.requires in
     subst (λ (h : Held g.row.N.Denot). IsByTime h.part)
-    (sym (at_indices_to_come (rest_of c.args.time) old now k c.index-item.result c.loop-index-test.true c.loop-index.invariant))
-    (by_time k c.index-item.result c.loop-index-test.true)
+    (sym (at_indices_to_come (rest_of c.args.time) old now k c.kept-item.result c.loop-kept-test.true c.loop-kept.invariant))
+    (by_time k c.kept-item.result c.loop-kept-test.true)
 
-pub loop-index-preserved : goal.loop-index-preserved
-loop-index-preserved g c =
-    let old = c.deref_mut-index-items.result.now in
-    let now = c.loop-index.index-items in
-    let k = c.loop-index.index-index in
-    ap (set now k) (c.let_go.ensures ∙ ap (rest_of c.args.time) (sym c.index-item.is))
-    ∙ map_over_more (rest_of c.args.time) old now k c.index-item.result c.loop-index-test.true c.loop-index.invariant c.index-item.is
+pub loop-kept-preserved : goal.loop-kept-preserved
+loop-kept-preserved g c =
+    let old = c.deref_mut-kept-items.result.now in
+    let now = c.loop-kept.kept-items in
+    let k = c.loop-kept.kept-index in
+    ap (set now k) (c.let_go.ensures ∙ ap (rest_of c.args.time) (sym c.kept-item.is))
+    ∙ map_over_more (rest_of c.args.time) old now k c.kept-item.result c.loop-kept-test.true c.loop-kept.invariant c.kept-item.is
 
 pub returns : goal.returns
 returns g c =
-    let old = c.deref_mut-index-items.result.now in
-    let now = c.loop-index.index-items in
-    let k = c.loop-index.index-index in
-    let past = c.loop-index-test.false in
+    let old = c.deref_mut-kept-items.result.now in
+    let now = c.loop-kept.kept-items in
+    let k = c.loop-kept.kept-index in
+    let past = c.loop-kept-test.false in
     take_at now (drop (length now) c.args.held.now.items) c.args.held.now.len
-    (c.loop-index.auto.index-items ∙ c.deref_mut-index-items.ensures.len)
-    ∙ (c.loop-index.invariant
+    (c.loop-kept.auto.kept-items ∙ c.deref_mut-kept-items.ensures.len)
+    ∙ (c.loop-kept.invariant
     ∙ (ap₂ (λ (a b : List (Held g.row.N.Denot)). map (rest_of c.args.time) a ++ b) (take_all k old past) (drop_all k old past)
-    ∙ (append-nil (map (rest_of c.args.time) old) ∙ ap (map (rest_of c.args.time)) c.deref_mut-index-items.ensures.value)))
+    ∙ (append-nil (map (rest_of c.args.time) old) ∙ ap (map (rest_of c.args.time)) c.deref_mut-kept-items.ensures.value)))

@@ -5,5 +5,5 @@ use Rattle.dv_board.proofs.backlog.pieces_between.Goals as goal
 
 pub between-requires : goal.between-requires
 between-requires g c =
-    subst (λ (h : Held g.row.N.Denot). IsByTime h.part) (sym c.index-item.is)
-    (c.requires c.loop-index.index-index c.index-item.result c.loop-index-test.true)
+    subst (λ (h : Held g.row.N.Denot). IsByTime h.part) (sym c.kept-item.is)
+    (c.requires c.loop-kept.kept-index c.kept-item.result c.loop-kept-test.true)

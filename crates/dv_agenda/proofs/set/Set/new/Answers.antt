@@ -1,6 +1,6 @@
 use Rattle.std.proofs.Common.{◌≡◌, ℕ, ◌+◌, ◌/◌, List, replicate, sym, subst, arith}
 use Rattle.std.proofs.lemmas.Grind.{common_steps}
-use Rattle.dv_agenda.specs.Wheel.{IsHeaded}
+use Rattle.dv_agenda.specs.Sets.{IsHeaded}
 use Rattle.dv_agenda.proofs.Sets.{headed_new}
 use Rattle.dv_agenda.proofs.set.Set.new.Goals as goal
 

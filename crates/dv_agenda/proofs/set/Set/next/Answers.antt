@@ -1,6 +1,6 @@
 use Rattle.std.proofs.Common.{◌≡◌, inl, inr, ℕ, ◌+◌, ◌*◌, ◌/◌, ◌≤◌, List, sym, ap, arith, ◌∙◌}
 use Rattle.std.proofs.lemmas.Bool.{cases_lt}
-use Rattle.dv_agenda.specs.Wheel.{has}
+use Rattle.dv_agenda.specs.Sets.{has}
 use Rattle.dv_agenda.proofs.Sets.{none_unheaded}
 use Rattle.dv_agenda.proofs.set.Set.next.Goals as goal
 use Rattle.dv_agenda.proofs.set.Set.next.Goals.{then-after-end, else-after-end}

@@ -1,5 +1,5 @@
 use Rattle.std.proofs.Common.{ℕ, ◌/◌, List, sym, ap, arith, ◌∙◌}
-use Rattle.dv_agenda.specs.Wheel.{has}
+use Rattle.dv_agenda.specs.Sets.{has}
 use Rattle.dv_agenda.proofs.Sets.{none_unheaded}
 use Rattle.dv_agenda.proofs.set.Set.next_word.Goals as goal
 

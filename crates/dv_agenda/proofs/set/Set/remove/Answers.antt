@@ -1,7 +1,7 @@
 use Rattle.std.proofs.Common.{◌≡◌, ℕ, ◌/◌, List, get_or, length, sym, ap, subst, ◌∙◌}
 use Rattle.std.proofs.lemmas.List.{with_items_is}
 use Rattle.std.specs.Vec.{with_items}
-use Rattle.dv_agenda.specs.Wheel.{IsHeaded, has}
+use Rattle.dv_agenda.specs.Sets.{IsHeaded, has}
 use Rattle.dv_agenda.proofs.Sets.{headed_nil, headed_remove}
 use Rattle.dv_agenda.proofs.set.Set.remove.Goals as goal
 

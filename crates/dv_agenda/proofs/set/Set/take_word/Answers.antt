@@ -1,7 +1,7 @@
 use Rattle.std.proofs.Common.{◌≡◌, ℕ, ◌<◌, List, length, set, sym, ap, subst, ◌∙◌}
 use Rattle.std.proofs.lemmas.List.{with_items_is}
 use Rattle.std.specs.Vec.{with_items}
-use Rattle.dv_agenda.specs.Wheel.{IsHeaded, has}
+use Rattle.dv_agenda.specs.Sets.{IsHeaded, has}
 use Rattle.dv_agenda.proofs.Sets.{headed_taken, others_nil}
 use Rattle.dv_agenda.proofs.set.Set.take_word.Goals as goal
 
