@@ -3,6 +3,7 @@ use Rattle.std.proofs.Common.{◌≡◌, ℕ, ◌<◌, ◌≤◌, ◌^◌, Bool,
 use Rattle.std.proofs.Common.{OkIff, subst, lit<}
 use Rattle.std.specs.List.{list_all}
 use Rattle.std.specs.Char.{is_ascii_digit}
+use Rattle.dv_lex.specs.Lexemes.{is_name_byte}
 use Rattle.std.specs.Str.Parse.{ParsesUnsigned, digits_value}
 use Rattle.std.proofs.lemmas.Bool.{and_parts}
 use Rattle.std.proofs.lemmas.Bool.Decides.{nat_tests}
@@ -20,6 +21,12 @@ is_ascii_digit-ascii b h = grind (arith, nat_tests)
 
 pub IsAscii-digits : (bs : List ℕ) → list_all is_ascii_digit bs ≡ true → IsAscii bs
 IsAscii-digits bs h = IsAscii-run is_ascii_digit is_ascii_digit-ascii bs h
+
+pub is_name_byte-ascii : (b : ℕ) → is_name_byte b ≡ true → b < 128
+is_name_byte-ascii b h = grind (arith, nat_tests)
+
+pub IsAscii-name_bytes : (bs : List ℕ) → list_all is_name_byte bs ≡ true → IsAscii bs
+IsAscii-name_bytes bs h = IsAscii-run is_name_byte is_name_byte-ascii bs h
 
 -- what `parse` makes of digits
 digits_test : IsDigitsTest (λ ds. list_all is_ascii_digit ds ≡ true)

@@ -15,7 +15,9 @@ use Rattle.std.proofs.lemmas.Str.{encode_same, encode_ascii, encodes-IsAscii, en
 use Rattle.std.proofs.lemmas.Str.{IsUtf8-nil, IsUtf8-past_char, IsUtf8-drop, IsCharBoundary-before_ascii}
 use Rattle.std.proofs.lemmas.Str.{IsCharBoundary-from_drop}
 use Rattle.dv_lex.specs.Steps.{BeginsWith, Ends, SplitsRun, SplitsCharacters}
-use Rattle.dv_lex.proofs.Ascii.{IsAscii-digits}
+use Rattle.dv_lex.specs.Lexemes.{is_name_byte, continues_name}
+use Rattle.unicode_ident.proofs.IdentLemmas.{is_xid_continue-ascii}
+use Rattle.dv_lex.proofs.Ascii.{IsAscii-digits, IsAscii-name_bytes, is_name_byte-ascii}
 
 -- the empty text begins with no character
 pub not_begun : (c : ℕ) → BeginsWith c [] → ⊥
@@ -92,6 +94,32 @@ SplitsCharacters-whole p text f = record {
   ends = λ c b. absurd (not_begun c b);
 }
 
+-- a run of characters of ASCII that continue a name, behind which no other character stands
+name_bytes-continue : (bs : List ℕ) → list_all is_name_byte bs ≡ true → list_all continues_name bs ≡ true
+name_bytes-continue [] h = refl
+name_bytes-continue (b ∷ bs) h =
+    let t = and_parts (is_name_byte b) (list_all is_name_byte bs) h in
+    and_from (continues_name b) (list_all continues_name bs) (is_xid_continue-ascii b (is_name_byte-ascii b t.0) ∙ t.0)
+    (name_bytes-continue bs t.1)
+
+name_bytes-end : (rest : List ℕ) → Ends is_name_byte rest → ((b : ℕ) (bytes : List ℕ) → rest ≡ b ∷ bytes → b < 128) →
+    (c : ℕ) → BeginsWith c rest → continues_name c ≡ false
+name_bytes-end [] h a c k = absurd (not_begun c k)
+name_bytes-end (b ∷ bytes) h a c k =
+    let small = a b bytes refl in
+    let begins : BeginsWith b (b ∷ bytes) = (bytes, ap (λ (front : List ℕ). front ++ bytes) (sym (encode_ascii b small))) in
+    ap continues_name (same_first c b (b ∷ bytes) k begins) ∙ (is_xid_continue-ascii b small ∙ h)
+
+pub SplitsCharacters-name_bytes : (text run rest : List ℕ) → SplitsRun is_name_byte text run rest →
+    ((b : ℕ) (bytes : List ℕ) → rest ≡ b ∷ bytes → b < 128) → SplitsCharacters continues_name text run rest
+SplitsCharacters-name_bytes text run rest s a = record {
+  characters = run;
+  run_is = sym (encodes-IsAscii run (IsAscii-name_bytes run s.each));
+  whole = s.whole;
+  each = name_bytes-continue run s.each;
+  ends = name_bytes-end rest s.ends a;
+}
+
 -- what follows the front of a text is a text: behind characters, behind digits, and at the end of a line
 pub IsUtf8-behind : (cs rest : List ℕ) → IsUtf8 (encode_utf8_all cs ++ rest) → IsUtf8 rest
 IsUtf8-behind [] rest u = u
@@ -104,6 +132,9 @@ IsUtf8-behind_ascii front rest a u =
 
 pub IsUtf8-behind_digits : (text run rest : List ℕ) → IsUtf8 text → SplitsRun is_ascii_digit text run rest → IsUtf8 rest
 IsUtf8-behind_digits text run rest u s = IsUtf8-behind_ascii run rest (IsAscii-digits run s.each) (subst IsUtf8 s.whole u)
+
+pub IsUtf8-behind_name_bytes : (text run rest : List ℕ) → IsUtf8 text → SplitsRun is_name_byte text run rest → IsUtf8 rest
+IsUtf8-behind_name_bytes text run rest u s = IsUtf8-behind_ascii run rest (IsAscii-name_bytes run s.each) (subst IsUtf8 s.whole u)
 
 -- the byte behind a front
 byte_behind : (run : List ℕ) (b : ℕ) (rest : List ℕ) → get_or (run ++ b ∷ rest) (length run) 0 ≡ b

@@ -1,7 +1,7 @@
 -- What a model text is cut into, and how each piece of it is spelled.
 use Rattle.std.specs.Prelude.{◌≡◌, ◌≢◌, ℕ, ◌<◌, ◌==◌, Bool, true, false, not, ◌||◌, IsTrue, List, [], ◌∷◌, length, codes, count_by}
 use Rattle.std.specs.Prelude.{encode_utf8_all}
-use Rattle.std.specs.Char.{is_ascii_digit}
+use Rattle.std.specs.Char.{is_ascii_digit, is_ascii_alphanumeric}
 use Rattle.std.specs.List.{list_all}
 use Rattle.std.specs.Str.Parse.{digits_value}
 use Rattle.unicode_ident.specs.Ident.{is_xid_start, is_xid_continue}
@@ -30,6 +30,10 @@ starts_name c = is_xid_start c || c == 95
 -- whether the character may stand in a name behind its first
 abbrev pub continues_name : ℕ → Bool
 continues_name c = is_xid_continue c
+
+-- whether the byte is a character of ASCII that may stand in a name behind its first
+abbrev pub is_name_byte : ℕ → Bool
+is_name_byte b = is_ascii_alphanumeric b || b == 95
 
 -- how many line feeds are among the bytes
 abbrev pub line_feeds : List ℕ → ℕ

@@ -1,11 +1,12 @@
 //! From the bytes of a model text to its tokens.
 
-ghost use Rattle.std.specs.Prelude.{List, [], ◌++◌, ◌≡◌, ◌≢◌, ℕ, ◌+◌, ◌-◌, ◌^◌, ◌<◌, ◌≤◌, false, length, encode_utf8, IfErr, IfOk};
+ghost use Rattle.std.specs.Prelude.{List, [], ◌++◌, ◌≡◌, ◌≢◌, ℕ, ◌∷◌, ◌+◌, ◌-◌, ◌^◌, ◌<◌, ◌≤◌, false, length, encode_utf8, IfErr, IfOk};
 ghost use Rattle.std.specs.Prelude.{MatchOption, Some, Err, IsTrue, not, ◌==◌};
 ghost use Rattle.std.specs.Char.{is_ascii_digit};
 ghost use Rattle.std.specs.List.{list_all, take_while};
 ghost use Rattle.std.specs.Str.Parse.{digits_value};
 ghost use Rattle.dv_lex.specs.Lexemes.{Lexeme, symbol_text, Spells, IsWord, is_blank, starts_name, continues_name};
+ghost use Rattle.dv_lex.specs.Lexemes.{is_name_byte};
 ghost use Rattle.dv_lex.specs.Numbering.{kind_of};
 ghost use Rattle.dv_lex.specs.Steps.{BeginsWith, SplitsCharacters, SplitsRun, IsLongestSymbol, ReadsToken, IsNoToken, with_lexeme};
 ghost use Rattle.dv_lex.specs.Texts.{IsTokensOf, IsRefused, IsRefusedAs, IsReadable, greatest_length};
@@ -70,10 +71,42 @@ fn split_first(text: &str) -> Option<(char, &str)>
     Some((first, characters.as_str()))
 }
 
-/// The characters from the front on that may stand in a name, and what follows them.
+/// How many bytes from the front on are characters of ASCII that may stand in a name.
+fn name_bytes_len(bytes: &[u8]) -> usize
+    ensures { result ≡ length (take_while is_name_byte bytes.now) }
+{
+    bytes
+        .iter()
+        .take_while(|byte| byte.is_ascii_alphanumeric() || **byte == b'_')
+        .count()
+}
+
+/// The characters of ASCII from the front on that may stand in a name, and what follows them.
+fn split_name_bytes(text: &str) -> (&str, &str)
+    ensures { SplitsRun is_name_byte text.now result.0.now result.1.now }
+{
+    text.split_at(name_bytes_len(text.as_bytes()))
+}
+
+/// Whether the first character, if there is one, is of ASCII.
+fn begins_with_ascii(text: &str) -> bool
+    ensures { IsTrue result → (b : ℕ) (bytes : List ℕ) → text.now ≡ b ∷ bytes → b < 128 }
+{
+    match text.as_bytes() {
+        [first, ..] => *first < 128,
+        [] => true,
+    }
+}
+
+/// The characters from the front on that may stand in a name, and what follows them. Each character is looked up only
+/// where those of ASCII do not end the word.
 fn split_word(text: &str) -> (&str, &str)
     ensures { SplitsCharacters continues_name text.now result.0.now result.1.now }
 {
+    let (word, rest) = split_name_bytes(text);
+    if begins_with_ascii(rest) {
+        return (word, rest);
+    }
     match text.find(|character: char| !continues_name(character)) {
         Some(end) => text.split_at(end),
         None => (text, ""),

@@ -1,6 +1,6 @@
 //! Atomic models and their items.
 
-ghost use Rattle.std.specs.Prelude.{◌≡◌, [], OnOk, IfErr};
+ghost use Rattle.std.specs.Prelude.{◌≡◌, [], OnOk, IfErr, IfOk};
 ghost use Rattle.dv_syntax.specs.Trees.{ticks_of, atomic_of};
 ghost use Rattle.dv_syntax.specs.Grammar.{the_limits, discipline_word, sort_word};
 ghost use Rattle.dv_parser.specs.Reading.{Gives, Reads, with_front, many_at, braces_at, bound_at, variable_at, flag_at};
@@ -22,7 +22,7 @@ use dv_syntax::{
     Atomic, Bound, Declaration, Flag, Hold, Name, Phases, Rule, RuleSort, Start, StateCollection,
     Ticks, Variable,
 };
-use std::alloc::Global;
+use std::alloc::{AllocError, Global};
 
 /// How deep the blocks of a rule may lie in one another.
 const BLOCK_LIMIT: u32 = 16;
@@ -203,7 +203,7 @@ fn phases(alloc: Global, tokens: &[Token]) -> Result<(AtomicItem, &[Token]), Par
     let offset = first_offset(tokens);
     let rest = after_keyword(tokens, Keyword::Phases)?;
     let (first, rest) = name(rest)?;
-    let mut names = Vec::new(alloc);
+    let mut names = Vec::with_capacity(alloc, 1)?;
     names.push(first)?;
     let (mut names, rest) = further_names(names, rest)?;
     let rest = after_symbol(rest, Symbol::Semicolon)?;
@@ -406,18 +406,24 @@ fn items(
     Ok((atomic, rest))
 }
 
-/// An atomic model without items.
-fn empty(alloc: Global, name: Name) -> Atomic
-    ensures { atomic_of result ≡ empty_atomic name }
+/// An atomic model without items, with room for the one list of phases and the one start phase that a model has.
+///
+/// # Errors
+///
+/// No memory for this room.
+fn empty(alloc: Global, name: Name) -> Result<Atomic, AllocError>
+    ensures { IfOk result (λ atomic. atomic_of atomic ≡ empty_atomic name) }
 {
-    Atomic {
+    let phases = Vec::with_capacity(alloc, 1)?;
+    let starts = Vec::with_capacity(alloc, 1)?;
+    Ok(Atomic {
         name,
         declarations: Vec::new(alloc),
-        phases: Vec::new(alloc),
-        starts: Vec::new(alloc),
+        phases,
+        starts,
         holds: Vec::new(alloc),
         rules: Vec::new(alloc),
-    }
+    })
 }
 
 /// `atomic name { .. }`
@@ -428,7 +434,7 @@ pub fn atomic(alloc: Global, tokens: &[Token]) -> Result<(Atomic, &[Token]), Par
     let rest = after_keyword(tokens, Keyword::Atomic)?;
     let (name, rest) = name(rest)?;
     let rest = after_symbol(rest, Symbol::OpenBrace)?;
-    let (mut atomic, rest) = items(alloc, empty(alloc, name), rest)?;
+    let (mut atomic, rest) = items(alloc, empty(alloc, name)?, rest)?;
     let rest = after_symbol(rest, Symbol::CloseBrace)?;
     trim(&mut atomic);
     Ok((atomic, rest))

@@ -6,7 +6,7 @@
 //!
 //! `dv_job` and `dv_views` parse the text of a model, and `dv_hints` parses a refused text once more to find what is
 //! near. No name is looked up and no type is tested here: that is `dv_check`. That a refusal names the first token
-//! with which nothing goes on is a law of `dv_dead_ends`.
+//! with which nothing goes on is a law of `law_dead_ends`.
 #![tactic(auto)]
 
 /// A whole file: the door of the crate.

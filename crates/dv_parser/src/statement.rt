@@ -334,7 +334,7 @@ fn statements(
         (many_at (statement_at the_limits (block_at the_limits (limit - 1)) (limit - 1) loops)
         (TokenKind.Symbol Symbol.CloseBrace) tokens.now) }
 {
-    let mut statements = Vec::new(alloc);
+    let mut statements = Vec::with_capacity(alloc, 1)?;
     let mut rest = tokens;
     while !begins_with_symbol(rest, Symbol::CloseBrace) {
         let (statement, after) = statement(alloc, rest, limit, loops)?;

@@ -1,8 +1,13 @@
 use Rattle.std.proofs.Common.{not, rules}
 use Rattle.std.proofs.lemmas.Fn.{always_returns_same}
 use Rattle.dv_lex.specs.Lexemes.{continues_name}
-use Rattle.dv_lex.proofs.Characters.{SplitsCharacters-found, SplitsCharacters-whole}
+use Rattle.dv_lex.proofs.Characters.{SplitsCharacters-found, SplitsCharacters-name_bytes, SplitsCharacters-whole}
 use Rattle.dv_lex.proofs.lexer.split_word.Goals as goal
+
+pub returns-then-begins_with_ascii : goal.returns-then-begins_with_ascii
+returns-then-begins_with_ascii c =
+    SplitsCharacters-name_bytes c.args.text.now c.split_name_bytes.result.0.now c.split_name_bytes.result.1.now c.split_name_bytes.ensures
+    (c.begins_with_ascii.ensures c.if-begins_with_ascii.true)
 
 pub returns-in-Some : goal.returns-in-Some
 returns-in-Some c =

@@ -41,11 +41,11 @@ behind items xs = map single_of items ++ xs
 
 pub statements-loop-alloc-init : goal.statements-loop-alloc-init
 statements-loop-alloc-init t c =
-    rw c.new-statements.ensures.items (front_nothing (many_at (inside_at the_limits c.args.limit c.args.loops) close c.args.tokens.now))
+    rw c.in_ok-statements.ensures.items (front_nothing (many_at (inside_at the_limits c.args.limit c.args.loops) close c.args.tokens.now))
 
 pub statements-returns-in_err-statement : goal.statements-returns-in_err-statement
 statements-returns-in_err-statement t c =
-    let p = err_from_is_err_and c.from_residual.result c.from_residual.ensures.1 in
+    let p = err_from_is_err_and c.from_residual-in_err-statement.result c.from_residual-in_err-statement.ensures.1 in
     rw (p.1, p.2)
     (turn_fails c.in_err-statement.field-0.0 (inside_at the_limits c.args.limit c.args.loops) close
     (behind c.loop-alloc.statements.items) c.loop-alloc.rest.now _ (search rules) c.in_err-statement.ensures c.loop-alloc.invariant)
