@@ -11,13 +11,14 @@
 //!
 //! # Why no ring of a bell is lost, and why not all wait
 //!
-//! A worker reads the count of its bell, then visits all its processes, and waits only while the count is still the one that it
-//! read. What would give it work is a packet that is put on a link to one of its processes, room on a full link that leads away
-//! from one, a lead of one that was too long and is not any more, or the flag. Whoever puts a packet does so first and rings the
-//! receiver's bell after it; whoever takes one rings the sender's bell after it; whoever takes pieces takes them off the leads
-//! first and rings after it; the flag is set before all bells ring. So what a visit missed came after the count was read, and its ring has raised
-//! the count or will. Who is about to sleep says so first and looks at the count after it; who rings raises the count first and looks
-//! for sleepers after it. All of these are steps in one order that all threads see, so at least one of the two sees the other: the one
+//! A worker reads the count of its bell, then visits all its processes, and waits only while the count is still the one that it read.
+//! What would give it work is a packet that is put on a link to one of its processes, room on a full link that leads away from one, a
+//! lead of one that was too long and is not any more, or the flag. Whoever puts a packet does so first and rings the receiver's bell
+//! after it; whoever takes one from a link whose sender asked for room (`Room`) rings the sender's bell after it, and a sender that
+//! finds its link full asks for room before it tries once more; whoever takes pieces takes them off the leads first and rings after
+//! it; the flag is set before all bells ring. So what a visit missed came after the count was read, and its ring has raised the count
+//! or will. Who is about to sleep says so first and looks at the count after it; who rings raises the count first and looks for
+//! sleepers after it. All of these are steps in one order that all threads see, so at least one of the two sees the other: the one
 //! does not fall asleep, or the other wakes it.
 //!
 //! If all workers waited with work left, every queue that a visit found empty is empty still, and every one that it found full is
@@ -78,6 +79,8 @@ pub mod lead;
 pub mod post;
 /// What a run reports.
 pub mod report;
+/// Room on links, for which their senders ask.
+pub mod room;
 /// Runs processes by workers.
 pub mod run;
 /// A process with the ends of its links.

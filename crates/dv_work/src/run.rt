@@ -15,6 +15,7 @@ use crate::crew::Crew;
 use crate::gate::Gate;
 use crate::post::Stream;
 use crate::report::{Report, report_of};
+use crate::room::rooms_of;
 use crate::seat::{Floor, Seat};
 use crate::setup::{connect, seats_by_worker, seats_of};
 use crate::worker::{Halt, Worked, work_at};
@@ -229,9 +230,11 @@ where
     let mut seats = seats_of::<N, P>(alloc, processes)?;
     let links = connect::<N, P>(alloc, &channels, capacity, workers, &mut seats)?;
     let by_worker = seats_by_worker(alloc, &links, workers, seats)?;
+    let rooms = rooms_of(alloc, links.len())?;
     let flag = Flag::new();
     let floor = Floor {
         links: &links,
+        rooms: &rooms,
         flag: &flag,
         stream,
     };

@@ -12,6 +12,7 @@ ghost use Rattle.dv_work.specs.Seats.{IsAny, KeepsNoneBackAt, NoneIsNew, OthersS
 
 use crate::bell::{Bell, Flag};
 use crate::post::Stream;
+use crate::room::Room;
 use dv_board::Piece;
 use dv_core::{LogicalProcess, ProcessHandsOver};
 use dv_link::{Link, SendPass, TakePass};
@@ -61,11 +62,14 @@ pub struct Seat<P> {
     pub posted: Time,
 }
 
-/// All that a worker's visits need of the others: the links, the flag, and where they post, with the bells.
+/// All that a worker's visits need of the others: the links, where room is asked for on them, the flag, and where they post, with
+/// the bells.
 #[derive(Drop)]
 pub struct Floor<'a, N: OfJob> {
     /// The links of the job, by their numbers.
     pub links: &'a [Link<N>],
+    /// Where the senders of the links ask for room, by the links' numbers.
+    pub rooms: &'a [Room],
     /// Raised once a worker ends before its processes are done; the others end then.
     pub flag: &'a Flag,
     /// Where pieces are posted.
@@ -76,6 +80,28 @@ pub struct Floor<'a, N: OfJob> {
 fn ring(bells: &[Bell], worker: usize) {
     if let Some(bell) = bells.get(worker) {
         bell.ring();
+    }
+}
+
+// Asks for room on a link.
+fn ask_for_room(rooms: &[Room], link: u32) {
+    if let Some(room) = rooms.get(link as usize) {
+        room.ask();
+    }
+}
+
+// Whether the sender of a link asked for room on it since this was last called.
+fn was_room_asked_for(rooms: &[Room], link: u32) -> bool {
+    match rooms.get(link as usize) {
+        Some(room) => room.was_asked_for(),
+        None => false,
+    }
+}
+
+// Rings the bell of the sender of a link, if it asked for room there.
+fn ring_if_asked<N: OfJob>(floor: &Floor<'_, N>, end: &In) {
+    if was_room_asked_for(floor.rooms, end.number) {
+        ring(floor.stream.bells, end.sender);
     }
 }
 
@@ -114,6 +140,26 @@ fn put_held<N: OfJob, R: Wait>(rt: &R, links: &[Link<N>], end: &mut Out) -> bool
     }
 }
 
+// Puts the packet that is held, where its link has room. Where it has none, room is asked for, and the packet is tried once more:
+// room that came before it was asked for rings nobody. Tells whether it was put. Where it was not, it is held as before.
+fn put_or_ask<N: OfJob, R: Wait>(rt: &R, floor: &Floor<'_, N>, end: &mut Out) -> bool
+    requires end { IsOut floor.now.links.now end.old }
+    requires all_true { AreTrueOn N.job end.old.number (given end.old) }
+    ensures end { IsOut floor.now.links.now end.new }
+    ensures number { end.new.number ≡ end.old.number }
+    ensures given { given end.new ≡ given end.old }
+    ensures held { end.new.held ≡ (if result then None else end.old.held) }
+{
+    if put_held(rt, floor.links, end) {
+        return true;
+    }
+    if end.held.is_none() {
+        return false;
+    }
+    ask_for_room(floor.rooms, end.number);
+    put_held(rt, floor.links, end)
+}
+
 impl<P: LogicalProcess> Seat<P> {
     /// Takes the packet at the front of the link at an index, if there is one, and gives it to the process.
     ///
@@ -137,7 +183,7 @@ impl<P: LogicalProcess> Seat<P> {
         let Some(packet) = take_from(rt, floor.links, end) else {
             return Ok(false);
         };
-        ring(floor.stream.bells, end.sender);
+        ring_if_asked(floor, end);
         if let Err(_refused) = self.process.receive(packet) {
             return Err(AllocError);
         }
@@ -217,7 +263,7 @@ impl<P: LogicalProcess> Seat<P> {
     {
         self.hold(floor, index);
         let end = &mut self.outs[index];
-        if !put_held(rt, floor.links, end) {
+        if !put_or_ask(rt, floor, end) {
             return false;
         }
         ring(floor.stream.bells, end.receiver);

@@ -1,0 +1,48 @@
+//! Room on links, for which their senders ask.
+
+ghost use Rattle.std.specs.Prelude.{◌≡◌, IfOk, length};
+
+use std::alloc::{AllocError, Global};
+use std::sync::atomic::{AtomicBool, Ordering};
+
+/// Whether the sender of a link waits for room on it. A sender that finds its link full asks for room and then tries once more:
+/// either that try finds the room, or whoever makes room afterwards finds that it was asked for.
+#[derive(Drop)]
+pub struct Room {
+    is_wanted: AtomicBool,
+}
+
+impl Room {
+    /// Nobody asked for room.
+    pub fn new() -> Room {
+        Room {
+            is_wanted: AtomicBool::new(false),
+        }
+    }
+
+    /// Asks for room.
+    pub fn ask(&self) {
+        self.is_wanted.store(true, Ordering::SeqCst);
+    }
+
+    /// Whether room was asked for since this was last called. Where it was not, nothing is written, so that the two ends of a link
+    /// that never gets full only read here.
+    pub fn was_asked_for(&self) -> bool {
+        self.is_wanted.load(Ordering::SeqCst) && self.is_wanted.swap(false, Ordering::SeqCst)
+    }
+}
+
+/// For each of so many links, by their numbers.
+///
+/// # Errors
+///
+/// No memory for so many.
+pub fn rooms_of(alloc: Global, links: usize) -> Result<Vec<Room>, AllocError>
+    ensures { IfOk result (λ rooms. length rooms.items ≡ links) }
+{
+    let mut rooms = Vec::with_capacity(alloc, links)?;
+    for _link in 0..links {
+        rooms.push(Room::new())?;
+    }
+    Ok(rooms)
+}
