@@ -6,7 +6,7 @@ use std::fmt;
 /// Whether a trace has to have an end, which is `whole` with the horizon, or `partial` behind clocks.
 #[derive(Clone, Copy, Debug, PartialEq, Eq)]
 pub enum End {
-    /// The trace has to have an end.
+    /// The trace has to have an end, with its line feed.
     Required,
     /// A run may have been stopped. What it printed is read up to its last line feed.
     Optional,

@@ -33,6 +33,8 @@ pub struct TraceReader<'t> {
     names: Directory<'t>,
     recent: Recent,
     last: Last,
+    // Whether what stands after the end was read, and is empty. Nothing stands after an end without its line feed.
+    is_past_end: bool,
     lines: u64,
 }
 
@@ -49,6 +51,7 @@ impl<'t> TraceReader<'t> {
             names: Directory::of(alloc, tree)?,
             recent: Recent::new(alloc, tree.component_count())?,
             last: Last::Nothing,
+            is_past_end: false,
             lines: 0,
         })
     }
@@ -84,15 +87,17 @@ impl<'t> TraceReader<'t> {
         }
     }
 
-    /// The trace ends behind the last line. How far it reaches is returned.
+    /// The trace ends after the last line. How far it reaches is returned. If an end is required, what stands after the last line
+    /// feed was read as a line, too: an end whose line feed is missing may have been cut within its number.
     ///
     /// # Errors
     ///
-    /// `Refused` where that line is no end, and one is required.
+    /// `Refused` where the last line is no end, or an end without its line feed, and an end is required.
     pub fn end(&self, end: End) -> Result<Reach, TraceError> {
         match (self.last, end) {
-            (Last::End(reach), _) => Ok(reach),
+            (Last::End(reach), End::Required) if self.is_past_end => Ok(reach),
             (_, End::Required) => Err(self.refused(TraceReason::NoEnd)),
+            (Last::End(reach), End::Optional) => Ok(reach),
             (last, End::Optional) => Ok(Reach::NoEnd(last.time())),
         }
     }
@@ -114,6 +119,7 @@ impl<'t> TraceReader<'t> {
         };
         let text = text.strip_suffix('\r').unwrap_or(text);
         if text.is_empty() {
+            self.is_past_end = matches!(self.last, Last::End(_));
             return Ok(LineHead::Empty);
         }
         match self.last {
