@@ -5,8 +5,8 @@ use Rattle.dv_syntax.specs.Trees.{Statements}
 use Rattle.dv_bag.specs.declared.state.Effect.{Effect}
 use Rattle.dv_eval.specs.Scope.{Scope, index_of}
 use Rattle.dv_eval.specs.Meaning.{Context, run, with_goto, with_value_at}
-use Rattle.dv_accepted.specs.Gotos.{gotos_in}
-use Rattle.dv_accepted.proofs.Keeping.{StatementsKeep, keeps_in_any_state, run_keeps_to}
+use Rattle.law_accepted.specs.Gotos.{gotos_in}
+use Rattle.law_accepted.proofs.Keeping.{StatementsKeep, keeps_in_any_state, run_keeps_to}
 
 module _ (P : Option ℕ → Type 0) where
   with_value_leaves : (o : Option ℕ) (n : ℤ) (e : Effect) → P e.goto → P (with_value_at o n e).goto

@@ -11,10 +11,10 @@ use Rattle.dv_bag.specs.declared.state.Effect.{Effect}
 use Rattle.dv_eval.specs.declared.scope.Domain.{Domain}
 use Rattle.dv_eval.specs.Meaning.{effect_of, hold_of, outermost}
 use Rattle.dv_eval.specs.Scope.{hold_ticks, phase_name, index_of, rule_body, rule_of, same_sort, scope_of}
-use Rattle.dv_accepted.specs.Fitting.{HoldsDatum, domain_named, in_phase}
+use Rattle.law_accepted.specs.Fitting.{HoldsDatum, domain_named, in_phase}
 use Rattle.dv_bag.specs.Numbers.{HoldsNumbers}
-use Rattle.dv_accepted.specs.Gotos.{gotos_in}
-use Rattle.dv_accepted.proofs.Keeping.{all_parts}
+use Rattle.law_accepted.specs.Gotos.{gotos_in}
+use Rattle.law_accepted.proofs.Keeping.{all_parts}
 use Rattle.dv_bound.specs.Response.{IsNotBelow, external_gotos, external_gotos_in, phase_response, response_of, sooner}
 use Rattle.dv_bound.specs.Soonest.{soonest}
 use Rattle.dv_bound.proofs.Names.{name_at}

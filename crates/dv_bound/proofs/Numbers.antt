@@ -33,7 +33,7 @@ use Rattle.dv_eval.specs.Meaning.{bag_or_none, call_result, collection_between, 
 use Rattle.dv_eval.specs.Meaning.{number_of, operator_result, outermost, prefix_result, queue_or_none, value_of_datum}
 use Rattle.dv_bag.specs.Numbers.{HasNumbers, HoldsNumbers, IsBagOfNumbers, IsOfNumbers}
 use Rattle.dv_bound.specs.Response.{least_number}
-use Rattle.dv_accepted.proofs.Outcomes.{if_ok_after, if_ok_then}
+use Rattle.law_accepted.proofs.Outcomes.{if_ok_after, if_ok_then}
 
 -- a number that is not below the least one of the language
 abbrev pub IsNotUnder : ℤ → Type 0

@@ -19,12 +19,12 @@ use Rattle.dv_eval.specs.declared.scope.Domain.TheVariants as domain
 use Rattle.dv_eval.specs.declared.scope.VariableRange.{VariableRange}
 use Rattle.dv_eval.specs.Scope.{Scope, names_of, index_of}
 use Rattle.dv_eval.specs.Meaning.{datum_at, datum_of_name, hold_of, meaning, moment_in, number_of, outermost, ticks_from, value_of_datum}
-use Rattle.dv_accepted.specs.Fitting.{HoldsDatum, datum_fits, domain_named}
+use Rattle.law_accepted.specs.Fitting.{HoldsDatum, datum_fits, domain_named}
 use Rattle.dv_bag.specs.Numbers.{HoldsNumbers}
 use Rattle.dv_bound.specs.Response.{IsNotBelow, greatest_number, hold_response, least_number, low, low_end}
 use Rattle.dv_bound.specs.Response.{ticks_in, within_numbers}
 use Rattle.dv_bound.proofs.Numbers.{name_not_under, not_less, value_not_under}
-use Rattle.dv_accepted.proofs.Outcomes.{if_ok_after, if_ok_then}
+use Rattle.law_accepted.proofs.Outcomes.{if_ok_after, if_ok_then}
 
 -- ---- Variables
 

@@ -12,8 +12,8 @@ use Rattle.dv_eval.specs.declared.scope.Domain.{Domain}
 use Rattle.dv_eval.specs.declared.scope.Domain.TheVariants as domain
 use Rattle.dv_bag.specs.declared.response.Response.{Response}
 use Rattle.dv_bag.specs.declared.response.Response.TheVariants as response
-use Rattle.dv_accepted.specs.Fitting.{domain_named}
-use Rattle.dv_accepted.specs.Gotos.{gotos_in}
+use Rattle.law_accepted.specs.Fitting.{domain_named}
+use Rattle.law_accepted.specs.Gotos.{gotos_in}
 
 -- the least and the greatest number of 64 bits
 abbrev pub least_number : ℤ

@@ -10,10 +10,10 @@ ghost use Rattle.dv_bag.specs.declared.state.State.{State};
 ghost use Rattle.dv_bag.specs.declared.state.Effect.{Effect};
 ghost use Rattle.dv_eval.specs.Meaning.{effect_of, hold_of};
 ghost use Rattle.dv_eval.specs.Scope.{hold_ticks, phase_name, rule_body, scope_of};
-ghost use Rattle.dv_accepted.specs.Fitting.{fits, in_phase};
+ghost use Rattle.law_accepted.specs.Fitting.{fits, in_phase};
 ghost use Rattle.dv_bound.specs.Response.{IsNotBelow, external_gotos, response_of};
 
-use dv_accepted::laws::{accepted_names_are_known, rules_keep_to_the_ranges};
+use law_accepted::laws::{accepted_names_are_known, rules_keep_to_the_ranges};
 
 /// Where an external rule goes to a phase, from any state that fits and whatever has arrived, the hold that begins
 /// there, if it ends, is not below the model's response. The state in which it begins holds numbers of the language

@@ -2,7 +2,7 @@
 
 ghost use Rattle.std.specs.Prelude.{◌≡◌};
 ghost use Rattle.dv_syntax.specs.Trees.{expression_of};
-ghost use Rattle.dv_accepted.specs.Fitting.{domain_named};
+ghost use Rattle.law_accepted.specs.Fitting.{domain_named};
 ghost use Rattle.dv_bound.specs.Response.{low, low_end};
 
 use dv_eval::{Domain, Scope};

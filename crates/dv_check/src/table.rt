@@ -7,8 +7,8 @@ ghost use Rattle.dv_check.specs.Tables.{no_value, table_value, value_at, with_fi
 use std::alloc::{AllocError, Global};
 use std::collections::HashMap;
 
-/// How many indices the list of a table may have for each value that it is made for.
-const PLACES_FOR_EACH: usize = 4;
+/// How many entries the list of a table may have for each value that it is made for.
+const ENTRIES_FOR_EACH: usize = 4;
 
 /// For each number the value that was added for it first. The names of a text have the numbers from 0 on, so a list of
 /// many names has many small numbers: their values lie in a list by number, and only those of the others in a map.
@@ -21,14 +21,14 @@ pub struct Table<V: Drop> {
 }
 
 impl<V: Drop> Table<V> {
-    /// No values, and made for so many. A number past the indices of the list is looked up in the map, so that few names
+    /// No values, and made for so many. A number past the end of the list is looked up in the map, so that few names
     /// with great numbers make no long list.
     #[tactic(auto, using(crate::proofs::Tables::table_none))]
     pub fn with_room(alloc: Global, count: usize) -> Self
         ensures { table_value result ≡ no_value }
     {
         Table {
-            limit: count.saturating_mul(PLACES_FOR_EACH),
+            limit: count.saturating_mul(ENTRIES_FOR_EACH),
             low: Vec::new(alloc),
             high: HashMap::new(alloc),
         }
@@ -64,7 +64,7 @@ impl<V: Drop> Table<V> {
     }
 }
 
-// The value at an index of a list that has empty indices.
+// The value at an index of a list, in which entries may be empty.
 #[tactic(auto, unfolding(crate::specs::Tables::value_at))]
 fn value_at<V>(entries: &[Option<V>], index: usize) -> Option<&V>
     ensures { option_copied result ≡ value_at entries.now index }
@@ -75,7 +75,7 @@ fn value_at<V>(entries: &[Option<V>], index: usize) -> Option<&V>
     }
 }
 
-// Puts a value at an index, with empty indices before it where the list is too short.
+// Puts a value at an index, with empty entries before it where the list is too short.
 fn put_at<V: Drop>(entries: &mut Vec<Option<V>>, index: usize, value: V) -> Result<(), AllocError>
     ensures { OnOk result ((q : ℕ) → value_at entries.new.items q
         ≡ (if index == q then Some value else value_at entries.old.items q)) }
@@ -85,7 +85,7 @@ fn put_at<V: Drop>(entries: &mut Vec<Option<V>>, index: usize, value: V) -> Resu
     Ok(())
 }
 
-// Adds empty indices to a list until it has an index.
+// Adds empty entries to a list until it reaches an index.
 #[tactic(auto, using(crate::proofs::Tables::value_past))]
 fn lengthen<V: Drop>(entries: &mut Vec<Option<V>>, index: usize) -> Result<(), AllocError>
     ensures values { (q : ℕ) → value_at entries.new.items q ≡ value_at entries.old.items q }

@@ -14,7 +14,7 @@ use Rattle.dv_code.specs.Outcomes.{effect_by, number_by}
 use Rattle.dv_code.specs.Runs.{Ends, GivesEffect, GivesNumber, GivesSent}
 use Rattle.dv_code.specs.Shape.{Fits}
 use Rattle.dv_code.specs.Valid.{EndsWell, Program}
-use Rattle.dv_compiled.specs.Behaviours.{change_of as change_of_effect}
+use Rattle.law_compiled.specs.Behaviours.{change_of as change_of_effect}
 use Rattle.dv_coded.specs.Given.{output_by}
 
 -- where nothing has arrived, no port is flooded

@@ -9,7 +9,7 @@ use Rattle.dv_bag.specs.declared.response.Response.{Response}
 use Rattle.dv_bound.specs.Response.{response_of, ticks_of}
 use Rattle.dv_bound.specs.Short.{IsShort}
 use Rattle.dv_code.specs.Shape.{Fits, Tables}
-use Rattle.dv_compiled.specs.Behaviours.{behaviour_by}
+use Rattle.law_compiled.specs.Behaviours.{behaviour_by}
 use Rattle.dv_conservative.specs.Flat.{Member as Meant}
 use Rattle.dv_eval.specs.Scope.{scope_of}
 use Rattle.dv_flat.specs.Ends.{output_count}
@@ -18,7 +18,7 @@ use Rattle.dv_gen.specs.Resolution.{tables_of}
 use Rattle.dv_share.specs.Indices.{RiseFrom}
 use Rattle.dv_share.specs.Share.{FitsAt, behaviour_of as behaviour_at, member_by, numbers_of}
 use Rattle.dv_share.specs.declared.tables.Member.{Member}
-use Rattle.dv_sound.specs.Members.{member_of, members_from}
+use Rattle.law_sound.specs.Members.{member_of, members_from}
 use Rattle.dv_syntax.specs.Trees.{AtomicTree}
 use Rattle.dv_tree.specs.Instances.{Instance}
 use Rattle.dv_coded.specs.Components.{AreMembersFrom, IsMemberOf, IsModelAt, StandsAmong}

@@ -3,8 +3,8 @@ use Rattle.std.proofs.Common.{◌≡◌, ℕ, List, Option, Result, Ok, Err, ref
 use Rattle.dv_bag.specs.declared.fault.Fault.{Fault}
 use Rattle.dv_bag.specs.declared.state.State.{State}
 use Rattle.dv_code.specs.Shape.{Fits, Tables}
-use Rattle.dv_compiled.specs.Behaviours.{behaviour_by}
-use Rattle.dv_compiled.specs.Networks.{start_by}
+use Rattle.law_compiled.specs.Behaviours.{behaviour_by}
+use Rattle.law_compiled.specs.Networks.{start_by}
 use Rattle.dv_eval.specs.Scope.{scope_of, start_state}
 use Rattle.dv_gen.specs.ModelCode.{phase_codes}
 use Rattle.dv_gen.specs.Resolution.{tables_of}

@@ -4,7 +4,7 @@ use Rattle.dv_bag.specs.declared.response.Response.{Response}
 use Rattle.dv_bound.specs.Response.{response_of, ticks_of}
 use Rattle.dv_bound.specs.Short.{IsShort}
 use Rattle.dv_code.specs.Shape.{Fits}
-use Rattle.dv_compiled.specs.Networks.{start_by}
+use Rattle.law_compiled.specs.Networks.{start_by}
 use Rattle.dv_eval.specs.Scope.{scope_of}
 use Rattle.dv_flat.specs.Ends.{input_count, output_count}
 use Rattle.dv_gen.specs.Resolution.{tables_of}

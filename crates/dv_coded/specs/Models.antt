@@ -2,7 +2,7 @@
 use Rattle.std.specs.Prelude.{◌≡◌}
 use Rattle.dv_bag.specs.declared.state.State.{State}
 use Rattle.dv_code.specs.Shape.{Fits}
-use Rattle.dv_compiled.specs.Behaviours.{behaviour_by}
+use Rattle.law_compiled.specs.Behaviours.{behaviour_by}
 use Rattle.dv_devs.specs.Behaviour.{Behaviour}
 use Rattle.dv_eval.specs.Scope.{scope_of}
 use Rattle.dv_gen.specs.ModelCode.{phase_codes}

@@ -2,7 +2,7 @@
 
 ghost use Rattle.std.specs.Prelude.{◌≡◌, IfOk};
 ghost use Rattle.dv_code.specs.Shape.{Fits};
-ghost use Rattle.dv_compiled.specs.Behaviours.{behaviour_by};
+ghost use Rattle.law_compiled.specs.Behaviours.{behaviour_by};
 ghost use Rattle.dv_eval.specs.Scope.{scope_of};
 ghost use Rattle.dv_gen.specs.ModelCode.{IsCompilable, phase_codes};
 ghost use Rattle.dv_gen.specs.Over.{AreOver};

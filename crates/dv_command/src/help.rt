@@ -95,7 +95,7 @@ const EXPLAIN: WordHelp = WordHelp {
     name: "explain",
     form: Form::Flag,
     is_required: false,
-    help: "shows the line of a refusal, and what it means; behind a run, where its faults came from",
+    help: "shows the line of a refusal, and what it means; after a run, where its faults came from",
 };
 
 const CSV: WordHelp = WordHelp {

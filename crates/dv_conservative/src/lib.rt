@@ -8,7 +8,7 @@
 //!
 //! Nothing here runs: each function stands for a law of the definitions. They hold for behaviours that are any
 //! functions, so texts and rules do not occur. `dv_share`, `dv_proc` and `dv_core` are the code that does so, and
-//! `dv_link`, `dv_board` and `dv_work` on threads; `dv_sound` says that every accepted text is such a job.
+//! `dv_link`, `dv_board` and `dv_work` on threads; `law_sound` says that every accepted text is such a job.
 #![tactic(auto)]
 
 /// What links carry, and the bags that it makes.

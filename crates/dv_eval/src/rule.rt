@@ -6,7 +6,7 @@ ghost use Rattle.dv_bag.specs.Bag.{values_of};
 ghost use Rattle.dv_bag.specs.Collections.{values_in};
 ghost use Rattle.dv_bag.specs.Outcome.{Gives};
 ghost use Rattle.dv_bag.specs.declared.state.Datum.TheVariants as datum;
-ghost use Rattle.dv_eval.specs.Steps.{repeated, step_with, with_value};
+ghost use Rattle.dv_eval.specs.Steps.{repeated, with_value};
 ghost use Rattle.dv_eval.specs.Contexts.{context_of};
 ghost use Rattle.dv_bag.specs.Effects.{with_datum, with_state};
 ghost use Rattle.dv_eval.specs.Meaning.{assignment, assignment_in_range, changing, changing_to, collection_of_name, command_effect};
@@ -24,14 +24,6 @@ use dv_bag::{
 use dv_syntax::laws::trees_keep_blocks;
 use dv_syntax::{Command, Expr, Stmt};
 use std::alloc::{AllocError, Global};
-
-/// A step that takes a value: what it speaks of, by name.
-#[derive(Clone, Copy)]
-pub(crate) enum Step {
-    Assign(u32),
-    Send(u32),
-    Change(Change, u32),
-}
 
 /// The effect of a rule's statements on a state, with what has arrived.
 ///
@@ -100,17 +92,11 @@ pub fn run_statement(
 {
     trees_keep_blocks();
     match statement {
-        Stmt::Assign { variable, value } => run_step(
-            Step::Assign(variable.number),
-            value,
-            context,
-            scope,
-            effect,
-        ),
-        Stmt::Command { command, name, .. } => obey(*command, name.number, scope, effect),
-        Stmt::Send { port, value, .. } => {
-            run_step(Step::Send(port.number), value, context, scope, effect)
+        Stmt::Assign { variable, value } => {
+            assign_value(variable.number, value, context, scope, effect)
         }
+        Stmt::Command { command, name, .. } => obey(*command, name.number, scope, effect),
+        Stmt::Send { port, value, .. } => send_value(port.number, value, context, scope, effect),
         Stmt::If {
             condition,
             then_block,
@@ -158,13 +144,7 @@ pub fn run_statement(
             value,
             collection,
             ..
-        } => run_step(
-            Step::Change(*change, collection.number),
-            value,
-            context,
-            scope,
-            effect,
-        ),
+        } => edit_by_value(*change, collection.number, value, context, scope, effect),
     }
 }
 
@@ -248,25 +228,50 @@ fn value_of(
     eval(expression, &Moment { state, context }, scope)
 }
 
-// First the value, in the state that is there, and then the step.
-fn run_step(
-    step: Step,
+// The value of an expression in the state that is there, assigned to a variable or a flag.
+fn assign_value(
+    name: u32,
     value: &Expr,
     context: &Context,
     scope: &Scope,
     effect: Effect,
 ) -> Result<Effect, RuleError>
     ensures { Gives result (with_value scope.now (context_of context.now)
-        (expression_of value.now) (step_with scope.now step) effect) }
+        (expression_of value.now) (assignment scope.now name) effect) }
 {
     let value = value_of(value, &effect.state, context, scope)?;
-    match step {
-        Step::Assign(variable) => Ok(assign(variable, value, scope, effect)?),
-        Step::Send(port) => send(port, value, scope, effect),
-        Step::Change(change, collection) => {
-            edit(change, collection, number_of(value), scope, effect)
-        }
-    }
+    Ok(assign(name, value, scope, effect)?)
+}
+
+// The value of an expression in the state that is there, sent by an output port.
+fn send_value(
+    name: u32,
+    value: &Expr,
+    context: &Context,
+    scope: &Scope,
+    effect: Effect,
+) -> Result<Effect, RuleError>
+    ensures { Gives result (with_value scope.now (context_of context.now)
+        (expression_of value.now) (sending scope.now name) effect) }
+{
+    let value = value_of(value, &effect.state, context, scope)?;
+    send(name, value, scope, effect)
+}
+
+// The value of an expression in the state that is there, by which a collection of the state is changed.
+fn edit_by_value(
+    change: Change,
+    name: u32,
+    value: &Expr,
+    context: &Context,
+    scope: &Scope,
+    effect: Effect,
+) -> Result<Effect, RuleError>
+    ensures { Gives result (with_value scope.now (context_of context.now)
+        (expression_of value.now) (λ v. changing scope.now change name (number_of v)) effect) }
+{
+    let value = value_of(value, &effect.state, context, scope)?;
+    edit(change, name, number_of(value), scope, effect)
 }
 
 // A value assigned to a variable or a flag.

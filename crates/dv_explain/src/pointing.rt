@@ -3,7 +3,7 @@
 use crate::cause::Cause;
 use crate::explanation::explanation_of;
 use crate::position::last_line;
-use crate::unseen::unseen_name;
+use crate::unseen::visible;
 use std::alloc::{AllocError, Global};
 
 /// The most characters that are shown on each side of the mark.
@@ -130,15 +130,6 @@ fn push_mark(
         text.push(blank(character))?;
     }
     text.push_str("^\n")
-}
-
-/// A character as it is shown: a blank for one that can't be seen, but a tab.
-fn visible(character: char) -> char {
-    if character != '\t' && (character < ' ' || unseen_name(character).is_some()) {
-        ' '
-    } else {
-        character
-    }
 }
 
 /// What is as wide as a character.

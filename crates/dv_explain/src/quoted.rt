@@ -1,19 +1,24 @@
 //! Names as they are shown.
 
+use crate::unseen::visible;
 use std::fmt;
 
 /// The most characters that are shown of a name.
 const SHOWN: usize = 60;
 
-/// A name in backquotes, of which a long rest is left out.
+/// A name in backquotes, of which a long rest is left out. It may be any text that stands where a name is expected.
 #[derive(Clone, Copy)]
 pub struct Quoted<'a>(pub &'a str);
 
 impl fmt::Display for Quoted<'_> {
     fn fmt<W: fmt::Write>(&self, f: &mut fmt::Formatter<W>) -> fmt::Result {
-        match self.0.char_indices().nth(SHOWN) {
-            Some((end, _)) => write!(f, "`{}…`", self.0.get(..end).unwrap_or("")),
-            None => write!(f, "`{}`", self.0),
+        f.write_str("`")?;
+        for character in self.0.chars().take(SHOWN) {
+            write!(f, "{}", visible(character))?;
         }
+        if self.0.chars().nth(SHOWN).is_some() {
+            f.write_str("…")?;
+        }
+        f.write_str("`")
     }
 }

@@ -191,7 +191,7 @@ fn hint_on_sign(expected: &Expectations, symbol: Symbol) -> &'static str {
     } else if symbol == Symbol::Semicolon && expected.have(ASSIGN) {
         "The next phase is chosen by `goto z;`.\n"
     } else if symbol == Symbol::Semicolon && expects_brace(expected) {
-        "No `;` stands behind `}` or behind another `;`.\n"
+        "No `;` stands after `}` or after another `;`.\n"
     } else {
         ""
     }

@@ -1,4 +1,4 @@
-//! Characters that can't be seen, and their names.
+//! Characters that can't be seen, their names, and what is shown instead.
 
 /// The name of a character that can't be seen; `None` for one that can be seen.
 pub fn unseen_name(character: char) -> Option<&'static str> {
@@ -22,5 +22,14 @@ pub fn unseen_name(character: char) -> Option<&'static str> {
         '\u{1}'..='\u{8}' | '\u{e}'..='\u{1f}' | '\u{7f}'..='\u{9f}' => Some("a control character"),
         '\u{2000}'..='\u{200a}' | '\u{205f}' | '\u{1680}' => Some("a space that is not U+0020"),
         _ => None,
+    }
+}
+
+/// A character as it is shown: a blank for one that can't be seen, but a tab. So no text that is shown can steer a terminal.
+pub fn visible(character: char) -> char {
+    if character != '\t' && (character < ' ' || unseen_name(character).is_some()) {
+        ' '
+    } else {
+        character
     }
 }

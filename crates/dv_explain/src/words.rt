@@ -142,7 +142,7 @@ const REFUSALS: &[Explanation] = &[
     },
     Explanation {
         code: "E11",
-        words: "A range is empty, a start value is outside of it, or the hold of the start phase faults. The variable's name is named, or the phase behind `start`. Let the range run from its low end to its high end, with the start value in it; let the hold of the start phase have a value on the start values.",
+        words: "A range is empty, a start value is outside of it, or the hold of the start phase faults. The variable's name is named, or the phase after `start`. Let the range run from its low end to its high end, with the start value in it; let the hold of the start phase have a value on the start values.",
         example: Some(Example {
             model: "atomic A { var v: 3..2 = 2; phases z; start z; hold z: 1; }\nroot A;\n",
             inputs: "",
@@ -197,7 +197,7 @@ const REFUSALS: &[Explanation] = &[
     },
     Explanation {
         code: "E16",
-        words: "The root is atomic. Its name behind `root` is named. Put the model into a coupled one, as `coupled Top { part a: A; }`, and let that be the root.",
+        words: "The root is atomic. Its name after `root` is named. Put the model into a coupled one, as `coupled Top { part a: A; }`, and let that be the root.",
         example: Some(Example {
             model: "atomic A { phases z; start z; hold z: 1; }\nroot A;\n",
             inputs: "",
@@ -219,7 +219,7 @@ const REFUSALS: &[Explanation] = &[
     },
     Explanation {
         code: "E18",
-        words: "Memory ran out. This is no refusal: no place is named, and of a trace or a listing a beginning may have been printed. Run it where there is more memory, or run a smaller model. A run lets go of what it has printed; only `plain` keeps its trace until the end.",
+        words: "Memory ran out. This is no refusal: no place is named, and of a trace or a listing a beginning may have been printed. Run it where there is more memory, or run a smaller model. A run lets go of what it has printed.",
         example: None,
     },
 ];

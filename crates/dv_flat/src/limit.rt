@@ -105,7 +105,7 @@ pub(crate) fn at_port(ways: &[u64], port: usize) -> u64
     }
 }
 
-// More ways at a port; past the last port there is no index for them.
+// More ways at a port; past the last port they count nowhere.
 fn add_at(ways: &mut [u64], port: usize, more: u64)
     ensures { ways.new ≡ more_at port more ways.old }
 {

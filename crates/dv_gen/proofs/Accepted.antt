@@ -17,8 +17,8 @@ use Rattle.dv_check.specs.Rules.{hold_refusals, is_output_rule, known_in, known_
 use Rattle.dv_check.specs.Rules.{phase_refusals, rule_refusals, sent_port_refusals, statements_refusals, ticks_refusals}
 use Rattle.dv_check.specs.Types.{Known, held_name_refusals, is_readable, offset_refusals, type_of_name, value_refusals}
 use Rattle.dv_check.proofs.CheckedFiles.{both_nil, not_false, not_refused}
-use Rattle.dv_accepted.proofs.Fitting.{parts_of_none}
-use Rattle.dv_accepted.proofs.Known.{held_name_known}
+use Rattle.law_accepted.proofs.Fitting.{parts_of_none}
+use Rattle.law_accepted.proofs.Known.{held_name_known}
 
 -- ---- Statements
 

@@ -34,12 +34,12 @@ use Rattle.dv_check.specs.Rules.{atomic_refusals, changed_refusals, command_name
 use Rattle.dv_check.specs.Rules.{statements_refusals}
 use Rattle.dv_check.specs.Types.{Known, offset_refusals, type_of_name, value_refusals}
 use Rattle.dv_check.proofs.CheckedFiles.{not_false, not_refused}
-use Rattle.dv_accepted.specs.Fitting.{context_within, fits, is_of_type, known_within}
-use Rattle.dv_accepted.proofs.Effects.{Fits, fits_kept, run_fits}
-use Rattle.dv_accepted.proofs.Fitting.{HasIndex}
-use Rattle.dv_accepted.proofs.Keeping.{StatementsKeep, repetition_keeps, sending_keeps}
-use Rattle.dv_accepted.proofs.Outcomes.{if_ok_branch}
-use Rattle.dv_accepted.proofs.Typed.{index_typed}
+use Rattle.law_accepted.specs.Fitting.{context_within, fits, is_of_type, known_within}
+use Rattle.law_accepted.proofs.Effects.{Fits, fits_kept, run_fits}
+use Rattle.law_accepted.proofs.Fitting.{HasIndex}
+use Rattle.law_accepted.proofs.Keeping.{StatementsKeep, repetition_keeps, sending_keeps}
+use Rattle.law_accepted.proofs.Outcomes.{if_ok_branch}
+use Rattle.law_accepted.proofs.Typed.{index_typed}
 use Rattle.dv_code.specs.Machine.{first_effect}
 use Rattle.dv_code.specs.Operations.{action_effect, deed_effect, with_made}
 use Rattle.dv_code.specs.Shape.{Shape}

@@ -19,7 +19,7 @@ use Rattle.dv_bag.specs.declared.value.ValueType.TheVariants.{Number, Truth}
 use Rattle.dv_eval.specs.Meaning.{bag_or_none, call_result, is_decided, operator_result, truth_of as truth_in_text}
 use Rattle.dv_check.specs.declared.wanted.Wanted.TheVariants as want
 use Rattle.dv_check.specs.Types.{both_of, suits, type_if, type_of_operator, wanted_by}
-use Rattle.dv_accepted.specs.Fitting.{is_of_type}
+use Rattle.law_accepted.specs.Fitting.{is_of_type}
 use Rattle.dv_code.specs.Operations.{bag_in, binary_value, collection_of, leaf_value, of_numbers, of_truths}
 use Rattle.dv_code.specs.declared.instruction.Source.{Source}
 use Rattle.dv_code.specs.declared.instruction.Source.TheVariants.{Own, Port}

@@ -27,9 +27,9 @@ use Rattle.dv_check.specs.declared.wanted.Wanted.{Wanted}
 use Rattle.dv_check.specs.declared.wanted.Wanted.TheVariants as want
 use Rattle.dv_check.specs.Rules.{atomic_refusals, known_in, known_in_rule}
 use Rattle.dv_check.specs.Types.{Known, is_of, is_readable, suits, type_of_name, wanted_by, type_of as type_in_text}
-use Rattle.dv_accepted.specs.Fitting.{context_within, fits_in, known_within}
-use Rattle.dv_accepted.proofs.Fitting.{both_true}
-use Rattle.dv_accepted.proofs.Typed.{OfType, value_typed}
+use Rattle.law_accepted.specs.Fitting.{context_within, fits_in, known_within}
+use Rattle.law_accepted.proofs.Fitting.{both_true}
+use Rattle.law_accepted.proofs.Typed.{OfType, value_typed}
 use Rattle.dv_code.specs.Operations.{collection_of, leaf_value, of_bag, unary_value}
 use Rattle.dv_code.specs.declared.instruction.Unary.TheVariants as unary
 use Rattle.dv_gen.specs.Resolution.{leaf_of, resolved, source_of}

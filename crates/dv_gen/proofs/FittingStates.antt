@@ -22,13 +22,13 @@ use Rattle.dv_eval.specs.declared.scope.Domain.{Domain}
 use Rattle.dv_eval.specs.declared.scope.Domain.TheVariants as domain
 use Rattle.dv_check.specs.Rules.{atomic_refusals, collection_refusals, declaration_refusals, is_capacity, variable_refusals}
 use Rattle.dv_check.proofs.CheckedFiles.{both_nil, not_false, not_refused}
-use Rattle.dv_accepted.specs.Fitting.{data_fit, datum_fits, fits, fits_in}
-use Rattle.dv_accepted.proofs.Fitting.{both_true, parts_of_none}
+use Rattle.law_accepted.specs.Fitting.{data_fit, datum_fits, fits, fits_in}
+use Rattle.law_accepted.proofs.Fitting.{both_true, parts_of_none}
 use Rattle.dv_code.specs.Shape.{AreSmall, Fits, FitsSlot}
 use Rattle.dv_code.specs.declared.shape.Slot.TheVariants.{Holding}
 use Rattle.dv_gen.specs.Resolution.{slot_of, tables_of}
 use Rattle.dv_eval.specs.declared.scope.VariableRange.{VariableRange}
-use Rattle.dv_accepted.proofs.Known.{fits_at}
+use Rattle.law_accepted.proofs.Known.{fits_at}
 use Rattle.dv_gen.proofs.KnownNames.{HasDomain, StandsForHeld}
 
 -- ---- States and tables

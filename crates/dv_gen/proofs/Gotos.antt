@@ -7,7 +7,7 @@ use Rattle.dv_syntax.specs.declared.tree.Command.{Command}
 use Rattle.dv_syntax.specs.declared.tree.Command.TheVariants as command
 use Rattle.dv_syntax.specs.declared.tree.Name.{Name}
 use Rattle.dv_eval.specs.Scope.{Scope, index_of}
-use Rattle.dv_accepted.specs.Gotos.{goto_of, gotos_in}
+use Rattle.law_accepted.specs.Gotos.{goto_of, gotos_in}
 use Rattle.dv_code.specs.declared.instruction.Instruction.{Instruction}
 use Rattle.dv_code.specs.declared.instruction.Instruction.TheVariants.{Do}
 use Rattle.dv_gen.specs.Resolved.{Expression, Read, Prefix, Infix, And, Or, Statements, Done, Act, Obey, When, If, For, gone, gotos}

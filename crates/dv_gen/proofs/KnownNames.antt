@@ -27,10 +27,10 @@ use Rattle.dv_check.specs.Rules.{known_in_loop, known_in_rule, sent_port_refusal
 use Rattle.dv_check.specs.Types.{Known, is_readable, sees_inputs, suits, suits_port, type_of_name}
 use Rattle.dv_check.proofs.CheckedFiles.{not_false, not_refused}
 use Rattle.dv_check.proofs.Declared.{input_declared, output_declared}
-use Rattle.dv_accepted.specs.Fitting.{domain_named, domain_at as domain_of_index}
-use Rattle.dv_accepted.proofs.Fitting.{HasIndex, among_declared, both_true, index_of_declared}
-use Rattle.dv_accepted.proofs.Inputs.{port_indexless}
-use Rattle.dv_accepted.proofs.Known.{is_of_loop, is_stored, of_no_loop, sort_named, sort_of_domain}
+use Rattle.law_accepted.specs.Fitting.{domain_named, domain_at as domain_of_index}
+use Rattle.law_accepted.proofs.Fitting.{HasIndex, among_declared, both_true, index_of_declared}
+use Rattle.law_accepted.proofs.Inputs.{port_indexless}
+use Rattle.law_accepted.proofs.Known.{is_of_loop, is_stored, of_no_loop, sort_named, sort_of_domain}
 use Rattle.dv_code.specs.declared.instruction.Source.TheVariants.{Own, Port}
 use Rattle.dv_code.specs.declared.instruction.Leaf.TheVariants as leaf
 use Rattle.dv_code.specs.declared.instruction.Action.TheVariants as action

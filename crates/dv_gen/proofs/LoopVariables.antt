@@ -9,7 +9,7 @@ use Rattle.dv_bag.specs.declared.value.Value.TheVariants as value
 use Rattle.dv_eval.specs.Meaning.{loop_value}
 use Rattle.dv_eval.specs.Scope.{scope_of}
 use Rattle.dv_check.specs.Rules.{atomic_refusals, known_in, known_in_rule}
-use Rattle.dv_accepted.specs.Fitting.{known_within, values_within}
+use Rattle.law_accepted.specs.Fitting.{known_within, values_within}
 use Rattle.dv_code.specs.Operations.{item_of}
 use Rattle.dv_gen.specs.Resolution.{loop_of}
 use Rattle.dv_gen.proofs.KnownNames.{Knows, knows_inside, knows_outside}

@@ -5,7 +5,7 @@ use Rattle.dv_syntax.specs.declared.tree.Operator.TheVariants as operator
 use Rattle.dv_bag.specs.declared.value.ValueType.{ValueType}
 use Rattle.dv_bag.specs.declared.value.ValueType.TheVariants.{Number, Truth}
 use Rattle.dv_check.specs.Types.{alike, both_of, is_of, type_if, type_of_operator}
-use Rattle.dv_accepted.proofs.Fitting.{both_true}
+use Rattle.law_accepted.proofs.Fitting.{both_true}
 
 pub type_given : (b : Bool) (given t : ValueType) → type_if b given ≡ Some t → (b ≡ true) × (given ≡ t)
 type_given true given t typed = (refl, cc)

@@ -35,8 +35,8 @@ use Rattle.dv_check.specs.Rules.{statements_refusals}
 use Rattle.dv_check.specs.Types.{Known, both_of, type_if, is_of, is_readable, knows_elapsed, offset_refusals, sees_inputs, suits}
 use Rattle.dv_check.specs.Types.{suits_port, type_of_name, type_of_operator, value_refusals, wanted_by, type_of as type_in_text}
 use Rattle.dv_check.proofs.CheckedFiles.{not_false, not_refused}
-use Rattle.dv_accepted.proofs.Fitting.{both_true}
-use Rattle.dv_accepted.proofs.Typed.{index_typed}
+use Rattle.law_accepted.proofs.Fitting.{both_true}
+use Rattle.law_accepted.proofs.Typed.{index_typed}
 use Rattle.dv_code.specs.Known.{IsBagOf, IsSourceOf, KnowsAction, KnowsDeed, action_type, is_bag_source, operand_type, result_type}
 use Rattle.dv_code.specs.Shape.{Shape, may_change, may_read_elapsed, may_receive, may_send, shape_of}
 use Rattle.dv_code.specs.declared.shape.ProgramSort.{ProgramSort}

@@ -18,7 +18,7 @@ use Rattle.dv_bag.specs.declared.value.ValueType.{ValueType}
 use Rattle.dv_bag.specs.declared.value.ValueType.TheVariants as type
 use Rattle.dv_eval.specs.Scope.{Scope, names_of, index_of, scope_of}
 use Rattle.dv_eval.specs.declared.scope.Domain.{Domain}
-use Rattle.dv_accepted.specs.Gotos.{gotos_in}
+use Rattle.law_accepted.specs.Gotos.{gotos_in}
 use Rattle.dv_eval.specs.declared.scope.Domain.TheVariants as domain
 use Rattle.dv_code.specs.Shape.{Shape, Tables, shape_of}
 use Rattle.dv_code.specs.declared.shape.ProgramSort.{ProgramSort}

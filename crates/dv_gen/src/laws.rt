@@ -13,7 +13,7 @@ ghost use Rattle.dv_eval.specs.Meaning.{effect_of, meaning, moment_in, outermost
 ghost use Rattle.dv_eval.specs.Scope.{scope_of};
 ghost use Rattle.dv_check.specs.Refusals.{AreOfOneText, refusal_of};
 ghost use Rattle.dv_check.specs.Rules.{atomic_refusals};
-ghost use Rattle.dv_accepted.specs.Fitting.{fits};
+ghost use Rattle.law_accepted.specs.Fitting.{fits};
 ghost use Rattle.dv_code.specs.Machine.{begins, first_effect, run};
 ghost use Rattle.dv_code.specs.Shape.{AreSmall, Fits, Shape};
 ghost use Rattle.dv_code.specs.Valid.{IsValid};

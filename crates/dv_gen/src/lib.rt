@@ -5,7 +5,7 @@
 //! that fits, whatever has arrived, it ends with the effect of its rule or with the rule's first fault, and that of a
 //! hold with its ticks or fault. A program has no more instructions than its rule has tokens.
 //!
-//! `dv_coded` makes the programs of a run here, `dv_listing` prints them, and `dv_compiled` takes the theorem up to
+//! `dv_coded` makes the programs of a run here, `dv_listing` prints them, and `law_compiled` takes the theorem up to
 //! whole models. Links are not compiled here: that is `dv_flat`. Nothing is optimised; what is done faster, the
 //! machine does.
 #![tactic(auto)]

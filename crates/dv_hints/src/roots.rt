@@ -154,7 +154,9 @@ fn too_large(alloc: Global, read: &ReadText) -> Result<Cause, AllocError> {
     let summary = if is_without_parts(read) {
         format!(in alloc; "{root} has no part")?
     } else {
-        format!(in alloc; "the tree of {root} has no component, or it is too large")?
+        format!(in alloc;
+            "the tree of {root} has no component, or too many components, instances, levels or links"
+        )?
     };
     Ok(Cause {
         summary,

@@ -302,7 +302,7 @@ fn right_offset(
     let phase = read.name(around.phase.number);
     match what {
         Misplaced::Change(_) => format!(in alloc;
-            "An output rule only sends. What changes stands in other rules, as in `internal {phase}`, which runs behind it at the same time.\n"
+            "An output rule only sends. What changes stands in other rules, as in `internal {phase}`, which runs after it at the same time.\n"
         ),
         Misplaced::Send(port) => format!(in alloc;
             "Sends stand in output rules: `output {phase} {{ send {} 1; }}` runs when the hold of {} ends. To send at once, go to a phase whose hold is 0.\n",

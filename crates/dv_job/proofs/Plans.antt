@@ -3,7 +3,7 @@ use Rattle.std.proofs.Common.{◌≡◌, ℕ, List, map, Option, Ok, ap, ◌∙�
 use Rattle.dv_syntax.specs.Trees.{file_of}
 use Rattle.dv_tree.specs.Tables.{Source}
 use Rattle.dv_flat.specs.Links.{direct_links, entry_links, exit_links, paths_of}
-use Rattle.dv_sound.specs.Members.{direct_of, entry_of, exit_of}
+use Rattle.law_sound.specs.Members.{direct_of, entry_of, exit_of}
 use Rattle.dv_partition.specs.Answers.{partition_answer}
 use Rattle.dv_partition.specs.Groups.{Grouping}
 use Rattle.dv_partition.specs.declared.choice.Partition.{Partition}

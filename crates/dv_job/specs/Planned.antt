@@ -5,8 +5,8 @@ use Rattle.dv_syntax.specs.Trees.{FileTree}
 use Rattle.dv_tree.specs.Instances.{instances}
 use Rattle.dv_flat.specs.Links.{direct_links, entry_links, exit_links, paths_of}
 use Rattle.dv_conservative.specs.Responses.{least_response}
-use Rattle.dv_sound.specs.Jobs.{responses_of}
-use Rattle.dv_sound.specs.Members.{direct_of, entry_of, exit_of}
+use Rattle.law_sound.specs.Jobs.{responses_of}
+use Rattle.law_sound.specs.Members.{direct_of, entry_of, exit_of}
 use Rattle.dv_partition.specs.Answers.{partition_answer}
 use Rattle.dv_partition.specs.Groups.{Grouping, owner_of}
 use Rattle.dv_partition.specs.declared.choice.Partition.{Partition}

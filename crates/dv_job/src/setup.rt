@@ -2,7 +2,7 @@
 
 ghost use Rattle.std.specs.Prelude.{IfOk, IfErr};
 ghost use Rattle.dv_run.specs.Texts.{AreLinksOf};
-ghost use Rattle.dv_sound.specs.Jobs.{AllInputNumbers};
+ghost use Rattle.law_sound.specs.Jobs.{AllInputNumbers};
 ghost use Rattle.dv_syntax.specs.Trees.{file_of};
 ghost use Rattle.dv_job.specs.Job.{IsModelOf};
 ghost use Rattle.dv_job.specs.Running.{IsPlanned};
@@ -13,8 +13,8 @@ use crate::load::{load_groups, load_inputs};
 use dv_bag::Inputs;
 use dv_flat::{LinkLists, flatten};
 use dv_partition::{Groups, Partition};
-use dv_sound::numbers::inputs_are_of_numbers;
 use dv_tree::Tree;
+use law_sound::numbers::inputs_are_of_numbers;
 use std::alloc::Global;
 
 /// What a run is set up from, beside the tree.

@@ -6,7 +6,7 @@
 //! which is proved.
 //!
 //! It is the slow side, beside which tests hold the run in processes; `dv_job` offers it as `run_plain`. The
-//! definitions are the ones that the claims of `dv_compiled`, `dv_sound`, `dv_run` and `dv_job` rest on. The program
+//! definitions are the ones that the claims of `law_compiled`, `law_sound`, `dv_run` and `dv_job` rest on. The program
 //! runs no model with this code.
 #![tactic(auto)]
 

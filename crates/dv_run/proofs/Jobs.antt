@@ -12,8 +12,8 @@ use Rattle.dv_plan.specs.declared.whole.Whole.{Whole}
 use Rattle.dv_proc.specs.Foreseeing.{ticks_of}
 use Rattle.dv_share.specs.Links.{links_of}
 use Rattle.dv_share.specs.Share.{member_by}
-use Rattle.dv_sound.specs.Jobs.{job_of, responses_of}
-use Rattle.dv_sound.specs.Members.{direct_of, entry_of, exit_of, members_from}
+use Rattle.law_sound.specs.Jobs.{job_of, responses_of}
+use Rattle.law_sound.specs.Members.{direct_of, entry_of, exit_of, members_from}
 use Rattle.dv_flat.specs.Links.{direct_links, entry_links, exit_links}
 use Rattle.dv_syntax.specs.Trees.{FileTree}
 use Rattle.dv_tree.specs.Instances.{instances, root_inputs, root_outputs}

@@ -14,7 +14,7 @@ use Rattle.dv_plan.specs.Wholes.{IsMember}
 use Rattle.dv_react.specs.Components.{component_of}
 use Rattle.dv_share.specs.Share.{behaviour_of as behaviour_at, member_by}
 use Rattle.dv_share.specs.declared.tables.Member.{Member}
-use Rattle.dv_sound.specs.Members.{members_from}
+use Rattle.law_sound.specs.Members.{members_from}
 use Rattle.dv_tree.specs.Instances.{Instance}
 
 abbrev pub lie_at : List Lent → List Programs

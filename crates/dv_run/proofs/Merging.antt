@@ -12,7 +12,7 @@ use Rattle.dv_partition.specs.Groups.{owner_of}
 use Rattle.dv_plain.specs.Source.{outside}
 use Rattle.dv_run.specs.Texts.{text_job}
 use Rattle.dv_run.specs.declared.text_job.TextJob.{TextJob}
-use Rattle.dv_sound.specs.Members.{flat_of}
+use Rattle.law_sound.specs.Members.{flat_of}
 use Rattle.dv_syntax.specs.Trees.{FileTree, file_of}
 
 -- what is known of what leaves a flat model

@@ -4,7 +4,7 @@ use Rattle.std.specs.List.{AllByRecursion, slice_get}
 use Rattle.dv_bag.specs.Bag.{is_number}
 use Rattle.dv_bag.specs.declared.inputs.Input.{Input}
 use Rattle.dv_local.specs.declared.share.Share.{Share}
-use Rattle.dv_sound.specs.Jobs.{AllInputNumbers}
+use Rattle.law_sound.specs.Jobs.{AllInputNumbers}
 
 one_more : (xs : List Input) (i : ℕ) (d : Input) → i < length xs → AllInputNumbers (take i xs)
     → IsTrue (is_number (get_or xs i d).value) → AllInputNumbers (take (suc i) xs)

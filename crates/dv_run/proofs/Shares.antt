@@ -26,8 +26,8 @@ use Rattle.dv_proc.specs.Standing.{IsBegun}
 use Rattle.dv_react.specs.Components.{components_of}
 use Rattle.dv_plan.specs.Beginning.{CanBegin}
 use Rattle.dv_share.specs.Share.{starts_of}
-use Rattle.dv_sound.specs.Jobs.{AllInputNumbers, fits_number, job_of}
-use Rattle.dv_sound.proofs.Jobbing.{numbers_at}
+use Rattle.law_sound.specs.Jobs.{AllInputNumbers, fits_number, job_of}
+use Rattle.law_sound.proofs.Jobbing.{numbers_at}
 use Rattle.dv_run.proofs.Numbered.{holds_at, holds_of_all}
 
 -- ---- The laws on which it rests

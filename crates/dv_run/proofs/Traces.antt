@@ -28,7 +28,7 @@ use Rattle.dv_run.specs.declared.text_job.TextJob.{TextJob}
 use Rattle.dv_plan.specs.Runs.{HasRun, HasStepped}
 use Rattle.dv_plan.specs.declared.ran.Committed.{Committed}
 use Rattle.dv_plan.specs.declared.ran.Stepped.{Stepped}
-use Rattle.dv_sound.specs.Members.{flat_of}
+use Rattle.law_sound.specs.Members.{flat_of}
 use Rattle.dv_partition.specs.Groups.{owner_of}
 use Rattle.dv_text.specs.Names.{component_names, root_ports}
 use Rattle.dv_text.specs.Texts.{ComponentNames, instants_text, part_text}

@@ -17,7 +17,7 @@ use Rattle.dv_core.specs.declared.step.Ended.{Ended}
 use Rattle.dv_partition.specs.Groups.{Grouping, owner_of}
 use Rattle.dv_plain.specs.Source.{network_of, outside}
 use Rattle.dv_plan.specs.declared.ran.Stepped.{Stepped}
-use Rattle.dv_sound.specs.Jobs.{job_of}
+use Rattle.law_sound.specs.Jobs.{job_of}
 use Rattle.dv_stream.specs.Clocks.{AreWithin}
 use Rattle.dv_stream.specs.Endings.{by_rounds}
 use Rattle.dv_stream.specs.declared.ran.Ran.{Ran}

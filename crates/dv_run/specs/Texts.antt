@@ -14,8 +14,8 @@ use Rattle.dv_partition.specs.Groups.{owner_of}
 use Rattle.dv_share.specs.Indices.{AreRising}
 use Rattle.dv_share.specs.Share.{member_by, numbers_of}
 use Rattle.dv_share.specs.declared.tables.Member.{Member}
-use Rattle.dv_sound.specs.Jobs.{job_of}
-use Rattle.dv_sound.specs.Members.{members_from}
+use Rattle.law_sound.specs.Jobs.{job_of}
+use Rattle.law_sound.specs.Members.{members_from}
 use Rattle.dv_syntax.specs.Trees.{FileTree, file_of}
 use Rattle.dv_tree.specs.Instances.{Instance, instances}
 use Rattle.dv_run.specs.declared.text_job.TextJob.{TextJob}

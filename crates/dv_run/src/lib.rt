@@ -3,7 +3,7 @@
 //! A `TextJob` has a tree, the inputs, the groups of a partition, the horizon and the microstep limit. `compiled_run`
 //! and `compiled_workers` make the programs of an accepted text, plan it, run the plan, and answer with the `Ran` of
 //! `dv_stream`: the clocks to which the processes came, how the run ended, and what was written. `compiled_steps` makes
-//! a list of steps. This is where the code of processes meets the laws of `dv_sound`: the lines that were written are
+//! a list of steps. This is where the code of processes meets the laws of `law_sound`: the lines that were written are
 //! those of the trace of the text's resultant before the least clock, and the run is told whole exactly where that is
 //! the end.
 //!

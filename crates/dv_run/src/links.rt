@@ -2,7 +2,7 @@
 
 ghost use Rattle.std.specs.Prelude.{◌≡◌, map, IfOk};
 ghost use Rattle.dv_share.specs.Links.{link_of};
-ghost use Rattle.dv_sound.specs.Members.{direct_of, entry_of, exit_of};
+ghost use Rattle.law_sound.specs.Members.{direct_of, entry_of, exit_of};
 
 use dv_flat::{DirectLink, EntryLink, ExitLink, LinkLists};
 use dv_plan::Links;

@@ -4,7 +4,7 @@ ghost use Rattle.std.specs.Prelude.{◌≡◌, IsTrue};
 ghost use Rattle.std.specs.List.{AllByRecursion};
 ghost use Rattle.dv_bag.specs.Bag.{is_number};
 ghost use Rattle.dv_local.specs.declared.share.Share.{Share as ShareOfCode};
-ghost use Rattle.dv_sound.specs.Jobs.{AllInputNumbers};
+ghost use Rattle.law_sound.specs.Jobs.{AllInputNumbers};
 
 use dv_bag::{Input, Inputs};
 use dv_local::Share;

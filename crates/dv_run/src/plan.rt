@@ -5,7 +5,7 @@ ghost use Rattle.dv_check.specs.Refusals.{AreOfOneText, refusal_of};
 ghost use Rattle.dv_coded.specs.Lent.{behaviour_of_lent, lent_takes};
 ghost use Rattle.dv_run.specs.Texts.{AreComponentsOf, AreLinksOf, text_job};
 ghost use Rattle.dv_plan.specs.Beginning.{CanRun};
-ghost use Rattle.dv_sound.specs.Jobs.{AllInputNumbers};
+ghost use Rattle.law_sound.specs.Jobs.{AllInputNumbers};
 ghost use Rattle.dv_syntax.specs.Trees.{file_of};
 
 use crate::numbers::shares_have_numbers;
@@ -17,8 +17,8 @@ use dv_conservative::channels::channels_are_where_links_cross;
 use dv_flat::LinkLists;
 use dv_plan::Plan;
 use dv_share::Member;
-use dv_sound::jobs::texts_are_jobs;
-use dv_sound::shares::processes_of_texts_start_sound;
+use law_sound::jobs::texts_are_jobs;
+use law_sound::shares::processes_of_texts_start_sound;
 use std::alloc::{AllocError, Global};
 
 /// The plan of an accepted text, with which a run can begin. The programs stay where they lie.

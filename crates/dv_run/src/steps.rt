@@ -5,7 +5,7 @@ ghost use Rattle.dv_check.specs.Refusals.{AreOfOneText, refusal_of};
 ghost use Rattle.dv_run.specs.Texts.{AreComponentsOf, AreLinksOf, text_job};
 ghost use Rattle.dv_run.specs.Runs.{IsStepped};
 ghost use Rattle.dv_plan.specs.Runs.{HasStepped};
-ghost use Rattle.dv_sound.specs.Jobs.{AllInputNumbers};
+ghost use Rattle.law_sound.specs.Jobs.{AllInputNumbers};
 ghost use Rattle.dv_syntax.specs.Trees.{file_of};
 
 use crate::plan::plan_of;
@@ -15,7 +15,7 @@ use dv_core::Step;
 use dv_flat::LinkLists;
 use dv_gen::laws::texts_are_compilable;
 use dv_plan::{Stepped, step_plan};
-use dv_sound::jobs::parts_of_the_flat_model_are_those_of_the_text;
+use law_sound::jobs::parts_of_the_flat_model_are_those_of_the_text;
 use std::alloc::{AllocError, Global};
 
 /// Makes the steps of a list with the processes of a text and its inputs, from their start: turns, deliveries and stops, in any

@@ -19,7 +19,7 @@ pub record Arrived : Type 0 where
   pub own : List Counts
   pub parts : List (List Counts)
 
--- more values at a port; past the last port there is no index for them
+-- more values at a port; past the last port they are dropped
 abbrev pub joined_at : ℕ → Counts → List Counts → List Counts
 joined_at port more bags = slice_set bags port (union (bag_at bags port) more)
 

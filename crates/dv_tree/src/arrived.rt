@@ -116,7 +116,7 @@ impl Arrived {
     }
 }
 
-// More values at a port; past the last port there is no index for them.
+// More values at a port; past the last port they are dropped.
 fn join(bags: &mut Bags, port: usize, values: &Bag) -> Result<(), AllocError>
     ensures { OnOk result (bags.new ≡ joined_at port values.now bags.old) }
 {

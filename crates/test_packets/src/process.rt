@@ -29,8 +29,8 @@ use dv_plan::Plan;
 use dv_proc::Process;
 use dv_record::PartRecord;
 use dv_run::{TextJob, plan_text};
-use dv_sound::shares::processes_of_texts_start_sound;
 use dv_tree::Tree;
+use law_sound::shares::processes_of_texts_start_sound;
 use std::alloc::{AllocError, Global};
 
 /// The last tick of the run, and its microstep limit.

@@ -1,5 +1,5 @@
 use Rattle.std.proofs.Common.{ℕ, subst}
-use Rattle.dv_accepted.specs.Fitting.{LeadsToPhase, in_phase}
+use Rattle.law_accepted.specs.Fitting.{LeadsToPhase, in_phase}
 use Rattle.dv_bound.proofs.NotBelow.{hold_after_goto}
 use Rattle.dv_eval.specs.declared.scope.Domain.{Domain}
 use Rattle.dv_eval.specs.Scope.{rule_body, scope_of}

@@ -6,7 +6,7 @@ use Rattle.dv_bag.specs.declared.state.State.{State}
 use Rattle.dv_eval.specs.Meaning.{hold_of}
 use Rattle.dv_eval.specs.Scope.{hold_ticks, scope_of}
 use Rattle.dv_eval.specs.declared.scope.Domain.{Domain}
-use Rattle.dv_accepted.specs.Fitting.{fits}
+use Rattle.law_accepted.specs.Fitting.{fits}
 use Rattle.dv_bound.specs.Response.{IsNotBelow, external_gotos, phase_response, response_of}
 use Rattle.dv_bound.proofs.NotBelow.{IsNoLater, hold_of_goto, no_later_than_gotos}
 use Rattle.dv_bound.proofs.laws.holds_of_gotos_are_not_below_the_response.Goals as goal

@@ -4,7 +4,7 @@ use Rattle.dv_bag.specs.declared.state.Datum.{Datum}
 use Rattle.dv_code.specs.Outcomes.{effect_by}
 use Rattle.dv_code.specs.Shape.{Fits}
 use Rattle.dv_code.specs.Valid.{IsSafe}
-use Rattle.dv_compiled.specs.Behaviours.{change_of as change_of_effect}
+use Rattle.law_compiled.specs.Behaviours.{change_of as change_of_effect}
 use Rattle.dv_devs.specs.Behaviour.{Change}
 use Rattle.dv_coded.proofs.Machines.{change-fails}
 use Rattle.dv_coded.proofs.bench.add.Goals as goal

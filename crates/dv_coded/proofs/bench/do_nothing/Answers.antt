@@ -1,6 +1,6 @@
 use Rattle.std.proofs.Common.{ap}
 use Rattle.dv_code.specs.Valid.{IsSafe}
-use Rattle.dv_compiled.specs.Behaviours.{change_of as change_of_effect}
+use Rattle.law_compiled.specs.Behaviours.{change_of as change_of_effect}
 use Rattle.dv_coded.proofs.bench.do_nothing.Goals as goal
 
 pub returns : goal.returns

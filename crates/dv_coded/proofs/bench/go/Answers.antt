@@ -3,7 +3,7 @@ use Rattle.dv_bag.specs.declared.fault.Fault.{Fault}
 use Rattle.dv_bag.specs.declared.state.Datum.{Datum}
 use Rattle.dv_code.specs.Shape.{Fits}
 use Rattle.dv_code.specs.Valid.{IsSafe}
-use Rattle.dv_compiled.specs.Behaviours.{change_of as change_of_effect}
+use Rattle.law_compiled.specs.Behaviours.{change_of as change_of_effect}
 use Rattle.dv_devs.specs.Behaviour.{Change}
 use Rattle.dv_coded.proofs.bench.go.Goals as goal
 

@@ -147,16 +147,16 @@ pub run_statement-returns-in-Change : goal.run_statement-returns-in-Change
 run_statement-returns-in-Change t c =
     let whole = run-Change c.args.scope.now (context_of c.args.context.now) c.args.statement.now c.in-Change.offset c.args.effect
     c.in-Change.change c.in-Change.value c.in-Change.collection c.in-Change.is in
-    subst (Gives c.run_step-in-Change.result) (sym whole) c.run_step-in-Change.ensures
+    subst (Gives c.edit_by_value.result) (sym whole) c.edit_by_value.ensures
 
 pub run_statement-returns-in-Assign : goal.run_statement-returns-in-Assign
 run_statement-returns-in-Assign t c =
     let whole = run-Assign c.args.scope.now (context_of c.args.context.now) c.args.statement.now c.args.effect c.in-Assign.variable
     c.in-Assign.value c.in-Assign.is in
-    subst (Gives c.run_step.result) (sym whole) c.run_step.ensures
+    subst (Gives c.assign_value.result) (sym whole) c.assign_value.ensures
 
 pub run_statement-returns-in-Send : goal.run_statement-returns-in-Send
 run_statement-returns-in-Send t c =
     let whole = run-Send c.args.scope.now (context_of c.args.context.now) c.args.statement.now c.in-Send.offset c.args.effect c.in-Send.port
     c.in-Send.value c.in-Send.is in
-    subst (Gives c.run_step-in-Send.result) (sym whole) c.run_step-in-Send.ensures
+    subst (Gives c.send_value.result) (sym whole) c.send_value.ensures

@@ -1,6 +1,6 @@
 use Rattle.std.proofs.Common.{ap, ◌∙◌, map}
 use Rattle.std.proofs.lemmas.Result.{err_from_is_err_and}
-use Rattle.dv_sound.specs.Members.{direct_of, entry_of, exit_of}
+use Rattle.law_sound.specs.Members.{direct_of, entry_of, exit_of}
 use Rattle.dv_plan.specs.Texts.{plan_links}
 use Rattle.dv_job.proofs.Plans.{planned}
 use Rattle.dv_job.proofs.Ran.{unplanned}

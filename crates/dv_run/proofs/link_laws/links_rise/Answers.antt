@@ -3,7 +3,7 @@ use Rattle.dv_tree.specs.Instances.{instances, root_inputs, root_outputs}
 use Rattle.dv_conservative.specs.Links.{Link as Meant}
 use Rattle.dv_flat.specs.Ends.{input_ports, output_count}
 use Rattle.dv_flat.specs.Links.{direct_copies, entry_copies, entry_links, exit_copies, root_ports}
-use Rattle.dv_sound.specs.Members.{direct_of, entry_of, exit_of}
+use Rattle.law_sound.specs.Members.{direct_of, entry_of, exit_of}
 use Rattle.dv_share.proofs.Rising.{rises_after}
 use Rattle.dv_run.proofs.Rising.{indices_rise, rise_by_source, rise_with_ends, rises}
 use Rattle.dv_run.proofs.link_laws.links_rise.Goals as goal

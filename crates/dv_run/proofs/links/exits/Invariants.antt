@@ -1,6 +1,6 @@
 use Rattle.std.proofs.Common.{◌≡◌, ◌++◌, drop, map}
 use Rattle.dv_share.specs.Links.{link_of}
-use Rattle.dv_sound.specs.Members.{exit_of}
+use Rattle.law_sound.specs.Members.{exit_of}
 use Rattle.dv_run.proofs.links.exits.Given as goal
 
 abbrev pub invariant-loop-link : goal.invariant-loop-link

@@ -1,5 +1,5 @@
 use Rattle.std.proofs.Common.{take}
-use Rattle.dv_sound.specs.Jobs.{AllInputNumbers}
+use Rattle.law_sound.specs.Jobs.{AllInputNumbers}
 use Rattle.dv_run.proofs.numbers.are_numbers.Given as goal
 
 abbrev pub invariant-loop-input : goal.invariant-loop-input

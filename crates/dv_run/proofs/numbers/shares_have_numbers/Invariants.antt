@@ -1,7 +1,7 @@
 use Rattle.std.proofs.Common.{take}
 use Rattle.std.specs.List.{AllByRecursion}
 use Rattle.dv_local.specs.declared.share.Share.{Share}
-use Rattle.dv_sound.specs.Jobs.{AllInputNumbers}
+use Rattle.law_sound.specs.Jobs.{AllInputNumbers}
 use Rattle.dv_run.proofs.numbers.shares_have_numbers.Given as goal
 
 abbrev pub invariant-loop-share : goal.invariant-loop-share

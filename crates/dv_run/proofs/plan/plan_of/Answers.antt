@@ -5,7 +5,7 @@ use Rattle.dv_coded.specs.declared.lent.Lent.{Lent}
 use Rattle.dv_local.specs.declared.share.Share.{Share}
 use Rattle.dv_syntax.specs.Trees.{file_of}
 use Rattle.dv_tree.specs.Instances.{instances}
-use Rattle.dv_sound.specs.Jobs.{AllInputNumbers, fits_number}
+use Rattle.law_sound.specs.Jobs.{AllInputNumbers, fits_number}
 use Rattle.dv_partition.specs.Groups.{owner_of}
 use Rattle.dv_run.specs.Texts.{text_job}
 use Rattle.dv_plan.proofs.Few.{few_channels}

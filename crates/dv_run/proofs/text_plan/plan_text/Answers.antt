@@ -6,7 +6,7 @@ use Rattle.dv_coded.specs.declared.lent.Lent.{Lent}
 use Rattle.dv_plan.specs.Plans.{IsPlanOf}
 use Rattle.dv_plan.specs.declared.whole.Whole.{Whole}
 use Rattle.dv_share.specs.Links.{RiseByPort, RiseBySource}
-use Rattle.dv_sound.specs.Members.{direct_of, entry_of, exit_of}
+use Rattle.law_sound.specs.Members.{direct_of, entry_of, exit_of}
 use Rattle.dv_syntax.specs.Trees.{file_of}
 use Rattle.dv_tree.specs.Instances.{instances}
 use Rattle.dv_tree.proofs.Limits.{few_components, few_leave, length-leaves}

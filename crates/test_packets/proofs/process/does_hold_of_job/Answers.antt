@@ -1,7 +1,7 @@
 use Rattle.std.proofs.Common.{◌≡◌, ◌<◌, ℕ, subst, sym}
 use Rattle.dv_partition.specs.Groups.{owner_of}
 use Rattle.dv_run.proofs.Shares.{can_begin}
-use Rattle.dv_sound.specs.Jobs.{AllInputNumbers}
+use Rattle.law_sound.specs.Jobs.{AllInputNumbers}
 use Rattle.dv_syntax.specs.Trees.{file_of}
 use Rattle.test_packets.proofs.process.does_hold_of_job.Goals as goal
 

@@ -1,6 +1,6 @@
 use Rattle.std.proofs.Common.{ℕ, subst}
 use Rattle.dv_code.specs.Outcomes.{effect_by}
-use Rattle.dv_compiled.specs.Behaviours.{arriving, change_of as change_of_effect}
+use Rattle.law_compiled.specs.Behaviours.{arriving, change_of as change_of_effect}
 use Rattle.dv_react.specs.Given.{GivesAs, change_to}
 use Rattle.dv_coded.proofs.bench.Bench.change_at_once.Goals as goal
 

@@ -1,7 +1,0 @@
-use Rattle.std.proofs.Common.{refl}
-use Rattle.dv_accepted.proofs.Computing.{computing}
-use Rattle.dv_accepted.proofs.rows.a_link_stands_once.Goals as goal
-
-pub returns : goal.returns
-unfolding computing
-returns c = refl

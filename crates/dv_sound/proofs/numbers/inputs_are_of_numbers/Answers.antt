@@ -1,5 +1,0 @@
-use Rattle.dv_sound.proofs.Readings.{read_numbers}
-use Rattle.dv_sound.proofs.numbers.inputs_are_of_numbers.Goals as goal
-
-pub returns : goal.returns
-returns c = read_numbers

@@ -1,0 +1,7 @@
+use Rattle.std.proofs.Common.{refl}
+use Rattle.law_accepted.proofs.Computing.{computing}
+use Rattle.law_accepted.proofs.rows.a_link_stands_once.Goals as goal
+
+pub returns : goal.returns
+unfolding computing
+returns c = refl
