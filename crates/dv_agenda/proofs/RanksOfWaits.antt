@@ -3,10 +3,10 @@ use Rattle.std.proofs.Common.{◌≡◌, inl, inr, ℕ, ◌+◌, ◌*◌, min, n
 use Rattle.std.proofs.lemmas.Bool.{cases_eq, cases_lt}
 use Rattle.std.proofs.lemmas.Bool.Decides.{nat_tests}
 use Rattle.dv_time.proofs.Ranks.{micro_of-rank, tick_of-rank}
-use Rattle.dv_time.specs.Time.{earliest, IsOfRun, micro_of, rank, tick_of, time_of}
+use Rattle.dv_time.specs.Time.{IsOfRun, earlier, earliest, micro_of, rank, tick_of, time_of}
 use Rattle.dv_time.specs.declared.time.Time.{Time}
 use Rattle.dv_devs.specs.Behaviour.{Component, is_at}
-use Rattle.dv_devs.specs.NextTimes.{earlier, least_next}
+use Rattle.dv_devs.specs.NextTimes.{least_next}
 use Rattle.dv_agenda.specs.NextWaits.{AreNextTimes, IsWaitOfRun, rank_if}
 use Rattle.dv_agenda.specs.Waits.{ends_at, first_of, same_time}
 use Rattle.dv_agenda.proofs.OrderOfWaits.{before, not_after}

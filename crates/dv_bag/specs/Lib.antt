@@ -11,6 +11,7 @@ pub mod Numbers
 pub mod Outcome
 pub mod Part
 pub mod Reading
+pub mod Responses
 pub mod Words
 -- What serves proofs.
 pub mod Bags

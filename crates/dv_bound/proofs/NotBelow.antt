@@ -15,7 +15,8 @@ use Rattle.law_accepted.specs.Fitting.{HoldsDatum, domain_named, in_phase}
 use Rattle.dv_bag.specs.Numbers.{HoldsNumbers}
 use Rattle.law_accepted.specs.Gotos.{gotos_in}
 use Rattle.law_accepted.proofs.Keeping.{all_parts}
-use Rattle.dv_bound.specs.Response.{IsNotBelow, external_gotos, external_gotos_in, phase_response, response_of, sooner}
+use Rattle.dv_time.specs.Time.{earlier}
+use Rattle.dv_bound.specs.Response.{IsNotBelow, external_gotos, external_gotos_in, phase_response, response_of}
 use Rattle.dv_bound.specs.Soonest.{soonest}
 use Rattle.dv_bound.proofs.Names.{name_at}
 use Rattle.dv_bound.proofs.Gotos.{run_leaves}
@@ -27,28 +28,28 @@ use Rattle.dv_bound.proofs.Values.{hold_not_below}
 abbrev pub IsNoLater : Option ℕ → Option ℕ → Type 0
 IsNoLater a b = (ticks : ℕ) → IsNotBelow b ticks → IsNotBelow a ticks
 
-sooner_left : (a b : Option ℕ) → IsNoLater (sooner a b) a
-sooner_left None b ticks h = absurd h
-sooner_left (Some a) None ticks h = h
-sooner_left (Some a) (Some b) ticks h = omega arith
+earlier_left : (a b : Option ℕ) → IsNoLater (earlier a b) a
+earlier_left None b ticks h = absurd h
+earlier_left (Some a) None ticks h = h
+earlier_left (Some a) (Some b) ticks h = omega arith
 
-sooner_right : (a b : Option ℕ) → IsNoLater (sooner a b) b
-sooner_right a None ticks h = absurd h
-sooner_right None (Some b) ticks h = h
-sooner_right (Some a) (Some b) ticks h = omega arith
+earlier_right : (a b : Option ℕ) → IsNoLater (earlier a b) b
+earlier_right a None ticks h = absurd h
+earlier_right None (Some b) ticks h = h
+earlier_right (Some a) (Some b) ticks h = omega arith
 
 module _ (response : ℕ → Option ℕ) where
   soonest_of_start : (start : Option ℕ) (phases : List ℕ) → IsNoLater (soonest response start phases) start
   soonest_of_start start [] = λ ticks h. h
   soonest_of_start start (p ∷ phases) = λ ticks h.
-      soonest_of_start (sooner start (response p)) phases ticks (sooner_left start (response p) ticks h)
+      soonest_of_start (earlier start (response p)) phases ticks (earlier_left start (response p) ticks h)
 
   soonest_of_each : (start : Option ℕ) (phases : List ℕ)
       → AllByRecursion (λ phase. IsNoLater (soonest response start phases) (response phase)) phases
   soonest_of_each start [] = tt
   soonest_of_each start (p ∷ phases) =
-      let now = sooner start (response p) in
-      (λ ticks h. soonest_of_start now phases ticks (sooner_right start (response p) ticks h), soonest_of_each now phases)
+      let now = earlier start (response p) in
+      (λ ticks h. soonest_of_start now phases ticks (earlier_right start (response p) ticks h), soonest_of_each now phases)
 
 -- ---- The gotos of the rule of a phase
 

@@ -4,19 +4,20 @@ use Rattle.std.proofs.Common.{Option, Some, None, refl, arith}
 use Rattle.dv_syntax.specs.declared.tree.Hold.{Hold}
 use Rattle.dv_syntax.specs.Trees.{AtomicTree, Expression, hold_of}
 use Rattle.dv_eval.specs.Scope.{Scope, hold_ticks, scope_of}
-use Rattle.dv_bound.specs.Response.{external_gotos, hold_response, phase_response, response_of, sooner}
+use Rattle.dv_time.specs.Time.{earlier}
+use Rattle.dv_bound.specs.Response.{external_gotos, hold_response, phase_response, response_of}
 use Rattle.dv_bound.specs.Short.{AreShort, IsShort}
 
-sooner_short : (a b : Option ℕ) → IsShort a → IsShort b → IsShort (sooner a b)
-sooner_short None b ha hb = hb
-sooner_short (Some a) None ha hb = ha
-sooner_short (Some a) (Some b) ha hb = omega arith
+earlier_short : (a b : Option ℕ) → IsShort a → IsShort b → IsShort (earlier a b)
+earlier_short None b ha hb = hb
+earlier_short (Some a) None ha hb = ha
+earlier_short (Some a) (Some b) ha hb = omega arith
 
 soonest_short : (response : ℕ → Option ℕ) (start : Option ℕ) (phases : List ℕ) → IsShort start → ((phase : ℕ) → IsShort (response phase))
-    → IsShort (fold sooner start (map response phases))
+    → IsShort (fold earlier start (map response phases))
 soonest_short response start [] h each = h
 soonest_short response start (phase ∷ phases) h each =
-    soonest_short response (sooner start (response phase)) phases (sooner_short start (response phase) h (each phase)) each
+    soonest_short response (earlier start (response phase)) phases (earlier_short start (response phase) h (each phase)) each
 
 chosen_short : (scope : Scope) (b : Bool) (one other : Option Expression) → IsShort (hold_response scope one)
     → IsShort (hold_response scope other) → IsShort (hold_response scope (if b then one else other))

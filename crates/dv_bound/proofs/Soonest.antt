@@ -1,13 +1,13 @@
 -- The soonest response of phases, part of them after part.
 use Rattle.std.proofs.Common.{◌≡◌, ℕ, List, [], ◌∷◌, ◌++◌, Option, refl, sym, ap, ◌∙◌}
-use Rattle.dv_bound.specs.Response.{sooner}
+use Rattle.dv_time.specs.Time.{earlier}
 use Rattle.dv_bound.specs.Soonest.{soonest}
 
 module _ (response : ℕ → Option ℕ) where
   pub soonest-append : (start : Option ℕ) (xs ys : List ℕ)
       → soonest response start (xs ++ ys) ≡ soonest response (soonest response start xs) ys
   soonest-append start [] ys = refl
-  soonest-append start (x ∷ xs) ys = soonest-append (sooner start (response x)) xs ys
+  soonest-append start (x ∷ xs) ys = soonest-append (earlier start (response x)) xs ys
 
   -- after the first phases of a list comes the rest
   pub soonest_rest : (start now : Option ℕ) (xs ys whole : List ℕ) → now ≡ soonest response start xs → whole ≡ xs ++ ys
@@ -20,4 +20,4 @@ pub soonest_alike : (one other : ℕ → Option ℕ) (start : Option ℕ) (phase
     → soonest one start phases ≡ soonest other start phases
 soonest_alike one other start [] alike = refl
 soonest_alike one other start (phase ∷ phases) alike =
-    ap (λ o. soonest one (sooner start o) phases) (alike phase) ∙ soonest_alike one other (sooner start (other phase)) phases alike
+    ap (λ o. soonest one (earlier start o) phases) (alike phase) ∙ soonest_alike one other (earlier start (other phase)) phases alike

@@ -6,7 +6,8 @@ use Rattle.std.proofs.lemmas.Bool.{eqb-true}
 use Rattle.dv_syntax.specs.Trees.{Expression, HoldTree}
 use Rattle.dv_bag.specs.declared.response.Response.{Response}
 use Rattle.dv_eval.specs.Scope.{Scope, hold_ticks}
-use Rattle.dv_bound.specs.Response.{hold_response, ticks_of}
+use Rattle.dv_bag.specs.Responses.{ticks_of}
+use Rattle.dv_bound.specs.Response.{hold_response}
 use Rattle.dv_bound.specs.Soonest.{found_or, with_response}
 use Rattle.dv_bound.proofs.Names.{eqb-swap}
 

@@ -1,8 +1,9 @@
 -- The response of an atomic model, which is its lookahead (Chandy and Misra; Bryant): where an external rule goes to a phase, the
 -- hold that begins there is not below it.
-use Rattle.std.specs.Prelude.{ℕ, ℤ, pos, negsuc, neg_ℤ, ◌+ℤ◌, ◌^◌, ◌-◌, ◌≤◌, int_lt, min, if◌then◌else◌, List, [], fold, map}
+use Rattle.std.specs.Prelude.{ℕ, ℤ, pos, negsuc, neg_ℤ, ◌+ℤ◌, ◌^◌, ◌-◌, ◌≤◌, int_lt, if◌then◌else◌, List, [], fold, map}
 use Rattle.std.specs.Prelude.{Option, Some, None}
 use Rattle.std.specs.List.{flat_map}
+use Rattle.dv_time.specs.Time.{earlier}
 use Rattle.dv_syntax.specs.Trees.{AtomicTree, RuleTree, Expression, Literal, Named, Parens, Binary, Call, Times}
 use Rattle.dv_syntax.specs.declared.tree.Operator.TheVariants as operator
 use Rattle.dv_syntax.specs.declared.tree.BagCall.TheVariants as call
@@ -10,8 +11,6 @@ use Rattle.dv_syntax.specs.declared.tree.RuleSort.TheVariants.{External}
 use Rattle.dv_eval.specs.Scope.{Scope, hold_ticks, same_sort, scope_of}
 use Rattle.dv_eval.specs.declared.scope.Domain.{Domain}
 use Rattle.dv_eval.specs.declared.scope.Domain.TheVariants as domain
-use Rattle.dv_bag.specs.declared.response.Response.{Response}
-use Rattle.dv_bag.specs.declared.response.Response.TheVariants as response
 use Rattle.law_accepted.specs.Fitting.{domain_named}
 use Rattle.law_accepted.specs.Gotos.{gotos_in}
 
@@ -53,12 +52,6 @@ abbrev pub hold_response : Scope → Option Expression → Option ℕ
 hold_response scope None = None
 hold_response scope (Some e) = Some (ticks_in (low scope e))
 
--- the sooner of two; none is never
-abbrev pub sooner : Option ℕ → Option ℕ → Option ℕ
-sooner None b = b
-sooner (Some a) None = Some a
-sooner (Some a) (Some b) = Some (min a b)
-
 -- the names of the phases to which external rules go, in the order of the text
 abbrev pub external_gotos_in : RuleTree → List ℕ
 external_gotos_in r = if same_sort r.sort External then gotos_in r.body else []
@@ -72,12 +65,7 @@ phase_response m phase = hold_response (scope_of m) (hold_ticks phase m.holds)
 
 -- The response of a model: the soonest of the holds to which its external rules go; where they go nowhere, never.
 abbrev pub response_of : AtomicTree → Option ℕ
-response_of m = fold sooner None (map (phase_response m) (external_gotos m))
-
--- a response of the code, as ticks
-abbrev pub ticks_of : Response → Option ℕ
-ticks_of (response.Ticks n) = Some n
-ticks_of response.Never = None
+response_of m = fold earlier None (map (phase_response m) (external_gotos m))
 
 -- a hold of so many ticks is not below a response
 abbrev pub IsNotBelow : Option ℕ → ℕ → Type 0

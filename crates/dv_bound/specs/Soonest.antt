@@ -2,11 +2,12 @@
 use Rattle.std.specs.Prelude.{ℕ, nat_eq, if◌then◌else◌, is_some, List, [], ◌∷◌, ◌++◌, fold, map, Option, Some, None}
 use Rattle.std.specs.Map.{lookup}
 use Rattle.dv_bag.specs.declared.response.Response.{Response}
-use Rattle.dv_bound.specs.Response.{sooner, ticks_of}
+use Rattle.dv_bag.specs.Responses.{ticks_of}
+use Rattle.dv_time.specs.Time.{earlier}
 
 -- the soonest of a response and those of phases
 abbrev pub soonest : (ℕ → Option ℕ) → Option ℕ → List ℕ → Option ℕ
-soonest response start phases = fold sooner start (map response phases)
+soonest response start phases = fold earlier start (map response phases)
 
 -- what was found, and else another
 abbrev pub found_or : Option Response → Option ℕ → Option ℕ

@@ -6,7 +6,8 @@ ghost use Rattle.dv_syntax.specs.Trees.{Statements, atomic_of, hold_of, rule_of,
 ghost use Rattle.dv_syntax.specs.Trees.{ticks_of as expression_of_ticks};
 ghost use Rattle.dv_eval.specs.Scope.{hold_ticks, scope_of};
 ghost use Rattle.law_accepted.specs.Gotos.{gotos_in};
-ghost use Rattle.dv_bound.specs.Response.{external_gotos_in, hold_response, response_of, sooner, ticks_in, ticks_of};
+ghost use Rattle.dv_bag.specs.Responses.{ticks_of};
+ghost use Rattle.dv_bound.specs.Response.{external_gotos_in, hold_response, response_of, ticks_in};
 ghost use Rattle.dv_bound.specs.Short.{AreShort, IsShort};
 ghost use Rattle.dv_bound.specs.Soonest.{response_in, soonest, with_response};
 
@@ -137,7 +138,7 @@ fn soonest_of_statement(responses: &PhaseResponses, statement: &Stmt, so_far: Re
             command: Command::Goto,
             name,
             ..
-        } => sooner(so_far, response_of_phase(responses, name.number)),
+        } => so_far.sooner(response_of_phase(responses, name.number)),
         Stmt::If { then_block, .. } => {
             soonest_of_statements(responses, &then_block.statements, so_far)
         }
@@ -165,13 +166,4 @@ fn response_of_phase(responses: &PhaseResponses, phase: u32) -> Response
     ensures { ticks_of result ≡ response_in responses.now.entries phase }
 {
     responses.get(&phase).copied().unwrap_or(Response::Never)
-}
-
-fn sooner(a: Response, b: Response) -> Response
-    ensures { ticks_of result ≡ sooner (ticks_of a) (ticks_of b) }
-{
-    match (a, b) {
-        (Response::Never, other) | (other, Response::Never) => other,
-        (Response::Ticks(a), Response::Ticks(b)) => Response::Ticks(a.min(b)),
-    }
 }

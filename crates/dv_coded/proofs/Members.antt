@@ -6,7 +6,8 @@ use Rattle.std.proofs.lemmas.List.Elements.{All-cons, All-nil}
 use Rattle.std.proofs.lemmas.List.{map_push, take_more}
 use Rattle.std.proofs.lemmas.Option.{get_or_from_slice_get, slice_get_within}
 use Rattle.dv_bag.specs.declared.response.Response.{Response}
-use Rattle.dv_bound.specs.Response.{response_of, ticks_of}
+use Rattle.dv_bag.specs.Responses.{ticks_of}
+use Rattle.dv_bound.specs.Response.{response_of}
 use Rattle.dv_bound.specs.Short.{IsShort}
 use Rattle.dv_code.specs.Shape.{Fits, Tables}
 use Rattle.law_compiled.specs.Behaviours.{behaviour_by}
@@ -119,8 +120,8 @@ stands limit all answers n x m member model = record {
     takes : FitsAt TakesState all x.model x.start.state
     takes a there =
         let same : model.programs ≡ a = cc in
-        let tables : tables_of (scope_of m) ≡ a.code.value.tables.value =
-        sym model.of_model.tables ∙ ap (λ (p : Programs). p.code.value.tables.value) same in
+        let tables : tables_of (scope_of m) ≡ a.code.tables.value =
+        sym model.of_model.tables ∙ ap (λ (p : Programs). p.code.tables.value) same in
         subst (λ (t : Tables). Fits t.slots x.start.state.variables) tables member.fits
 
 pub all-stand : (limit : ℕ) (all : List Programs) (answers : List Response) (n : ℕ) (xs : List Member) (is : List Instance) →

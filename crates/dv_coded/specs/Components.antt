@@ -1,7 +1,8 @@
 -- The components of a text, each with the index of its model among those that have programs.
 use Rattle.std.specs.Prelude.{◌≡◌, ℕ, suc, ◌+◌, ◌<◌, List, [], ◌∷◌, ◌++◌, length, slice_get, Option, Some, None}
 use Rattle.dv_bag.specs.declared.response.Response.{Response}
-use Rattle.dv_bound.specs.Response.{response_of, ticks_of}
+use Rattle.dv_bag.specs.Responses.{ticks_of}
+use Rattle.dv_bound.specs.Response.{response_of}
 use Rattle.dv_bound.specs.Short.{IsShort}
 use Rattle.dv_code.specs.Shape.{Fits}
 use Rattle.law_compiled.specs.Networks.{start_by}

@@ -12,13 +12,13 @@ use Rattle.dv_coded.specs.declared.programs.Programs.{Programs}
 
 -- their behaviour
 abbrev pub behaviour_of : Programs → Behaviour
-behaviour_of p = behaviour_by p.code.value.phases.items
+behaviour_of p = behaviour_by p.code.phases.items
 
 -- the states that they take
 abbrev pub TakesState : Programs → State → Type 0
-TakesState p s = Fits p.code.value.tables.value.slots s.variables
+TakesState p s = Fits p.code.tables.value.slots s.variables
 
 -- they are those of an atomic model
 pub record AreProgramsOf (m : AtomicTree) (p : Programs) : Type 0 where
-  pub tables : p.code.value.tables.value ≡ tables_of (scope_of m)
-  pub phases : p.code.value.phases.items ≡ phase_codes m
+  pub tables : p.code.tables.value ≡ tables_of (scope_of m)
+  pub phases : p.code.phases.items ≡ phase_codes m

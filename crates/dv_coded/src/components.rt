@@ -3,7 +3,8 @@
 ghost use Rattle.std.specs.List.{All};
 ghost use Rattle.std.specs.Prelude.{◌≡◌, ◌<◌, ◌≤◌, ◌^◌, [], Some, length, map, slice_get, IfOk};
 ghost use Rattle.dv_bag.specs.declared.response.Response.{Response};
-ghost use Rattle.dv_bound.specs.Response.{response_of, ticks_of};
+ghost use Rattle.dv_bag.specs.Responses.{ticks_of};
+ghost use Rattle.dv_bound.specs.Response.{response_of};
 ghost use Rattle.dv_bound.specs.Short.{IsShort};
 ghost use Rattle.dv_code.specs.Shape.{Fits};
 ghost use Rattle.law_compiled.specs.Networks.{start_by};
@@ -22,6 +23,7 @@ ghost use Rattle.dv_coded.specs.Components.{AreMembersFrom, AreModelsOf, IsMembe
 ghost use Rattle.dv_coded.specs.Models.{AreProgramsOf, behaviour_of};
 
 use crate::bench::Bench;
+use crate::lent::Lent;
 use crate::models::Models;
 use crate::programs::Programs;
 use dv_bag::Response;
@@ -167,7 +169,8 @@ fn start(
     start_states_fit();
     states_fit_the_tables();
     let state = start_state(bench.alloc, model, scope)?;
-    Running::start(programs, bench, limit, state)
+    let lent = Lent::of(programs);
+    Running::start(&lent, bench, limit, state)
 }
 
 // The response of each component, from those of the models.

@@ -18,7 +18,7 @@ pub struct Lent<'m> {
     pub programs: &'m Programs,
     // Where the programs lie by phase, so that a turn finds them at once.
     phases: &'m [PhaseCode],
-    ghost same: { phases.now ≡ programs.now.code.value.phases.items },
+    ghost same: { phases.now ≡ programs.now.code.phases.items },
 }
 
 impl<'m> Lent<'m> {
@@ -37,9 +37,9 @@ impl<'m> Lent<'m> {
     #[inline]
     fn phase(&self, state: &State) -> Option<&'m PhaseCode>
         ensures phase { option_copied result
-            ≡ slice_get self.now.programs.now.code.value.phases.items state.now.phase }
+            ≡ slice_get self.now.programs.now.code.phases.items state.now.phase }
         ensures over { IfSome result
-            (λ c. IsOver self.now.programs.now.code.value.tables.value c.now) }
+            (λ c. IsOver self.now.programs.now.code.tables.value c.now) }
     {
         self.phases.get(state.phase as usize)
     }

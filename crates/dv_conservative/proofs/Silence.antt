@@ -7,7 +7,7 @@ use Rattle.std.proofs.Math.Nat.{div-mul-le_self, mul-le-mul_left}
 use Rattle.std.proofs.lemmas.Bool.{cases_lt}
 use Rattle.std.proofs.lemmas.Nat.{le-div}
 use Rattle.std.proofs.lemmas.Bool.Decides.{nat_tests}
-use Rattle.dv_time.specs.Time.{tick_of, time_of}
+use Rattle.dv_time.specs.Time.{earlier, tick_of, time_of}
 use Rattle.dv_bag.specs.Bag.{Counts}
 use Rattle.dv_bag.specs.declared.fault.Fault.{Fault}
 use Rattle.dv_bag.specs.declared.fault.Fault.TheVariants.{Flood}
@@ -20,7 +20,7 @@ use Rattle.dv_devs.specs.Fits.{AllFit, AllKeep, Keeps}
 use Rattle.dv_devs.specs.Idle.{no_values, none_imminent, nothing_sent}
 use Rattle.dv_devs.specs.Inputs.{ArriveAlike}
 use Rattle.dv_devs.specs.Network.{Network, reactions, components_at, emissions, emissions_at, first_bags, other_bags}
-use Rattle.dv_devs.specs.NextTimes.{AllFrom, IsFrom, IsReady, earlier, least_next}
+use Rattle.dv_devs.specs.NextTimes.{AllFrom, IsFrom, IsReady, least_next}
 use Rattle.dv_devs.proofs.Fits.{first_comes, others_come}
 use Rattle.dv_devs.proofs.Idle.{idle_components, none_send}
 use Rattle.dv_devs.proofs.NextTimes.{least_next_at, matched_at, rank_at_time, time_of_run}

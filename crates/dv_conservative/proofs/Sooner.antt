@@ -3,7 +3,7 @@ use Rattle.std.proofs.Common.{ℕ, Bool, Option, Some, None, Result, Ok, Err, If
 use Rattle.dv_bag.specs.declared.fault.Fault.{Fault}
 use Rattle.dv_bag.specs.declared.state.State.{State}
 use Rattle.dv_devs.specs.Behaviour.{Change}
-use Rattle.dv_devs.specs.NextTimes.{earlier}
+use Rattle.dv_time.specs.Time.{earlier}
 use Rattle.dv_conservative.specs.Flat.{Member}
 use Rattle.dv_conservative.specs.Promise.{IsAtLeast}
 use Rattle.dv_conservative.specs.Sound.{IsSound}

@@ -1,6 +1,6 @@
 -- The response of a process: the least of its components'.
 use Rattle.std.specs.Prelude.{ℕ, ◌+◌, nat_eq, if◌then◌else◌, List, [], ◌∷◌, Option, None}
-use Rattle.dv_devs.specs.NextTimes.{earlier}
+use Rattle.dv_time.specs.Time.{earlier}
 
 -- by the responses of the components from a number on, and who has which component
 abbrev pub least_response : (ℕ → ℕ) → ℕ → ℕ → List (Option ℕ) → Option ℕ

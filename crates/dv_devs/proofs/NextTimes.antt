@@ -3,7 +3,7 @@ use Rattle.std.proofs.Common.{◌≡◌, ◌⊎◌, inl, inr, ℕ, suc, zero, �
 use Rattle.std.proofs.Common.{List, [], ◌∷◌, length, map, Option, Some, None, Result, Ok, Err, IfOk, IsTrue, refl, sym, ap}
 use Rattle.std.proofs.Common.{subst, ◌∙◌, arith}
 use Rattle.std.proofs.lemmas.Bool.Decides.{nat_tests}
-use Rattle.dv_time.specs.Time.{IsOfRun, after, rank, tick_of, time_of}
+use Rattle.dv_time.specs.Time.{IsOfRun, after, earlier, rank, tick_of, time_of}
 use Rattle.dv_time.specs.declared.time.Time.{Time}
 use Rattle.dv_bag.specs.Bag.{Counts}
 use Rattle.dv_devs.specs.Behaviour.{Behaviour, Component, Reaction, Change, Hold, Continues, Begins, state_with_hold}
@@ -11,7 +11,7 @@ use Rattle.dv_devs.specs.Behaviour.{internal_of, external_of, confluent_of, tran
 use Rattle.dv_devs.specs.Behaviour.{bags_or_flood, reaction_with, reaction_after_output, reaction, emission, is_imminent, is_at}
 use Rattle.dv_devs.specs.Behaviour.{all_empty, kind_of}
 use Rattle.dv_devs.specs.Network.{Network, reactions, components_after, components_at, emissions, first_bags, other_bags}
-use Rattle.dv_devs.specs.NextTimes.{AllFrom, AllQuietForGood, IsFrom, IsReady, earlier, least_next}
+use Rattle.dv_devs.specs.NextTimes.{AllFrom, AllQuietForGood, IsFrom, IsReady, least_next}
 use Rattle.dv_bag.specs.declared.fault.Fault.{Fault}
 use Rattle.dv_bag.specs.declared.state.State.{State}
 use Rattle.dv_bag.specs.declared.entry.Kind.{Kind}

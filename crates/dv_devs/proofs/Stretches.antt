@@ -14,7 +14,7 @@ use Rattle.dv_devs.specs.Network.{Network, reactions, components_after, componen
 use Rattle.dv_devs.specs.Network.{emissions, first_bags, other_bags, entry_of, entries_by}
 use Rattle.dv_bag.specs.Part.{PartOf, nothing, joined}
 use Rattle.dv_devs.specs.Idle.{none_imminent, IsIdle, BringsNothing, LeavesOnlyWhatIsSent}
-use Rattle.dv_devs.specs.NextTimes.{AllFrom, AllQuietForGood, HasEntry, IsFrom, IsReady, earlier, least_next}
+use Rattle.dv_devs.specs.NextTimes.{AllFrom, AllQuietForGood, HasEntry, IsFrom, IsReady, least_next}
 use Rattle.dv_bag.specs.declared.entry.Entry.{Entry}
 use Rattle.dv_bag.specs.declared.entry.What.{What}
 use Rattle.dv_bag.specs.declared.entry.What.TheVariants as what
@@ -23,7 +23,7 @@ use Rattle.dv_bag.specs.declared.fault.Fault.{Fault}
 use Rattle.dv_bag.specs.declared.state.State.{State}
 use Rattle.dv_devs.proofs.Idle.{idle_components, idle_part}
 use Rattle.dv_devs.proofs.NextTimes.{matched_at, quiet_at}
-use Rattle.dv_time.specs.Time.{time_of, tick_of}
+use Rattle.dv_time.specs.Time.{earlier, tick_of, time_of}
 
 pub append_nothing : (p : PartOf) → joined p nothing ≡ p
 append_nothing p =

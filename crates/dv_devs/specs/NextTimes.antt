@@ -1,16 +1,10 @@
 -- The components' next times, and what is so of them in every run.
-use Rattle.std.specs.Prelude.{◌≡◌, ℕ, ◌≤◌, min, IsTrue, List, [], ◌∷◌, length, Option, Some, None}
+use Rattle.std.specs.Prelude.{◌≡◌, ℕ, ◌≤◌, IsTrue, List, [], ◌∷◌, length, Option, Some, None}
 use Rattle.std.specs.List.{Contains}
-use Rattle.dv_time.specs.Time.{time_of}
+use Rattle.dv_time.specs.Time.{earlier, time_of}
 use Rattle.dv_devs.specs.Behaviour.{Component}
 use Rattle.dv_devs.specs.Network.{Network}
 use Rattle.dv_bag.specs.declared.entry.Entry.{Entry}
-
--- the lesser of two times, of which each may be never
-abbrev pub earlier : Option ℕ → Option ℕ → Option ℕ
-earlier None b = b
-earlier (Some x) None = Some x
-earlier (Some x) (Some y) = Some (min x y)
 
 -- the least of the components' next times: the time advance of the network
 abbrev pub least_next : List Component → Option ℕ

@@ -63,91 +63,154 @@ pub fn symbol_at(read: &Tokens, number: usize) -> Option<Symbol> {
     }
 }
 
-/// A sentence on a word of another language.
+/// A sentence on a word of another language; empty where nothing is told of it.
 fn foreign_word(word: &str) -> &'static str {
-    let told = word_of_declarations(word);
-    if told.is_empty() {
-        word_of_rules(word)
-    } else {
-        told
+    match FOREIGN.iter().find(|foreign| foreign.words.contains(&word)) {
+        Some(foreign) => foreign.told,
+        None => "",
     }
 }
 
-/// A sentence on a word with which other languages declare something.
-fn word_of_declarations(word: &str) -> &'static str {
-    match word {
-        "const" | "constant" | "let" | "define" | "param" | "parameter" => {
-            "There are no constants: write the number itself, or `var n: 5..5 = 5;`, which keeps its value.\n"
-        }
-        "import" | "include" | "use" | "require" | "using" => {
-            "There is no import: all models stand in one text, before `root`.\n"
-        }
-        "int" | "integer" | "bool" | "boolean" | "float" | "double" | "real" | "string" => {
-            "A number is declared as `var n: 0..9 = 0;` with its range, and a truth value as `flag f = false;`.\n"
-        }
-        "array" | "list" | "vector" => {
-            "Several numbers are held by a bag, as `bag b 10;` for at most 10 of them.\n"
-        }
-        "state" | "states" | "phase" => {
-            "The phases are declared by `phases z, w;`, and what else belongs to a state by `var`, `flag` and `bag`.\n"
-        }
-        "input" | "inputs" | "inport" | "outputs" | "outport" | "port" | "ports" => {
-            "Ports are declared by `in x;` and `out y;`.\n"
-        }
-        "model" | "component" | "components" | "module" | "class" | "submodel" => {
-            "A model is `atomic NAME { .. }` or `coupled NAME { .. }`, and stands in a coupled one as `part a: NAME;`.\n"
-        }
-        "connect" | "couple" | "coupling" | "couplings" | "wire" | "links" => {
-            "Ports are coupled by `link a.y -> b.x;`.\n"
-        }
-        "ta"
-        | "lambda"
-        | "delta"
-        | "delta_int"
-        | "delta_ext"
-        | "delta_con"
-        | "deltint"
-        | "deltext" => {
-            "The time advance is `hold`, the output function `output`, and the transitions are `internal`, `external` and `confluent`.\n"
-        }
-        "function" | "fn" | "func" | "def" | "proc" | "procedure" => {
-            "There are no functions: each rule has its statements itself.\n"
-        }
-        _ => "",
-    }
+/// Words of other languages that mean the same, and the sentence on them.
+struct Foreign {
+    words: &'static [&'static str],
+    told: &'static str,
 }
 
-/// A sentence on a word of statements or expressions of other languages.
-fn word_of_rules(word: &str) -> &'static str {
-    match word {
-        "while" | "loop" | "repeat" | "until" | "do" => {
-            "There is no `while`: a rule runs once, `for v in b { .. }` goes through a bag, and a phase with `hold z: 0;` comes again at once.\n"
-        }
-        "switch" | "case" | "match" | "when" | "select" => {
-            "There is no `switch`: write `if n = 1 { .. } else { .. }`.\n"
-        }
-        "elif" | "elsif" | "elseif" =>
-            "Another condition stands in a block: `else { if .. { .. } }`.\n",
-        "then" | "begin" | "end" | "endif" => "A block stands in braces: `if n > 0 { .. }`.\n",
-        "return" | "break" | "continue" | "exit" => {
-            "A rule runs to its end: what is left out stands in an `if`.\n"
-        }
-        "print" | "println" | "printf" | "log" | "echo" | "write" => {
-            "A rule prints nothing: the trace shows each transition with all variables.\n"
-        }
-        "max" | "min" => {
-            "There is no `max` or `min` of two numbers: write `if a > b { .. } else { .. }`. Those of a bag are `most(b)` and `least(b)`.\n"
-        }
-        "abs" => "There is no `abs`: write `if n < 0 { n := -n; }`.\n",
-        "random" | "rand" | "randint" | "uniform" | "normal" | "exponential" => {
-            "There are no random numbers: let them come as inputs, or compute them, as `n := (n * 75 + 74) % 65537;`.\n"
-        }
-        "mod" | "rem" | "modulo" => "The remainder of a division is written `%`.\n",
-        "div" => "`/` divides, and leaves the remainder out.\n",
-        "xor" => "Of two truth values exactly one is true where `f != g`.\n",
-        "set" | "emit" => "A value is assigned by `n := 1;` and sent by `send y 1;`.\n",
-        "len" | "length" | "count" => "How many numbers a bag has is `size(b)`.\n",
-        "next" | "transition" => "The next phase is chosen by `goto z;`.\n",
-        _ => "",
-    }
-}
+/// Words with which other languages declare something, and then those of their statements and expressions.
+const FOREIGN: &[Foreign] = &[
+    Foreign {
+        words: &["const", "constant", "let", "define", "param", "parameter"],
+        told: "There are no constants: write the number itself, or `var n: 5..5 = 5;`, which keeps its value.\n",
+    },
+    Foreign {
+        words: &["import", "include", "use", "require", "using"],
+        told: "There is no import: all models stand in one text, before `root`.\n",
+    },
+    Foreign {
+        words: &[
+            "int", "integer", "bool", "boolean", "float", "double", "real", "string",
+        ],
+        told: "A number is declared as `var n: 0..9 = 0;` with its range, and a truth value as `flag f = false;`.\n",
+    },
+    Foreign {
+        words: &["array", "list", "vector"],
+        told: "Several numbers are held by a bag, as `bag b 10;` for at most 10 of them.\n",
+    },
+    Foreign {
+        words: &["state", "states", "phase"],
+        told: "The phases are declared by `phases z, w;`, and what else belongs to a state by `var`, `flag` and `bag`.\n",
+    },
+    Foreign {
+        words: &[
+            "input", "inputs", "inport", "outputs", "outport", "port", "ports",
+        ],
+        told: "Ports are declared by `in x;` and `out y;`.\n",
+    },
+    Foreign {
+        words: &[
+            "model",
+            "component",
+            "components",
+            "module",
+            "class",
+            "submodel",
+        ],
+        told: "A model is `atomic NAME { .. }` or `coupled NAME { .. }`, and stands in a coupled one as `part a: NAME;`.\n",
+    },
+    Foreign {
+        words: &[
+            "connect",
+            "couple",
+            "coupling",
+            "couplings",
+            "wire",
+            "links",
+        ],
+        told: "Ports are coupled by `link a.y -> b.x;`.\n",
+    },
+    Foreign {
+        words: &[
+            "ta",
+            "lambda",
+            "delta",
+            "delta_int",
+            "delta_ext",
+            "delta_con",
+            "deltint",
+            "deltext",
+        ],
+        told: "The time advance is `hold`, the output function `output`, and the transitions are `internal`, `external` and `confluent`.\n",
+    },
+    Foreign {
+        words: &["function", "fn", "func", "def", "proc", "procedure"],
+        told: "There are no functions: each rule has its statements itself.\n",
+    },
+    Foreign {
+        words: &["while", "loop", "repeat", "until", "do"],
+        told: "There is no `while`: a rule runs once, `for v in b { .. }` goes through a bag, and a phase with `hold z: 0;` comes again at once.\n",
+    },
+    Foreign {
+        words: &["switch", "case", "match", "when", "select"],
+        told: "There is no `switch`: write `if n = 1 { .. } else { .. }`.\n",
+    },
+    Foreign {
+        words: &["elif", "elsif", "elseif"],
+        told: "Another condition stands in a block: `else { if .. { .. } }`.\n",
+    },
+    Foreign {
+        words: &["then", "begin", "end", "endif"],
+        told: "A block stands in braces: `if n > 0 { .. }`.\n",
+    },
+    Foreign {
+        words: &["return", "break", "continue", "exit"],
+        told: "A rule runs to its end: what is left out stands in an `if`.\n",
+    },
+    Foreign {
+        words: &["print", "println", "printf", "log", "echo", "write"],
+        told: "A rule prints nothing: the trace shows each transition with all variables.\n",
+    },
+    Foreign {
+        words: &["max", "min"],
+        told: "There is no `max` or `min` of two numbers: write `if a > b { .. } else { .. }`. Those of a bag are `most(b)` and `least(b)`.\n",
+    },
+    Foreign {
+        words: &["abs"],
+        told: "There is no `abs`: write `if n < 0 { n := -n; }`.\n",
+    },
+    Foreign {
+        words: &[
+            "random",
+            "rand",
+            "randint",
+            "uniform",
+            "normal",
+            "exponential",
+        ],
+        told: "There are no random numbers: let them come as inputs, or compute them, as `n := (n * 75 + 74) % 65537;`.\n",
+    },
+    Foreign {
+        words: &["mod", "rem", "modulo"],
+        told: "The remainder of a division is written `%`.\n",
+    },
+    Foreign {
+        words: &["div"],
+        told: "`/` divides, and leaves the remainder out.\n",
+    },
+    Foreign {
+        words: &["xor"],
+        told: "Of two truth values exactly one is true where `f != g`.\n",
+    },
+    Foreign {
+        words: &["set", "emit"],
+        told: "A value is assigned by `n := 1;` and sent by `send y 1;`.\n",
+    },
+    Foreign {
+        words: &["len", "length", "count"],
+        told: "How many numbers a bag has is `size(b)`.\n",
+    },
+    Foreign {
+        words: &["next", "transition"],
+        told: "The next phase is chosen by `goto z;`.\n",
+    },
+];

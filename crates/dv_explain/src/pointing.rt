@@ -39,9 +39,32 @@ pub fn pointed(
     code: &str,
     cause: &Cause,
 ) -> Result<String, AllocError> {
-    let (before, after) = spot.text.split_at(spot.offset.min(spot.text.len()));
-    let before = str::from_utf8(last_line(before)).unwrap_or("");
-    let after = str::from_utf8(first_line(after)).unwrap_or("");
+    let (before, after) = spot.around();
+    let mut told = heading(alloc, spot, before, code, cause)?;
+    push_marked(&mut told, spot.line, before, after)?;
+    told.push_str(cause.sentences.as_str())?;
+    Ok(told)
+}
+
+impl<'a> Spot<'a> {
+    /// What stands on the line before the offset, and what stands there from it on.
+    fn around(&self) -> (&'a str, &'a str) {
+        let (before, after) = self.text.split_at(self.offset.min(self.text.len()));
+        (
+            str::from_utf8(last_line(before)).unwrap_or(""),
+            str::from_utf8(first_line(after)).unwrap_or(""),
+        )
+    }
+}
+
+/// The first line that is told: the file, the line and the column, the code and the case.
+fn heading(
+    alloc: Global,
+    spot: &Spot<'_>,
+    before: &str,
+    code: &str,
+    cause: &Cause,
+) -> Result<String, AllocError> {
     let column = before.chars().count().saturating_add(1);
     let summary = if cause.summary.is_empty() {
         first_sentence(code)
@@ -49,11 +72,7 @@ pub fn pointed(
         cause.summary.as_str()
     };
     let (name, line) = (spot.name, spot.line);
-    let mut told = format!(in alloc; "{name}:{line}:{column}: {code}: {summary}\n")?;
-    let number = format!(in alloc; "{line} ")?;
-    push_marked(&mut told, number.as_str(), before, after)?;
-    told.push_str(cause.sentences.as_str())?;
-    Ok(told)
+    format!(in alloc; "{name}:{line}:{column}: {code}: {summary}\n")
 }
 
 /// The first sentence of what a code means, without its full stop.
@@ -77,17 +96,15 @@ fn first_line(bytes: &[u8]) -> &[u8] {
 }
 
 /// The line with its number and the mark below it, out of what stands on the line before the offset and from it on.
-fn push_marked(
-    text: &mut String,
-    number: &str,
-    before: &str,
-    after: &str,
-) -> Result<(), AllocError> {
+fn push_marked(text: &mut String, line: u64, before: &str, after: &str) -> Result<(), AllocError> {
     let hidden = before.chars().count().saturating_sub(SHOWN);
-    write!(text, "{number}| ")?;
+    let told = text.len();
+    write!(text, "{line} ")?;
+    let margin = text.len().saturating_sub(told);
+    text.push_str("| ")?;
     push_before(text, before, hidden)?;
     push_after(text, after)?;
-    push_mark(text, number.len(), before, hidden)
+    push_mark(text, margin, before, hidden)
 }
 
 /// What is shown of a line before the offset, behind so many hidden characters.

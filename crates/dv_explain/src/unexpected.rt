@@ -7,7 +7,7 @@ use crate::grammar::{ASSIGN, COLON, DOT, EQUAL, Part, SEMICOLON, is_comparison};
 use crate::met::met_at;
 use crate::quoted::Quoted;
 use crate::slips::{begins_line, slip_at};
-use dv_lex::{Keyword, Symbol, TokenKind, Tokens, tokens};
+use dv_lex::{Keyword, Symbol, Token, TokenKind, Tokens, tokens};
 use std::alloc::{AllocError, Global};
 
 /// The first token with which no text goes on: what may stand at its offset and what was met, and what seems to be meant,
@@ -17,24 +17,41 @@ use std::alloc::{AllocError, Global};
 ///
 /// No memory for the tokens or the words.
 pub fn unexpected_at(alloc: Global, text: &[u8], offset: usize) -> Result<Cause, AllocError> {
-    let Ok(read) = tokens(alloc, text) else {
-        return Cause::of(alloc, "", "");
-    };
+    match tokens(alloc, text) {
+        Ok(read) => cause_at(alloc, text, offset, &read),
+        Err(_) => Cause::of(alloc, "", ""),
+    }
+}
+
+/// What is told of the first token at an offset or behind it.
+fn cause_at(alloc: Global, text: &[u8], offset: usize, read: &Tokens) -> Result<Cause, AllocError> {
     let expected = expectations_at(alloc, &read.tokens, offset)?;
-    let number = read
-        .tokens
+    let number = tokens_before(&read.tokens, offset);
+    Ok(Cause {
+        summary: summary_at(alloc, text, read, number, &expected)?,
+        sentences: meant_at(alloc, text, offset, read, number, &expected)?,
+    })
+}
+
+/// How many tokens begin before an offset.
+fn tokens_before(tokens: &[Token], offset: usize) -> usize {
+    tokens
         .iter()
         .take_while(|token| (token.offset as usize) < offset)
-        .count();
-    let met = met_at(
-        str::from_utf8(text).unwrap_or(""),
-        &read.names,
-        read.tokens.get(number),
-    );
-    Ok(Cause {
-        summary: format!(in alloc; "expected {expected}, but met {met}")?,
-        sentences: meant_at(alloc, text, offset, &read, number, &expected)?,
-    })
+        .count()
+}
+
+/// What may stand where the token with so many before it stands, and what was met.
+fn summary_at(
+    alloc: Global,
+    text: &[u8],
+    read: &Tokens,
+    number: usize,
+    expected: &Expectations,
+) -> Result<String, AllocError> {
+    let text = str::from_utf8(text).unwrap_or("");
+    let met = met_at(text, &read.names, read.tokens.get(number));
+    format!(in alloc; "expected {expected}, but met {met}")
 }
 
 /// A sentence on what seems to be meant, with a line feed, or nothing. So many tokens come before the one that is met.

@@ -17,6 +17,11 @@ driver_of (Some count) (Some most) = None
 abbrev pub IsDriver : Option Driver → Type 0
 IsDriver driver = IsSome driver × ((count : ℕ) → driver ≡ Some (Workers count) → (1 ≤ count) × (count ≤ most_workers))
 
+-- how many workers run the processes: one where they run in rounds
+abbrev pub workers_in : Driver → ℕ
+workers_in (Rounds most) = 1
+workers_in (Workers count) = count
+
 -- ---- The whole
 
 pub record AreInRange (h l : ℕ) (d : Option Driver) (c : ℕ) : Type 0 where

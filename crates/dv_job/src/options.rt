@@ -1,7 +1,7 @@
 //! The options of a run.
 
-ghost use Rattle.std.specs.Prelude.{◌≡◌, ◌≤◌, ◌↔◌, IsSome, IfSome, Some};
-ghost use Rattle.dv_job.specs.Ranges.{AreInRange, IsDriver, driver_of};
+ghost use Rattle.std.specs.Prelude.{◌≡◌, ◌<◌, ◌≤◌, ◌↔◌, IsSome, IfSome, Some};
+ghost use Rattle.dv_job.specs.Ranges.{AreInRange, IsDriver, driver_of, workers_in};
 
 use dv_time::{GREATEST_LIMIT, GREATEST_TICK};
 
@@ -64,6 +64,17 @@ impl Options {
             driver,
             capacity,
         })
+    }
+
+    /// How many workers run the processes where threads are there for them, 1 to 256: one where rounds are asked for.
+    pub fn workers(&self) -> u32
+        ensures count { result ≡ workers_in self.now.driver }
+        ensures some { 0 < result }
+    {
+        match self.driver {
+            Driver::Rounds(_) => 1,
+            Driver::Workers(count) => count,
+        }
     }
 }
 

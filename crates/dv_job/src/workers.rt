@@ -1,8 +1,6 @@
 //! The run of a model in processes on threads.
 
-ghost use Rattle.std.specs.Prelude.{◌<◌, ◌≡◌, ◌≢◌, ◌↔◌, IfOk, IfErr, IsSome};
-ghost use Rattle.dv_syntax.specs.Trees.{file_of};
-ghost use Rattle.dv_job.specs.Job.{IsModelOf};
+ghost use Rattle.std.specs.Prelude.{◌≡◌, ◌≢◌, ◌↔◌, IfOk, IfErr, IsSome};
 ghost use Rattle.dv_job.specs.Running.{EndsByWorkers, LeftByRun};
 ghost use Rattle.dv_job.specs.declared.ended.JobEnded.TheVariants.{Partial};
 ghost use Rattle.dv_stream.specs.declared.ran.Why.TheVariants.{Stopped};
@@ -16,39 +14,33 @@ use dv_bag::Bags;
 use dv_partition::Partition;
 use dv_run::{RanByWorkers, TextJob, Unwatched, Watch, WorkerBounds, compiled_workers};
 use dv_text::laws::a_trace_is_its_pieces;
-use dv_tree::Tree;
-use std::alloc::Global;
 use std::io::Write;
 use std::sync::Wait;
 use std::thread::Threads;
 
-/// Runs the model of a text in processes, as `run_bytes` does, by so many workers on threads of their own: process p is run by
-/// worker p mod `workers`. Whatever the timing of the threads, a run that is reported whole prints exactly the trace to the
-/// horizon; its lines are written as they become known. Rounds that the options have are not read, and nobody stops the run.
+/// Runs the model of a text in processes, as `run_bytes` does, by the workers of the options on threads of their own: process p is
+/// run by worker p mod their number. Options that ask for rounds have one worker, and their bound is not read. Whatever the timing of
+/// the threads, a run that is reported whole prints exactly the trace to the horizon; its lines are written as they become known.
+/// Nobody stops the run.
 ///
 /// # Errors
 ///
 /// As of `run_bytes`. All threads have ended then.
-pub fn run_by_workers<R: Threads + Wait + Sync, W: Write>(
+pub fn run_by_workers<R: AllocGlobal + Threads + Wait + Sync, W: Write>(
     rt: &R,
-    alloc: Global,
     model: &[u8],
     inputs: &[u8],
     groups: Partition<'_>,
     options: &Options,
-    workers: u32,
     writer: &mut W,
 ) -> Result<JobEnded, JobError>
-    requires workers { 0 < workers }
     ensures ended { IfOk result (λ ended. EndsByWorkers ended model.now inputs.now groups.entry
         options.now (W.contents writer.old) (W.contents writer.new)) }
     ensures unstopped { IfOk result (λ ended. ended ≢ Partial Stopped) }
     ensures error { IfErr result (λ e. LeftByRun e model.now inputs.now groups.entry
         options.now (W.contents writer.old) (W.contents writer.new)) }
 {
-    let watched = run_watched(
-        rt, alloc, model, inputs, groups, options, workers, &Unwatched, writer,
-    )?;
+    let watched = run_watched(rt, model, inputs, groups, options, &Unwatched, writer)?;
     Ok(watched.ended)
 }
 
@@ -59,46 +51,15 @@ pub fn run_by_workers<R: Threads + Wait + Sync, W: Write>(
 /// # Errors
 ///
 /// As of `run_by_workers`.
-pub fn run_watched<R: Threads + Wait + Sync, G: Watch, W: Write>(
+pub fn run_watched<R: AllocGlobal + Threads + Wait + Sync, G: Watch, W: Write>(
     rt: &R,
-    alloc: Global,
     model: &[u8],
     inputs: &[u8],
     groups: Partition<'_>,
     options: &Options,
-    workers: u32,
     watch: &G,
     writer: &mut W,
 ) -> Result<EndedByWorkers<G::Cause>, JobError>
-    requires workers { 0 < workers }
-    ensures ended { IfOk result (λ w. EndsByWorkers w.ended model.now inputs.now groups.entry
-        options.now (W.contents writer.old) (W.contents writer.new)) }
-    ensures cause { IfOk result (λ w. IsSome w.cause ↔ (w.ended ≡ Partial Stopped)) }
-    ensures error { IfErr result (λ e. LeftByRun e model.now inputs.now groups.entry
-        options.now (W.contents writer.old) (W.contents writer.new)) }
-{
-    let checked = load(alloc, model)?;
-    let tree = accept(alloc, model, &checked)?;
-    work_tree(
-        rt, alloc, &tree, model, inputs, groups, options, workers, watch, writer,
-    )
-}
-
-// Runs the model of an accepted text, by its tree.
-fn work_tree<R: Threads + Wait + Sync, G: Watch, W: Write>(
-    rt: &R,
-    alloc: Global,
-    tree: &Tree,
-    model: &[u8],
-    inputs: &[u8],
-    groups: Partition<'_>,
-    options: &Options,
-    workers: u32,
-    watch: &G,
-    writer: &mut W,
-) -> Result<EndedByWorkers<G::Cause>, JobError>
-    requires accepted { IsModelOf model.now tree.now.names (file_of tree.now.file) }
-    requires workers { 0 < workers }
     ensures ended { IfOk result (λ w. EndsByWorkers w.ended model.now inputs.now groups.entry
         options.now (W.contents writer.old) (W.contents writer.new)) }
     ensures cause { IfOk result (λ w. IsSome w.cause ↔ (w.ended ≡ Partial Stopped)) }
@@ -107,20 +68,23 @@ fn work_tree<R: Threads + Wait + Sync, G: Watch, W: Write>(
 {
     // The lines of a trace are continued by those of what is since.
     a_trace_is_its_pieces::<Bags>();
+    let alloc = rt.alloc();
+    let checked = load(alloc, model)?;
+    let tree = accept(alloc, model, &checked)?;
     let Setup {
         links,
         groups,
         inputs,
-    } = set_up(alloc, tree, model, inputs, groups, options.limit)?;
+    } = set_up(alloc, &tree, model, inputs, groups, options.limit)?;
     let job = TextJob {
-        tree,
+        tree: &tree,
         inputs: &inputs,
         groups: &groups,
         horizon: options.horizon,
         limit: options.limit,
     };
     let bounds = WorkerBounds {
-        workers: workers as usize,
+        workers: options.workers() as usize,
         capacity: options.capacity as usize,
     };
     let RanByWorkers { ran, cause } = compiled_workers(

@@ -2,10 +2,11 @@
 
 ghost use Rattle.std.specs.Prelude.{◌≡◌, ◌≤◌, ◌<◌, ◌++◌, ◌∷◌, [], if◌then◌else◌, true, length, map, replicate, IfSome};
 ghost use Rattle.std.specs.Fmt.{signed_decimal};
+ghost use Rattle.std.specs.List.{All};
 ghost use Rattle.dv_bag.specs.Bag.{values_of};
 ghost use Rattle.dv_bag.specs.Collections.{values_in};
 ghost use Rattle.dv_bag.specs.Reading.{datum_of};
-ghost use Rattle.dv_bag.specs.Sent.{AreWithin, RiseFrom, pairs_at};
+ghost use Rattle.dv_bag.specs.Sent.{RiseFrom, pairs_at};
 ghost use Rattle.dv_text.specs.Texts.{datum_text, numbers_text, values_text};
 ghost use Rattle.dv_text.specs.Writing.{values_from};
 ghost use Rattle.dv_lines.specs.Rooms.{IsPut};
@@ -148,16 +149,10 @@ pub fn put_variables(
 
 // The values that went to the port of the first of these.
 #[inline(always)]
-fn put_sendings(
-    to: &mut [u8],
-    at: usize,
-    sendings: &[Sending],
-    port: usize,
-    ports: usize,
-) -> Option<usize>
+fn put_sendings(to: &mut [u8], at: usize, sendings: &[Sending], port: usize) -> Option<usize>
     requires at { at ≤ length to.old }
     requires order { RiseFrom port sendings.now }
-    requires within { AreWithin ports sendings.now }
+    requires some { All (λ s. 0 < s.copies) sendings.now }
     ensures size { length to.new ≡ length to.old }
     ensures text { IfSome result (λ end. IsPut to.old at to.new end
         (values_from true (values_of (pairs_at port sendings.now)))) }
@@ -209,7 +204,6 @@ pub fn put_sent(
                 *word,
                 &sendings[index..],
                 sending.port,
-                sent.len(),
             )?;
             is_first = false;
             next = sending.port + 1;
@@ -228,11 +222,10 @@ fn put_port(
     word: Word,
     sendings: &[Sending],
     port: usize,
-    ports: usize,
 ) -> Option<usize>
     requires at { at ≤ length to.old }
     requires order { RiseFrom port sendings.now }
-    requires within { AreWithin ports sendings.now }
+    requires some { All (λ s. 0 < s.copies) sendings.now }
     ensures size { length to.new ≡ length to.old }
     ensures text { IfSome result (λ end. IsPut to.old at to.new end
         ((if is_first then 32 ∷ 62 ∷ [] else []) ++ (word_text bytes.now word
@@ -244,5 +237,5 @@ fn put_port(
         at = put_byte(to, at, b'>')?;
     }
     let at = put_word(to, at, bytes, word)?;
-    put_sendings(to, at, sendings, port, ports)
+    put_sendings(to, at, sendings, port)
 }

@@ -11,7 +11,8 @@ use Rattle.dv_conservative.specs.Links.{Link}
 use Rattle.dv_conservative.specs.Process.{Outgoing, Share as ShareAsMeant}
 use Rattle.dv_share.specs.Share.{AreTables, flat_by}
 use Rattle.dv_share.specs.declared.tables.Member.{Member}
-use Rattle.dv_proc.specs.Foreseeing.{IsOfHold, ticks_of}
+use Rattle.dv_bag.specs.Responses.{ticks_of}
+use Rattle.dv_proc.specs.Foreseeing.{IsOfHold}
 use Rattle.dv_local.specs.declared.share.Share.{Share}
 use Rattle.dv_local.specs.declared.share.Way.{Way}
 

@@ -20,10 +20,10 @@ use crate::former::Former;
 use crate::moment::Moment;
 use crate::undo::time_of;
 use dv_agenda::Agenda;
-use dv_bag::{Bags, State};
+use dv_bag::State;
 use dv_react::{Atomic, Happened};
 use dv_record::Record;
-use dv_share::{Indexed, Received, next_cursor, sent_at};
+use dv_share::{Received, Visit, next_cursor, sent_at};
 use std::alloc::AllocError;
 
 /// Lets the components that emitted or receive something react, one after the other. Each is visited once. What happens is
@@ -77,19 +77,17 @@ pub(crate) fn commit<A: Atomic, R: Record>(
     for order in 0..received.len() {
         let arrival = received.at(order);
         cursor = next_cursor(moment.emitted, cursor, arrival.index);
-        commit_one(
-            moment, work, arrival, cursor, components, agenda, to, before,
-        )?;
+        let visit = Visit { arrival, cursor };
+        commit_one(moment, work, &visit, components, agenda, to, before)?;
     }
     Ok(())
 }
 
-// The component at the index of an arrival is visited and reacts, by the cursor of the first emission that does not stand before it.
+// The component at the index of an arrival is visited and reacts.
 fn commit_one<A: Atomic, R: Record>(
     moment: &Moment<'_, A>,
     work: &mut A::Work,
-    arrival: &Indexed<Bags>,
-    cursor: usize,
+    visit: &Visit<'_>,
     components: &mut Components,
     agenda: &mut Agenda,
     to: &mut R,
@@ -99,17 +97,17 @@ fn commit_one<A: Atomic, R: Record>(
     requires limit { moment.now.instant.now.limit ≡ moment.now.tables.now.limit }
     requires components { AreComponents A.fits moment.now.tables.now components.old.running }
     requires comes { (a : A) (bags : List Counts) → A.comes a bags }
-    requires index { arrival.now.index < length moment.now.tables.now.members.items }
+    requires index { visit.now.arrival.now.index < length moment.now.tables.now.members.items }
     requires rise { AreRising (indices_of moment.now.emitted.now) }
-    requires next { IsNext arrival.now.index moment.now.emitted.now cursor }
+    requires next { IsNext visit.now.arrival.now.index moment.now.emitted.now visit.now.cursor }
     requires given { IsGivenAt A.behaviour moment.now.tables.now (rank_of moment.now.instant.now)
-        moment.now.emitted.now components.old.running arrival.now.index }
+        moment.now.emitted.now components.old.running visit.now.arrival.now.index }
     requires agenda { agenda.old ≡ waits_of components.old.running }
     requires within { AreWithin (length components.old.running) before.old }
     requires nothing { moment.now.nothing.now ≡ [] }
     requires is_open { IsOpenAt moment.now.instant.now.time (R.told to.old) }
     ensures reacted { OnOk result (HasReacted A.behaviour A.fits moment.now.tables.now
-        (rank_of moment.now.instant.now) moment.now.emitted.now arrival.now
+        (rank_of moment.now.instant.now) moment.now.emitted.now visit.now.arrival.now
         components.old.running
         components.new.running (R.told to.old).entries (R.told to.new).entries) }
     ensures components { AreComponents A.fits moment.now.tables.now components.new.running }
@@ -127,22 +125,22 @@ fn commit_one<A: Atomic, R: Record>(
     ensures settled { R.settled to.new ≡ R.settled to.old }
     ensures handed { R.handed to.new ≡ R.handed to.old }
 {
-    components.visit(arrival.index);
-    let Some(happened) = components.react(moment, work, cursor, arrival, before)? else {
+    components.visit(visit.arrival.index);
+    let Some(happened) = components.react(moment, work, visit, before)? else {
         return Ok(());
     };
     let component = components.visited();
     let time = time_of(component.wait);
     match tell(
         moment,
-        arrival.index,
-        cursor,
+        visit.arrival.index,
+        visit.cursor,
         happened,
         &component.state,
         to,
     ) {
         Ok(()) => {
-            agenda.set(arrival.index, time);
+            agenda.set(visit.arrival.index, time);
             Ok(())
         }
         Err(error) => {

@@ -11,9 +11,8 @@ ghost use Rattle.dv_local.specs.Reacting.{ReactsAt};
 
 use crate::former::Former;
 use crate::moment::Moment;
-use dv_bag::Bags;
 use dv_react::{Atomic, Happened, Running};
-use dv_share::Indexed;
+use dv_share::Visit;
 use std::alloc::AllocError;
 use std::marker::Model;
 use std::mem;
@@ -95,8 +94,8 @@ impl Components {
         mem::replace(&mut self.running[self.visited as usize], component)
     }
 
-    /// Lets the component that was visited last react in place, by the cursor of the first emission that does not stand before it.
-    /// Tells what happened, if anything did: then what it was is the last of the former ones.
+    /// Lets the component that was visited last react in place. Tells what happened, if anything did: then what it was is the last of
+    /// the former ones.
     ///
     /// # Errors
     ///
@@ -105,22 +104,21 @@ impl Components {
         &mut self,
         moment: &Moment<'_, A>,
         work: &mut A::Work,
-        cursor: usize,
-        arrival: &Indexed<Bags>,
+        visit: &Visit<'_>,
         former: &mut Former,
     ) -> Result<Option<Happened>, AllocError>
         requires tables { AreTables A.fits moment.now.tables.now }
         requires limit { moment.now.instant.now.limit ≡ moment.now.tables.now.limit }
         requires components { AreComponents A.fits moment.now.tables.now self.old.running }
         requires comes { (a : A) (bags : List Counts) → A.comes a bags }
-        requires visited { self.old.visited ≡ arrival.now.index }
-        requires index { arrival.now.index < length moment.now.tables.now.members.items }
+        requires visited { self.old.visited ≡ visit.now.arrival.now.index }
+        requires index { visit.now.arrival.now.index < length moment.now.tables.now.members.items }
         requires rise { AreRising (indices_of moment.now.emitted.now) }
-        requires next { IsNext arrival.now.index moment.now.emitted.now cursor }
+        requires next { IsNext visit.now.arrival.now.index moment.now.emitted.now visit.now.cursor }
         requires given { IsGivenAt A.behaviour moment.now.tables.now (rank_of moment.now.instant.now)
-            moment.now.emitted.now self.old.running arrival.now.index }
+            moment.now.emitted.now self.old.running visit.now.arrival.now.index }
         ensures reacted { IfOk result (ReactsAt A.behaviour A.fits moment.now.tables.now
-            (rank_of moment.now.instant.now) moment.now.emitted.now arrival.now
+            (rank_of moment.now.instant.now) moment.now.emitted.now visit.now.arrival.now
             self.old.running self.new.running former.old former.new) }
         ensures same { OnErr result (self.new.running ≡ self.old.running) }
         ensures none { OnErr result (former.new ≡ former.old) }
@@ -129,7 +127,7 @@ impl Components {
         ensures settled { self.new.settled ≡ self.old.settled }
     {
         let component = &mut self.running[self.visited as usize];
-        former.react(moment, work, component, cursor, arrival)
+        former.react(moment, work, component, visit)
     }
 
     /// How many visits there were.

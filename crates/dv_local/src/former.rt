@@ -12,9 +12,9 @@ ghost use Rattle.dv_share.specs.declared.tables.Member.{Member};
 ghost use Rattle.dv_local.specs.Reacting.{former_of};
 
 use crate::moment::Moment;
-use dv_bag::{Bags, State, Variables};
+use dv_bag::{State, Variables};
 use dv_react::{Atomic, Happened, Running, Wait};
-use dv_share::{Indexed, react};
+use dv_share::{Indexed, Visit, react};
 use std::alloc::{AllocError, Global};
 use std::marker::Model;
 
@@ -70,8 +70,7 @@ impl Former {
         last
     }
 
-    /// Lets a component react in place, by the cursor of the first emission that does not stand before it. Tells what happened, if
-    /// anything did: then what the component was is the last one.
+    /// Lets a component react in place. Tells what happened, if anything did: then what the component was is the last one.
     ///
     /// # Errors
     ///
@@ -81,33 +80,32 @@ impl Former {
         moment: &Moment<'_, A>,
         work: &mut A::Work,
         component: &mut Running,
-        cursor: usize,
-        arrival: &Indexed<Bags>,
+        visit: &Visit<'_>,
     ) -> Result<Option<Happened>, AllocError>
         requires tables { AreTables A.fits moment.now.tables.now }
         requires limit { moment.now.instant.now.limit ≡ moment.now.tables.now.limit }
-        requires index { arrival.now.index < length moment.now.tables.now.members.items }
+        requires index { visit.now.arrival.now.index < length moment.now.tables.now.members.items }
         requires wait { IsWaitOfRun moment.now.tables.now.limit component.old.wait }
         requires fits { (m : Member)
-            → slice_get moment.now.tables.now.members.items arrival.now.index ≡ Some m
+            → slice_get moment.now.tables.now.members.items visit.now.arrival.now.index ≡ Some m
             → FitsAt A.fits moment.now.tables.now.models.items m.model component.old.state }
         requires comes { (a : A) (bags : List Counts) → A.comes a bags }
         requires rise { AreRising (indices_of moment.now.emitted.now) }
-        requires next { IsNext arrival.now.index moment.now.emitted.now cursor }
+        requires next { IsNext visit.now.arrival.now.index moment.now.emitted.now visit.now.cursor }
         requires given { (m : Member)
-            → slice_get moment.now.tables.now.members.items arrival.now.index ≡ Some m
-            → given_at arrival.now.index moment.now.emitted.now
+            → slice_get moment.now.tables.now.members.items visit.now.arrival.now.index ≡ Some m
+            → given_at visit.now.arrival.now.index moment.now.emitted.now
             ≡ emission (behaviour_in A.behaviour moment.now.tables.now m)
             (rank_of moment.now.instant.now)
             (component_of moment.now.tables.now.limit component.old) }
         ensures outcome { IfOk result (λ happened. IsOutcomeOf A.behaviour A.fits
             moment.now.tables.now (rank_of moment.now.instant.now) component.old
-            (given_at arrival.now.index moment.now.emitted.now) arrival.now
+            (given_at visit.now.arrival.now.index moment.now.emitted.now) visit.now.arrival.now
             (outcome_of component.new happened)) }
         ensures left { IfOk result (λ happened. component.new
             ≡ left_by component.old (outcome_of component.new happened)) }
         ensures former { IfOk result (λ happened. self.new
-            ≡ self.old ++ former_of arrival.now.index component.old happened) }
+            ≡ self.old ++ former_of visit.now.arrival.now.index component.old happened) }
         ensures same { OnErr result (component.new ≡ component.old) }
         ensures none { OnErr result (self.new ≡ self.old) }
     {
@@ -120,11 +118,10 @@ impl Former {
             component,
             &mut copy.what,
             moment.emitted,
-            cursor,
-            arrival,
+            visit,
         )?;
         if happened.is_some() {
-            copy.index = arrival.index;
+            copy.index = visit.arrival.index;
             self.count += 1;
         }
         Ok(happened)

@@ -1,7 +1,8 @@
 -- The earlier of two next times, and the least of all.
 use Rattle.std.proofs.Common.{◌≡◌, ℕ, ◌+◌, ◌<◌, ◌≤◌, min, List, map, length, get_or, Option, Some, None, refl, ap, sym, ◌∙◌, arith}
 use Rattle.std.proofs.lemmas.List.{drop_all}
-use Rattle.dv_devs.specs.NextTimes.{IsFrom, earlier, least_next}
+use Rattle.dv_time.specs.Time.{earlier}
+use Rattle.dv_devs.specs.NextTimes.{IsFrom, least_next}
 use Rattle.dv_react.specs.declared.running.Running.{Running}
 use Rattle.dv_react.specs.Components.{next_of_wait, component_of}
 use Rattle.dv_plain.proofs.Steps.{components_from, component-step}

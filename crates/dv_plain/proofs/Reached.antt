@@ -2,7 +2,7 @@
 use Rattle.std.proofs.Common.{◌≡◌, ℕ, suc, ◌-◌, ◌<◌, ◌≤◌, List, [], map, length, replicate, unwrap_or, Option, Some, None}
 use Rattle.std.proofs.Common.{refl, ap, sym, ◌∙◌, subst, arith}
 use Rattle.std.proofs.lemmas.List.{length-map}
-use Rattle.dv_time.specs.Time.{IsOfRun, end_of, rank, succ}
+use Rattle.dv_time.specs.Time.{IsOfRun, earlier, end_of, rank, succ}
 use Rattle.dv_time.specs.declared.time.Time.{Time}
 use Rattle.dv_syntax.specs.Trees.{FileTree}
 use Rattle.dv_bag.specs.Inputs.{inputs_before, start_of, time_at}
@@ -10,7 +10,7 @@ use Rattle.dv_bag.specs.declared.inputs.Input.{Input}
 use Rattle.dv_devs.specs.Behaviour.{Component}
 use Rattle.dv_devs.specs.Idle.{AllBringNothing, BringsNothing}
 use Rattle.dv_devs.specs.Network.{components_after, components_at, part_of_instant, trace_before}
-use Rattle.dv_devs.specs.NextTimes.{IsFrom, earlier, least_next}
+use Rattle.dv_devs.specs.NextTimes.{IsFrom, least_next}
 use Rattle.dv_bag.specs.Part.{PartOf, nothing, joined}
 use Rattle.dv_tree.specs.Instances.{Instance, instances}
 use Rattle.dv_tree.specs.Instances.{root_inputs}

@@ -1,11 +1,11 @@
 //! The run of a resultant.
 
 ghost use Rattle.std.specs.Prelude.{◌≡◌, ℕ, ◌≤◌, IfOk, Some, length};
-ghost use Rattle.dv_time.specs.Time.{IsOfRun, next_rank, rank, succ};
+ghost use Rattle.dv_time.specs.Time.{IsOfRun, earlier, next_rank, rank, succ};
 ghost use Rattle.dv_syntax.specs.Trees.{atomic_of, file_of};
 ghost use Rattle.dv_bag.specs.Inputs.{inputs_before, time_at};
 ghost use Rattle.dv_bag.specs.Part.{joined};
-ghost use Rattle.dv_devs.specs.NextTimes.{earlier, least_next};
+ghost use Rattle.dv_devs.specs.NextTimes.{least_next};
 ghost use Rattle.dv_devs.specs.Network.{components_after, part_of_instant};
 ghost use Rattle.dv_tree.specs.Instances.{instances};
 ghost use Rattle.dv_plain.specs.InputTimes.{IsOfRunIf, rank_if};

@@ -4,9 +4,10 @@ use Rattle.std.proofs.Common.{subst, sym, ◌≡◌}
 use Rattle.std.specs.List.{All}
 use Rattle.dv_bag.specs.declared.response.Response.{Response}
 use Rattle.dv_bag.specs.declared.response.Response.TheVariants.{Ticks, Never}
-use Rattle.dv_devs.specs.NextTimes.{earlier}
+use Rattle.dv_time.specs.Time.{earlier}
 use Rattle.dv_conservative.specs.Responses.{least_response}
-use Rattle.dv_proc.specs.Foreseeing.{IsOfHold, ticks_of}
+use Rattle.dv_bag.specs.Responses.{ticks_of}
+use Rattle.dv_proc.specs.Foreseeing.{IsOfHold}
 use Rattle.dv_local.proofs.Undoing.{all_first, all_rest}
 
 abbrev IsShort : Option ℕ → Type 0

@@ -21,7 +21,7 @@ use Rattle.dv_conservative.specs.Responses.{least_response}
 use Rattle.dv_conservative.specs.World.{Job, incoming_from, outgoing_from, share_of}
 use Rattle.dv_share.specs.Share.{flat_by, member_by}
 use Rattle.dv_share.specs.declared.tables.Member.{Member}
-use Rattle.dv_proc.specs.Foreseeing.{ticks_of}
+use Rattle.dv_bag.specs.Responses.{ticks_of}
 use Rattle.dv_local.specs.Shares.{AreOfRun, IsLed, IsShare, IsPortOf, outgoing_of, share_by}
 use Rattle.dv_local.specs.declared.share.Share.{Share}
 use Rattle.dv_partition.specs.Groups.{Grouping, owner_of}

@@ -9,7 +9,7 @@ use Rattle.dv_conservative.specs.Responses.{least_response}
 use Rattle.dv_conservative.specs.World.{Job, incoming_from, outgoing_from}
 use Rattle.dv_share.specs.Links.{RiseByPort, RiseBySource, links_of}
 use Rattle.dv_share.specs.declared.tables.Member.{Member}
-use Rattle.dv_proc.specs.Foreseeing.{ticks_of}
+use Rattle.dv_bag.specs.Responses.{ticks_of}
 use Rattle.dv_local.specs.Shares.{outgoing_of}
 use Rattle.dv_local.specs.declared.share.Share.{Share}
 use Rattle.dv_partition.specs.Groups.{Grouping, owner_of}

@@ -16,7 +16,8 @@ use Rattle.dv_share.specs.Indices.{AreRising}
 use Rattle.dv_share.specs.Share.{FitsAt, flat_by, numbers_of}
 use Rattle.dv_share.specs.declared.tables.Member.{Member}
 use Rattle.dv_share.specs.declared.tables.Tables.{Tables}
-use Rattle.dv_proc.specs.Foreseeing.{IsOfHold, ticks_of}
+use Rattle.dv_bag.specs.Responses.{ticks_of}
+use Rattle.dv_proc.specs.Foreseeing.{IsOfHold}
 use Rattle.dv_partition.specs.Groups.{Grouping, owner_of}
 use Rattle.dv_plan.specs.declared.whole.Whole.{Whole}
 

@@ -2,10 +2,10 @@
 
 ghost use Rattle.std.specs.Prelude.{◌≡◌, ◌<◌, ◌≤◌, ◌^◌, None, length, map, replicate, slice_index_or, slice_set, IfOk};
 ghost use Rattle.std.specs.List.{range_with_len};
-ghost use Rattle.dv_devs.specs.NextTimes.{earlier};
+ghost use Rattle.dv_time.specs.Time.{earlier};
 ghost use Rattle.dv_partition.specs.Groups.{owner_of};
 ghost use Rattle.dv_conservative.specs.Responses.{least_response};
-ghost use Rattle.dv_proc.specs.Foreseeing.{ticks_of};
+ghost use Rattle.dv_bag.specs.Responses.{ticks_of};
 
 use dv_bag::Response;
 use dv_partition::Groups;
@@ -52,18 +52,7 @@ fn lower(process: u32, response: Response, responses: &mut Vec<Response>)
 {
     let index = process as usize;
     if index < responses.len() {
-        let least = sooner(responses[index], response);
+        let least = responses[index].sooner(response);
         responses[index] = least;
-    }
-}
-
-// The lesser of two responses.
-fn sooner(a: Response, b: Response) -> Response
-    ensures { ticks_of result ≡ earlier (ticks_of a) (ticks_of b) }
-{
-    match (a, b) {
-        (Response::Never, other) => other,
-        (first, Response::Never) => first,
-        (Response::Ticks(first), Response::Ticks(second)) => Response::Ticks(first.min(second)),
     }
 }

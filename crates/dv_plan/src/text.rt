@@ -2,7 +2,7 @@
 
 ghost use Rattle.std.specs.Prelude.{◌≡◌, ◌++◌, map, string_bytes, IfOk, OnOk};
 ghost use Rattle.std.specs.Fmt.{decimal};
-ghost use Rattle.dv_proc.specs.Foreseeing.{ticks_of};
+ghost use Rattle.dv_bag.specs.Responses.{ticks_of};
 ghost use Rattle.dv_share.specs.Links.{link_of, links_of};
 ghost use Rattle.dv_plan.specs.Texts.{PlanNames, back, front, link_text, links_text, members_text, paths_text, plan_links, plan_text};
 ghost use Rattle.dv_plan.specs.Texts.{port_text, process_text, processes_text, quoted, response_of, response_text, source_text, target_text};

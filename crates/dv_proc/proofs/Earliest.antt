@@ -1,9 +1,8 @@
 -- The earlier of two times has the lesser of their ranks, and is one of the run where both are.
 use Rattle.std.proofs.Common.{◌≡◌, ℕ, ◌<◌, ◌≤◌, Bool, true, false, cond, nat_lt, Option, Some, None, min, refl, sym, ap, arith}
-use Rattle.dv_time.specs.Time.{IsOfRun, earliest, is_before, rank}
+use Rattle.dv_time.specs.Time.{IsOfRun, earlier, earliest, is_before, rank}
 use Rattle.dv_time.specs.declared.time.Time.{Time}
 use Rattle.dv_time.proofs.Ranks.{is_before-rank}
-use Rattle.dv_devs.specs.NextTimes.{earlier}
 use Rattle.dv_proc.specs.Foreseeing.{IsOfRunIf, rank_if}
 
 by_test : (b : Bool) (limit : ℕ) (t u : Time) → b ≡ nat_lt (rank limit u) (rank limit t)

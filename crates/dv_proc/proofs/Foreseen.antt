@@ -2,11 +2,11 @@
 use Rattle.std.proofs.Common.{◌≡◌, ℕ, zero, suc, ◌+◌, ◌*◌, ◌≤◌, Bool, true, false, cond, nat_eq, List, Option, Some, None, refl}
 use Rattle.std.proofs.Common.{ap, sym, ◌∙◌, subst, arith}
 use Rattle.std.proofs.lemmas.Bool.Decides.{nat_tests}
-use Rattle.dv_time.specs.Time.{IsOfRun, rank, tick_of, time_of}
+use Rattle.dv_time.specs.Time.{IsOfRun, earlier, rank, tick_of, time_of}
 use Rattle.dv_time.specs.declared.time.Time.{Time}
 use Rattle.dv_time.proofs.Ranks.{tick_of-rank, time_of-rank}
 use Rattle.dv_devs.specs.Behaviour.{Component, is_at}
-use Rattle.dv_devs.specs.NextTimes.{earlier, least_next}
+use Rattle.dv_devs.specs.NextTimes.{least_next}
 use Rattle.dv_conservative.specs.Promise.{foreseen, reach}
 use Rattle.dv_proc.specs.Foreseeing.{IsOfRunIf, rank_if}
 

@@ -1,13 +1,13 @@
 -- Before its promise a local run sends nothing beyond the instant at which it stands.
 use Rattle.std.proofs.Common.{◌≡◌, inl, inr, ℕ, zero, suc, ◌+◌, ◌-◌, ◌<◌, ◌≤◌, min, Bool, true, false, not, cond, nat_eq, List}
 use Rattle.std.proofs.Common.{[], ◌∷◌, ◌++◌, map, IsTrue, Option, Some, None, refl, ap, sym, ◌∙◌, subst, arith}
-use Rattle.dv_time.specs.Time.{rank}
+use Rattle.dv_time.specs.Time.{earlier, rank}
 use Rattle.dv_bag.specs.Bag.{Counts, bag_at}
 use Rattle.dv_bag.specs.declared.state.State.{State}
 use Rattle.dv_devs.specs.Behaviour.{Behaviour, Component, is_at}
 use Rattle.dv_devs.specs.Idle.{nothing_sent}
 use Rattle.dv_devs.specs.Network.{components_at, emissions_at}
-use Rattle.dv_devs.specs.NextTimes.{IsFrom, earlier, least_next}
+use Rattle.dv_devs.specs.NextTimes.{IsFrom, least_next}
 use Rattle.dv_conservative.proofs.Numbers.{all_keep, all_respond, is_ready, numbers_at, numbers_come, states_stay}
 use Rattle.dv_conservative.proofs.Settled.{first_not_before, none_before_first, received_numbers}
 use Rattle.dv_conservative.proofs.Silence.{sends_nothing_at}

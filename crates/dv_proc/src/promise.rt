@@ -6,7 +6,8 @@ ghost use Rattle.dv_devs.specs.Behaviour.{Component, is_at};
 ghost use Rattle.dv_devs.specs.NextTimes.{least_next};
 ghost use Rattle.dv_conservative.specs.Process.{at_most};
 ghost use Rattle.dv_conservative.specs.Promise.{foreseen, reach};
-ghost use Rattle.dv_proc.specs.Foreseeing.{IsOfHold, IsOfRunIf, rank_if, ticks_of};
+ghost use Rattle.dv_bag.specs.Responses.{ticks_of};
+ghost use Rattle.dv_proc.specs.Foreseeing.{IsOfHold, IsOfRunIf, rank_if};
 ghost use Rattle.dv_time.specs.Limits.{greatest_tick};
 
 use crate::window::Frame;

@@ -9,7 +9,7 @@ use Rattle.dv_conservative.specs.Responses.{least_response}
 use Rattle.dv_partition.specs.Groups.{Grouping, owner_of}
 use Rattle.dv_plan.specs.Wholes.{job_by}
 use Rattle.dv_plan.specs.declared.whole.Whole.{Whole}
-use Rattle.dv_proc.specs.Foreseeing.{ticks_of}
+use Rattle.dv_bag.specs.Responses.{ticks_of}
 use Rattle.dv_share.specs.Links.{links_of}
 use Rattle.dv_share.specs.Share.{member_by}
 use Rattle.law_sound.specs.Jobs.{job_of, responses_of}

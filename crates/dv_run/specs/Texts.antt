@@ -2,7 +2,8 @@
 use Rattle.std.specs.Prelude.{◌≡◌, ℕ, List, map}
 use Rattle.std.specs.List.{All}
 use Rattle.dv_bag.specs.declared.response.Response.{Response}
-use Rattle.dv_bound.specs.Response.{response_of, ticks_of}
+use Rattle.dv_bag.specs.Responses.{ticks_of}
+use Rattle.dv_bound.specs.Response.{response_of}
 use Rattle.dv_bound.specs.Short.{IsShort}
 use Rattle.dv_coded.specs.Components.{StandsAmong}
 use Rattle.dv_coded.specs.Models.{behaviour_of}

@@ -12,12 +12,13 @@ ghost use Rattle.dv_share.specs.declared.tables.Member.{Member};
 
 use crate::index::{Indexed, item_at};
 use crate::tables::Tables;
-use dv_bag::{Bags, Fault, Sent};
+use crate::visit::Visit;
+use dv_bag::{Fault, Sent};
 use dv_react::{Atomic, Happened, Instant, Running};
 use std::alloc::AllocError;
 
-/// Lets a component that emitted or receives something react in place, by the cursor of the first emission that does not stand
-/// before it. Tells what happened, if anything did. Then `before` is what the component was. No other component is looked at.
+/// Lets a component that emitted or receives something react in place, by what arrived there and what it emitted. Tells what
+/// happened, if anything did. Then `before` is what the component was. No other component is looked at.
 ///
 /// # Errors
 ///
@@ -29,39 +30,41 @@ pub fn react<A: Atomic>(
     component: &mut Running,
     before: &mut Running,
     emitted: &[Indexed<Result<Sent, Fault>>],
-    cursor: usize,
-    arrival: &Indexed<Bags>,
+    visit: &Visit<'_>,
 ) -> Result<Option<Happened>, AllocError>
     requires tables { AreTables A.fits tables.now }
     requires limit { instant.now.limit ≡ tables.now.limit }
-    requires index { arrival.now.index < length tables.now.members.items }
+    requires index { visit.now.arrival.now.index < length tables.now.members.items }
     requires wait { IsWaitOfRun tables.now.limit component.old.wait }
-    requires fits { (m : Member) → slice_get tables.now.members.items arrival.now.index ≡ Some m
+    requires fits { (m : Member)
+        → slice_get tables.now.members.items visit.now.arrival.now.index ≡ Some m
         → FitsAt A.fits tables.now.models.items m.model component.old.state }
     requires comes { (a : A) (bags : List Counts) → A.comes a bags }
     requires rise { AreRising (indices_of emitted.now) }
-    requires next { IsNext arrival.now.index emitted.now cursor }
-    requires given { (m : Member) → slice_get tables.now.members.items arrival.now.index ≡ Some m
-        → given_at arrival.now.index emitted.now ≡ emission (behaviour_in A.behaviour tables.now m)
+    requires next { IsNext visit.now.arrival.now.index emitted.now visit.now.cursor }
+    requires given { (m : Member)
+        → slice_get tables.now.members.items visit.now.arrival.now.index ≡ Some m
+        → given_at visit.now.arrival.now.index emitted.now
+        ≡ emission (behaviour_in A.behaviour tables.now m)
         (rank_of instant.now) (component_of tables.now.limit component.old) }
     ensures outcome { IfOk result (λ happened. IsOutcomeOf A.behaviour A.fits tables.now
-        (rank_of instant.now) component.old (given_at arrival.now.index emitted.now) arrival.now
-        (outcome_of component.new happened)) }
+        (rank_of instant.now) component.old (given_at visit.now.arrival.now.index emitted.now)
+        visit.now.arrival.now (outcome_of component.new happened)) }
     ensures left { IfOk result (λ happened. component.new
         ≡ left_by component.old (outcome_of component.new happened)) }
     ensures before { IfOk result (λ happened. happened ≢ None → before.new ≡ component.old) }
     ensures err { OnErr result (component.new ≡ component.old) }
 {
-    let member = &tables.members[arrival.index as usize];
+    let member = &tables.members[visit.arrival.index as usize];
     let atomic = &tables.models[member.model as usize];
-    let fault = fault_at(emitted, cursor, arrival.index);
+    let fault = fault_at(emitted, visit.cursor, visit.arrival.index);
     dv_react::react(
         atomic,
         work,
         instant,
         component,
         before,
-        &arrival.what,
+        &visit.arrival.what,
         fault,
     )
 }

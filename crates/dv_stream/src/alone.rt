@@ -28,7 +28,6 @@ use dv_record::Record;
 use dv_text::laws::a_trace_is_its_instants;
 use dv_text::{WriteError, hand_over};
 use dv_tree::Tree;
-use std::alloc::Global;
 use std::io::Write;
 
 // A world of one process that tells its text.
@@ -183,7 +182,6 @@ fn stream_process<J: PlannedJob, A: Atomic + Drop, R: KnowsFaults, W: Write>(
 ///
 /// A write failed, or there is no memory for the process. The writer holds a beginning of the lines.
 pub fn stream_alone<J: PlannedJob, A: Atomic + Drop, R: KnowsFaults, W: Write>(
-    alloc: Global,
     job: J,
     plan: Plan<A>,
     work: &mut A::Work,
@@ -206,6 +204,7 @@ pub fn stream_alone<J: PlannedJob, A: Atomic + Drop, R: KnowsFaults, W: Write>(
     ensures err { OnErr result (IsBegun (J.means job) tree.now
         (W.contents writer.old) (W.contents writer.new)) }
 {
+    let alloc = *plan.shares.allocator();
     let mut world = world_alone(alloc, job, plan, to, bounds.capacity)?;
     let (ended, written) = stream_process(&mut world, work, bounds.rounds, tree, writer)?;
     let clocks = clocks_of(alloc, world.processes())?;

@@ -23,6 +23,8 @@ use std::io::Write;
 /// What merges the pieces of all processes and writes them.
 #[derive(Drop)]
 pub struct Merger<'t, N: OfJob> {
+    /// What gives memory to pieces that are put together.
+    pub alloc: Global,
     /// What is joined and not written yet.
     pub backlog: Backlog<N>,
     /// What makes the lines.

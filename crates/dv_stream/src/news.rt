@@ -168,7 +168,6 @@ fn write_known<N: OfJob, W: Write>(
 ///
 /// A write failed, or there is no memory for a line. The writer holds a beginning of the lines.
 pub(crate) fn write_joined<N: OfJob, W: Write>(
-    alloc: Global,
     merger: &mut Merger<'_, N>,
     before: Written,
     writer: &mut W,
@@ -185,6 +184,7 @@ pub(crate) fn write_joined<N: OfJob, W: Write>(
 {
     // What nothing is added to goes on at once.
     a_trace_is_its_pieces::<Bags>();
+    let alloc = merger.alloc;
     match write_known(alloc, &merger.backlog, before, &mut merger.lines, writer)? {
         Some(written) => {
             merger.backlog.let_go(written.mark);
@@ -198,7 +198,6 @@ pub(crate) fn write_joined<N: OfJob, W: Write>(
 // end, since the trace has a gap there.
 fn write_posted<N: OfJob, R: Wait, W: Write>(
     rt: &R,
-    alloc: Global,
     signals: &Signals<N>,
     merger: &mut Merger<'_, N>,
     before: Written,
@@ -214,12 +213,12 @@ fn write_posted<N: OfJob, R: Wait, W: Write>(
     ensures err { OnErr result (Falters N.job merger.old.lines
         (W.contents writer.old) (W.contents writer.new) before) }
 {
-    let pieces = signals.board.take(rt, alloc);
+    let pieces = signals.board.take(rt, merger.alloc);
     signals.note_taken(&pieces);
     if merger.backlog.extend_all(pieces).is_err() {
         signals.stop(rt);
     }
-    write_joined(alloc, merger, before, writer)
+    write_joined(merger, before, writer)
 }
 
 /// Writes the trace of a job, with the names of a tree, as its workers post it, until their run has ended: at each ring for news
@@ -231,7 +230,6 @@ fn write_posted<N: OfJob, R: Wait, W: Write>(
 /// A write failed, or there is no memory for a line. The writer holds a beginning of the lines.
 pub fn write_news<N: OfJob, R: Wait, W: Write>(
     rt: &R,
-    alloc: Global,
     signals: &Signals<N>,
     merger: &mut Merger<'_, N>,
     writer: &mut W,
@@ -254,7 +252,7 @@ pub fn write_news<N: OfJob, R: Wait, W: Write>(
     for _ in rt.forever() {
         let seen = signals.news.rings();
         let is_last = signals.ended.is_raised();
-        written = write_posted(rt, alloc, signals, merger, written, writer)?;
+        written = write_posted(rt, signals, merger, written, writer)?;
         if is_last {
             return Ok(written);
         }

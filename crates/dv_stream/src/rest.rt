@@ -24,7 +24,6 @@ use dv_text::WriteError;
 use dv_time::Time;
 use dv_work::Ended;
 use dv_written::OfJob;
-use std::alloc::Global;
 use std::io::Write;
 use std::sync::Wait;
 
@@ -44,7 +43,6 @@ pub struct Left<N: OfJob, C> {
 /// A write failed, or there is no memory for a line. The writer holds a beginning of the lines.
 pub fn write_rest<N: OfJob, R: Wait, W: Write>(
     rt: &R,
-    alloc: Global,
     board: &Board<N>,
     merger: &mut Merger<'_, N>,
     rest: Vec<Piece<N>>,
@@ -63,9 +61,9 @@ pub fn write_rest<N: OfJob, R: Wait, W: Write>(
         (W.contents writer.old) (W.contents writer.new) before) }
 {
     // Where a piece is lost, the clocks up to which the processes are kept tell it.
-    let _ = merger.backlog.extend_all(board.take(rt, alloc));
+    let _ = merger.backlog.extend_all(board.take(rt, merger.alloc));
     let _ = merger.backlog.extend_all(rest);
-    write_joined(alloc, merger, before, writer)
+    write_joined(merger, before, writer)
 }
 
 /// The clocks of processes whose trace was written up to a mark: those up to which they are kept, if the mark is the least of them.

@@ -1,12 +1,13 @@
 //! Rounds on one thread; between them the trace is written.
 
-ghost use Rattle.std.specs.Prelude.{◌≡◌, ◌↔◌, ◌<◌, ◌≤◌, List, IfOk, IsTrue, OnErr, OnOk, map, set, slice_get, Some};
+ghost use Rattle.std.specs.Prelude.{◌≡◌, ◌↔◌, ◌<◌, ◌≤◌, List, IfOk, IsTrue, OnErr, OnOk, map, replicate, set, slice_get, Some};
 ghost use Rattle.std.specs.List.{All};
 ghost use Rattle.dv_bag.specs.Bag.{Counts};
 ghost use Rattle.dv_bag.specs.Part.{nothing};
 ghost use Rattle.dv_bag.specs.declared.entry.Entry.{Entry as MeantEntry};
 ghost use Rattle.dv_board.specs.Clocks.{IsLeast};
 ghost use Rattle.dv_board.specs.Jobs.{IsMergeable};
+ghost use Rattle.dv_conservative.specs.Process.{first_time};
 ghost use Rattle.dv_core.specs.declared.step.Ended.TheVariants.{Stalled};
 ghost use Rattle.dv_core.specs.Worlds.{EndsAs, IsTrueToModel, kept_by, shown};
 ghost use Rattle.dv_lines.specs.Entries.{line_of};
@@ -20,7 +21,7 @@ ghost use Rattle.dv_time.specs.Time.{end_of, rank};
 
 use crate::alone::stream_alone;
 use crate::clocks::clocks_of;
-use crate::merged::write_merged;
+use crate::merged::{Merger, write_merged};
 use crate::ran::{Ran, ran_in_rounds};
 use crate::written::Written;
 use dv_bag::Bags;
@@ -115,74 +116,71 @@ fn join_each<N: OfJob, J: PlannedJob, P: ProcessHandsOver<N>>(
 
 // Writes what a backlog has of the trace from what was written on and before the least clock, and lets go of it.
 fn write_all<N: OfJob, J: PlannedJob, W: Write>(
-    alloc: Global,
     job: &J,
-    backlog: &mut Backlog<N>,
+    merger: &mut Merger<'_, N>,
     before: Written,
-    lines: &mut TraceWriter<'_, N>,
     writer: &mut W,
 ) -> Result<Written, WriteError>
     requires job { N.job ≡ J.means job.now }
-    requires mark { backlog.old.mark ≡ before.mark }
+    requires mark { merger.old.backlog.mark ≡ before.mark }
     requires within { rank N.job.limit before.mark ≤ end_of N.job.limit N.job.horizon }
-    ensures tree { lines.new ≡ lines.old }
-    ensures clocks { backlog.new.clocks ≡ backlog.old.clocks }
-    ensures ok { IfOk result (GoesOn N.job lines.old
+    ensures tree { merger.new.lines ≡ merger.old.lines }
+    ensures clocks { merger.new.backlog.clocks ≡ merger.old.backlog.clocks }
+    ensures ok { IfOk result (GoesOn N.job merger.old.lines
         (W.contents writer.old) (W.contents writer.new) before) }
-    ensures mark { IfOk result (λ after. backlog.new.mark ≡ after.mark) }
-    ensures least { IfOk result (λ after. IsLeast after.mark backlog.new.clocks) }
+    ensures mark { IfOk result (λ after. merger.new.backlog.mark ≡ after.mark) }
+    ensures least { IfOk result (λ after. IsLeast after.mark merger.new.backlog.clocks) }
     ensures within { IfOk result (λ after.
         rank N.job.limit after.mark ≤ end_of N.job.limit N.job.horizon) }
-    ensures err { OnErr result (Falters N.job lines.old
+    ensures err { OnErr result (Falters N.job merger.old.lines
         (W.contents writer.old) (W.contents writer.new) before) }
 {
-    let Some((pieces, mark)) = backlog.known(alloc, before.mark)? else {
+    let alloc = merger.alloc;
+    let Some((pieces, mark)) = merger.backlog.known(alloc, before.mark)? else {
         unreachable!()
     };
-    let written = write_merged(alloc, job, &pieces, before, mark, lines, writer)?;
+    let written = write_merged(alloc, job, &pieces, before, mark, &mut merger.lines, writer)?;
     drop(pieces);
-    backlog.let_go(mark);
+    merger.backlog.let_go(mark);
     Ok(written)
 }
 
 // So many rounds, and then what is new of the trace is written.
 fn advance<N: OfJob, J: PlannedJob, P: ProcessHandsOver<N>, W: Write>(
-    alloc: Global,
     world: &mut World<J, P>,
     work: &mut P::Work,
-    backlog: &mut Backlog<N>,
+    merger: &mut Merger<'_, N>,
     processes: u32,
     rounds: u64,
     before: Written,
-    lines: &mut TraceWriter<'_, N>,
     writer: &mut W,
 ) -> Result<(Ended, Written), WriteError>
     requires job { N.job ≡ J.means world.old.job }
     requires processes { processes ≡ N.job.processes }
     requires joined { AreJoined N.job (map P.state world.old.processes.items)
-        (map P.handed world.old.processes.items) backlog.old.clocks }
-    requires mark { backlog.old.mark ≡ before.mark }
+        (map P.handed world.old.processes.items) merger.old.backlog.clocks }
+    requires mark { merger.old.backlog.mark ≡ before.mark }
     requires within { rank N.job.limit before.mark ≤ end_of N.job.limit N.job.horizon }
     ensures job { world.new.job ≡ world.old.job }
-    ensures tree { lines.new ≡ lines.old }
+    ensures tree { merger.new.lines ≡ merger.old.lines }
     ensures rounds { IfOk result (λ r. EndsAs N.job rounds r.0
         (shown J.means P.state world.old) (shown J.means P.state world.new)) }
     ensures true_to_model { IsTrueToModel N.job (kept_by P.state world.new) }
     ensures joined { IfOk result (λ _. AreJoined N.job (map P.state world.new.processes.items)
-        (map P.handed world.new.processes.items) backlog.new.clocks) }
-    ensures mark { IfOk result (λ r. backlog.new.mark ≡ r.1.mark) }
+        (map P.handed world.new.processes.items) merger.new.backlog.clocks) }
+    ensures mark { IfOk result (λ r. merger.new.backlog.mark ≡ r.1.mark) }
     ensures within { IfOk result (λ r.
         rank N.job.limit r.1.mark ≤ end_of N.job.limit N.job.horizon) }
-    ensures written { IfOk result (λ r. GoesOn N.job lines.old
+    ensures written { IfOk result (λ r. GoesOn N.job merger.old.lines
         (W.contents writer.old) (W.contents writer.new) before r.1) }
     ensures least { IfOk result (λ r. r.1.mark
         ≡ least_time (map (λ x. (P.state x).position.clock) world.new.processes.items)) }
-    ensures err { OnErr result (Falters N.job lines.old
+    ensures err { OnErr result (Falters N.job merger.old.lines
         (W.contents writer.old) (W.contents writer.new) before) }
 {
     let ended = world.serial(work, rounds);
-    join_each(world, backlog, processes)?;
-    let written = write_all(alloc, world.job(), backlog, before, lines, writer)?;
+    join_each(world, &mut merger.backlog, processes)?;
+    let written = write_all(world.job(), merger, before, writer)?;
     Ok((ended, written))
 }
 
@@ -196,62 +194,40 @@ pub(crate) fn is_stalled(ended: Ended) -> bool
     }
 }
 
-// Rounds of the processes of a world, so many at most; the trace is written meanwhile. No parameter has the job in its type, so a
-// caller can choose the job.
+// Rounds of the processes of a world, so many at most; the trace is written meanwhile.
 fn stream_rounds<N: OfJob, J: PlannedJob, P: ProcessHandsOver<N>, W: Write>(
-    alloc: Global,
     world: &mut World<J, P>,
     work: &mut P::Work,
+    merger: &mut Merger<'_, N>,
     processes: u32,
     rounds: u64,
-    lines: &mut TraceWriter<'_, N>,
     writer: &mut W,
 ) -> Result<(Ended, Written), WriteError>
     requires job { N.job ≡ J.means world.old.job }
     requires processes { processes ≡ N.job.processes }
+    requires mark { merger.old.backlog.mark ≡ first_time }
+    requires clocks { merger.old.backlog.clocks ≡ replicate processes first_time }
     requires kept { All (λ x. (P.handed x).past ≡ nothing) world.old.processes.items }
-    requires merges { IsMergeable (J.means world.old.job) }
-    requires some { 0 < (J.means world.old.job).processes }
     ensures job { world.new.job ≡ world.old.job }
     ensures rounds { IfOk result (λ r. EndsAs (J.means world.old.job) rounds r.0
         (shown J.means P.state world.old) (shown J.means P.state world.new)) }
     ensures true_to_model { IfOk result (λ _.
         IsTrueToModel (J.means world.new.job) (kept_by P.state world.new)) }
-    ensures written { IfOk result (λ r. IsWrittenTo (J.means world.old.job) lines.old
+    ensures written { IfOk result (λ r. IsWrittenTo (J.means world.old.job) merger.old.lines
         (W.contents writer.old) (W.contents writer.new) r.1) }
     ensures least { IfOk result (λ r. r.1.mark
         ≡ least_time (map (λ x. (P.state x).position.clock) world.new.processes.items)) }
-    ensures err { OnErr result (IsBegun (J.means world.old.job) lines.old
+    ensures err { OnErr result (IsBegun (J.means world.old.job) merger.old.lines
         (W.contents writer.old) (W.contents writer.new)) }
 {
     // Lines are continued by those of the next piece.
     a_trace_is_its_pieces::<Bags>();
-    let mut backlog: Backlog<N> = Backlog::new(alloc, processes)?;
     let mut left = rounds;
-    let (mut ended, mut written) = advance(
-        alloc,
-        world,
-        work,
-        &mut backlog,
-        processes,
-        0,
-        Written::NOTHING,
-        lines,
-        writer,
-    )?;
+    let nothing = Written::NOTHING;
+    let (mut ended, mut written) = advance(world, work, merger, processes, 0, nothing, writer)?;
     while left > 0 && is_stalled(ended) {
         let batch = left.min(ROUNDS_BETWEEN);
-        (ended, written) = advance(
-            alloc,
-            world,
-            work,
-            &mut backlog,
-            processes,
-            batch,
-            written,
-            lines,
-            writer,
-        )?;
+        (ended, written) = advance(world, work, merger, processes, batch, written, writer)?;
         left -= batch;
     }
     Ok((ended, written))
@@ -287,16 +263,15 @@ pub fn stream_plan<J: PlannedJob, A: Atomic + Drop, W: Write>(
 {
     if plan.shares.len() == 1 {
         let to = TextRecord::new(alloc, tree)?;
-        return stream_alone(alloc, job, plan, work, bounds, to, tree, writer);
+        return stream_alone(job, plan, work, bounds, to, tree, writer);
     }
     let words = TreeWords::of(alloc, tree)?;
-    stream_with_words::<Brand, J, A, W>(alloc, job, plan, work, bounds, &words, writer)
+    stream_with_words::<Brand, J, A, W>(job, plan, work, bounds, &words, writer)
 }
 
 // Makes the records by the words, and runs the processes of a plan with them. No parameter has the job in its type, so a caller can choose
 // the job.
 fn stream_with_words<'w, N: OfJob, J: PlannedJob, A: Atomic + Drop, W: Write>(
-    alloc: Global,
     job: J,
     plan: Plan<A>,
     work: &mut A::Work,
@@ -319,7 +294,7 @@ fn stream_with_words<'w, N: OfJob, J: PlannedJob, A: Atomic + Drop, W: Write>(
 {
     let records: WrittenRecords<'w, N> = words.records();
     stream_several::<N, J, A, WrittenRecord<'w, N>, WrittenRecords<'w, N>, W>(
-        alloc, job, plan, work, bounds, &records, words, writer,
+        job, plan, work, bounds, &records, words, writer,
     )
 }
 
@@ -332,7 +307,6 @@ fn stream_several<
     M: MakesRecord<K>,
     W: Write,
 >(
-    alloc: Global,
     job: J,
     plan: Plan<A>,
     work: &mut A::Work,
@@ -354,16 +328,22 @@ fn stream_several<
     ensures err { OnErr result (IsBegun (J.means job) words.now
         (W.contents writer.old) (W.contents writer.new)) }
 {
+    let alloc = *plan.shares.allocator();
     let processes = plan.shares.len() as u32;
-    let mut lines = TraceWriter::new(alloc, words)?;
+    let backlog: Backlog<N> = Backlog::new(alloc, processes)?;
+    let lines = TraceWriter::new(alloc, words)?;
+    let mut merger = Merger {
+        alloc,
+        backlog,
+        lines,
+    };
     let mut world = world_of::<J, A, K, M>(alloc, job, plan, records, bounds.capacity)?;
     let (ended, written) = stream_rounds::<N, J, Process<LocalRun<A, K>>, W>(
-        alloc,
         &mut world,
         work,
+        &mut merger,
         processes,
         bounds.rounds,
-        &mut lines,
         writer,
     )?;
     let clocks = clocks_of(alloc, world.processes())?;

@@ -108,7 +108,6 @@ trait WritesPosts<N: OfJob> {
     fn write_posts<R: Wait, W: Write>(
         &mut self,
         rt: &R,
-        alloc: Global,
         signals: &Signals<N>,
         writer: &mut W,
     ) -> Result<Written, WriteError>
@@ -127,11 +126,10 @@ impl<'t, N: OfJob> WritesPosts<N> for Merger<'t, N> {
     fn write_posts<R: Wait, W: Write>(
         &mut self,
         rt: &R,
-        alloc: Global,
         signals: &Signals<N>,
         writer: &mut W,
     ) -> Result<Written, WriteError> {
-        let written = write_news(rt, alloc, signals, self, writer);
+        let written = write_news(rt, signals, self, writer);
         if written.is_err() {
             signals.stop(rt);
         }
@@ -189,7 +187,7 @@ where
             rank N.job.limit w.mark ≤ end_of N.job.limit N.job.horizon) }
         ensures err { OnErr result (IsBegun N.job (M.tree merger.entry.now)
             (W.contents writer.entry.now) (W.contents writer.exit.now)) }
-    { merger.write_posts(rt, alloc, signals, writer) };
+    { merger.write_posts(rt, signals, writer) };
     let (report, written) = join_mut(rt, &mut run, &mut write);
     (written, report)
 }
@@ -275,7 +273,11 @@ where
     let backlog: Backlog<N> = Backlog::new(alloc, processes)?;
     let signals: Signals<N> = Signals::new(alloc, crew.processes.len(), crew.works.len())?;
     let lines = TraceWriter::new(alloc, words)?;
-    let mut merger = Merger { backlog, lines };
+    let mut merger = Merger {
+        alloc,
+        backlog,
+        lines,
+    };
     let until: Until<N> = Until {
         tick: job.horizon(),
         of: PhantomData,
@@ -284,15 +286,7 @@ where
     let (written, report) = run_and_write(rt, alloc, crewed, gate, &signals, &mut merger, writer);
     let written = written?;
     let Left { rest, ended } = report?;
-    let written = write_rest(
-        rt,
-        alloc,
-        &signals.board,
-        &mut merger,
-        rest,
-        written,
-        writer,
-    )?;
+    let written = write_rest(rt, &signals.board, &mut merger, rest, written, writer)?;
     let kept = merger.backlog.clocks(alloc)?;
     let clocks = clocks_at(kept, written.mark);
     let end = Time {

@@ -1,6 +1,6 @@
 -- Superdense time under a microstep limit, and the natural numbers that count it.
 -- (Zeigler, Praehofer and Kim 2000; the limit is this project's.)
-use Rattle.std.specs.Prelude.{ℕ, zero, suc, ◌+◌, ◌*◌, ◌/◌, ◌%◌, ◌≤◌, nat_lt, Bool, if◌then◌else◌, List, ◌∷◌, ◌++◌, Option, Some}
+use Rattle.std.specs.Prelude.{ℕ, zero, suc, ◌+◌, ◌*◌, ◌/◌, ◌%◌, ◌≤◌, min, nat_lt, Bool, if◌then◌else◌, List, ◌∷◌, ◌++◌, Option, Some}
 use Rattle.std.specs.Prelude.{None, Result, Ok, Err}
 use Rattle.std.specs.Fmt.{decimal}
 use Rattle.std.specs.Ordering.{is_lt, nat_cmp, ordering_then}
@@ -48,6 +48,12 @@ time_cmp a b = ordering_then (nat_cmp a.tick b.tick) (nat_cmp a.micro b.micro)
 -- is the first time before the second
 abbrev pub is_before : Time → Time → Bool
 is_before a b = is_lt (time_cmp a b)
+
+-- the lesser of two ranks, or of two counts of ticks, of which each may be never
+abbrev pub earlier : Option ℕ → Option ℕ → Option ℕ
+earlier None b = b
+earlier (Some x) None = Some x
+earlier (Some x) (Some y) = Some (min x y)
 
 -- the earlier of two times, of which each may be never
 abbrev pub earliest : Option Time → Option Time → Option Time

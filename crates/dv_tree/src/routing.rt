@@ -23,7 +23,6 @@ use std::vec::IntoIter;
 /// No memory for the values.
 #[cycle(rise)]
 pub(crate) fn rise<'s>(
-    alloc: Global,
     depth: usize,
     level: &Level,
     levels: &[Option<Level>],
@@ -36,9 +35,9 @@ pub(crate) fn rise<'s>(
         ++ from_level level.now (leaving_nodes (nodes_to depth levels.now level.now) sent.now)
         ∷ kept_nodes (nodes_to depth levels.now level.now) sent.now) }
 {
-    let slot = keep_slot(alloc, kept)?;
-    let mut arrived = level.nothing(alloc)?;
-    let rest = rise_parts(alloc, depth, level, levels, sent, kept, &mut arrived)?;
+    let slot = keep_slot(kept)?;
+    let mut arrived = level.nothing(*kept.allocator())?;
+    let rest = rise_parts(depth, level, levels, sent, kept, &mut arrived)?;
     kept[slot] = arrived;
     Ok(rest)
 }
@@ -46,7 +45,6 @@ pub(crate) fn rise<'s>(
 // The same of the parts of a coupled model: what leaves each goes along its couplings.
 #[cycle(rise)]
 fn rise_parts<'s>(
-    alloc: Global,
     depth: usize,
     level: &Level,
     levels: &[Option<Level>],
@@ -68,16 +66,7 @@ fn rise_parts<'s>(
     for (part, resolved) in level.parts().iter().enumerate() {
         let inside = level_at(levels, resolved.model);
         let couplings = level.couplings_of_part(part);
-        rest = rise_part(
-            alloc,
-            depth - 1,
-            inside,
-            levels,
-            couplings,
-            rest,
-            kept,
-            arrived,
-        )?;
+        rest = rise_part(depth - 1, inside, levels, couplings, rest, kept, arrived)?;
     }
     Ok(rest)
 }
@@ -85,7 +74,6 @@ fn rise_parts<'s>(
 // The same of one part, which is coupled or atomic: what leaves it goes along its couplings.
 #[cycle(rise)]
 fn rise_part<'s>(
-    alloc: Global,
     depth: usize,
     inside: Option<&Level>,
     levels: &[Option<Level>],
@@ -106,7 +94,7 @@ fn rise_part<'s>(
         None => add_first(couplings, sent, arrived),
         Some(level) => {
             let index = kept.len();
-            let rest = rise(alloc, depth, level, levels, sent, kept)?;
+            let rest = rise(depth, level, levels, sent, kept)?;
             arrived.add_bags(couplings, kept[index].own())?;
             Ok(rest)
         }
@@ -114,13 +102,14 @@ fn rise_part<'s>(
 }
 
 // One more index among what is kept, with no ports yet. Gives its index.
-fn keep_slot(alloc: Global, kept: &mut Vec<Arrived>) -> Result<usize, AllocError>
+fn keep_slot(kept: &mut Vec<Arrived>) -> Result<usize, AllocError>
     ensures slot { IfOk result (λ slot. slot ≡ length kept.old.items) }
     ensures kept { OnOk result (kept.new.items ≡ kept.old.items
         ++ record { own = []; parts = [] } ∷ []) }
 {
     let slot = kept.len();
-    kept.push(Arrived::empty(alloc))?;
+    let empty = Arrived::empty(*kept.allocator());
+    kept.push(empty)?;
     Ok(slot)
 }
 

@@ -369,7 +369,7 @@ fn route(
         return Ok(Routed { received, leaving });
     };
     let mut kept = Vec::new(alloc);
-    rise(alloc, GREATEST_DEPTH, level, levels, sent, &mut kept)?;
+    rise(GREATEST_DEPTH, level, levels, sent, &mut kept)?;
     let leaving = kept[0].own().clone()?;
     let mut kept = kept.into_iter();
     sink(

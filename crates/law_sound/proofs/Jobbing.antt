@@ -3,14 +3,13 @@ use Rattle.std.proofs.Common.{◌≡◌, ℕ, zero, suc, ◌+◌, Bool, true, fa
 use Rattle.std.proofs.Common.{Some, IsTrue, refl, sym, ap, ◌∙◌, subst, arith}
 use Rattle.std.specs.List.{AllByRecursion, slice_get}
 use Rattle.std.proofs.lemmas.Bool.Decides.{nat_tests}
-use Rattle.dv_time.specs.Time.{time_of}
+use Rattle.dv_time.specs.Time.{earlier, time_of}
 use Rattle.dv_time.specs.declared.time.Time.{Time}
 use Rattle.dv_syntax.specs.Trees.{AtomicModel, AtomicTree, FileTree}
 use Rattle.dv_bag.specs.Bag.{Counts, with_copies}
 use Rattle.dv_bag.specs.Inputs.{bags_from, inputs_at, is_at, values_at, values_into}
 use Rattle.dv_bag.specs.declared.inputs.Input.{Input}
 use Rattle.dv_bag.specs.declared.state.State.{State}
-use Rattle.dv_devs.specs.NextTimes.{earlier}
 use Rattle.dv_tree.specs.Instances.{Instance, instances, root_inputs}
 use Rattle.dv_gen.specs.ModelCode.{IsCompilable, IsCompilableModel}
 use Rattle.dv_bound.specs.Response.{response_of}

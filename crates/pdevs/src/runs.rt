@@ -42,16 +42,7 @@ pub fn run_job<R: AllocGlobal + Threads + Wait + Sync, W: Write>(
     let model = job.texts.model.bytes;
     let inputs = job.texts.inputs.bytes;
     match job.options.driver {
-        Driver::Workers(workers) => run_by_workers(
-            rt,
-            rt.alloc(),
-            model,
-            inputs,
-            job.groups,
-            job.options,
-            workers,
-            writer,
-        ),
+        Driver::Workers(_) => run_by_workers(rt, model, inputs, job.groups, job.options, writer),
         Driver::Rounds(_) => run_bytes(rt.alloc(), model, inputs, job.groups, job.options, writer),
     }
 }

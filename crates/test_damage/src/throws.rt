@@ -155,12 +155,10 @@ fn run_by_threads<R: AllocGlobal + Threads + Wait + Sync>(
     let mut printed = Vec::new(alloc);
     let ended = run_by_workers(
         rt,
-        alloc,
         &texts.model,
         &texts.inputs,
         Partition::Json(texts.partition.as_slice()),
         &options,
-        WORKERS,
         &mut printed,
     );
     told(alloc, ended)

@@ -6,7 +6,7 @@ ghost use Rattle.dv_coded.specs.Components.{StandsAmong};
 ghost use Rattle.dv_coded.specs.Models.{TakesState};
 
 use dv_bag::{DatumView, Response, RuleError, State};
-use dv_coded::{Bench, Components, Programs, components_of};
+use dv_coded::{Bench, Components, Lent, Programs, components_of};
 use dv_react::{Atomic, Wait};
 use dv_share::Member;
 use dv_tree::Tree;
@@ -98,6 +98,7 @@ fn number_in(state: &State) -> Option<i64> {
 fn beat_of(bench: &mut Bench, clock: &Programs, state: &State) -> Result<Beat, RuleError>
     requires { TakesState clock.now state.now }
 {
+    let clock = Lent::of(clock);
     let sent = clock.output(bench, state)?;
     let mut after = state.clone()?;
     let _goes = clock.internal(bench, &mut after)?;

@@ -29,7 +29,7 @@ pub struct Run {
 
 impl Run {
     fn options(&self) -> Option<Options> {
-        Options::new(self.horizon, 20, None, None, self.capacity)
+        Options::new(self.horizon, 20, Some(self.workers), None, self.capacity)
     }
 
     /// The text of its trace, by the plain run.
@@ -51,17 +51,12 @@ impl Run {
         let Some(options) = self.options() else {
             return Err(JobError::Memory);
         };
-        if self.workers == 0 {
-            return Err(JobError::Memory);
-        }
         run_watched(
             rt,
-            rt.alloc(),
             self.model.as_bytes(),
             b"",
             Partition::Count(self.processes),
             &options,
-            self.workers,
             watch,
             writer,
         )

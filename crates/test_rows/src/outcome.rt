@@ -178,14 +178,12 @@ fn ran<R: AllocGlobal + Threads + Wait + Sync>(
     let groups = partition_of(command, texts.partition);
     let mut printed = Vec::new(alloc);
     let ended = match options.driver {
-        Driver::Workers(workers) => run_by_workers(
+        Driver::Workers(_) => run_by_workers(
             rt,
-            alloc,
             texts.model,
             texts.inputs,
             groups,
             &options,
-            workers,
             &mut printed,
         ),
         Driver::Rounds(_) => run_bytes(

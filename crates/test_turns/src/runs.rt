@@ -29,7 +29,7 @@ pub struct Model<'t> {
 impl<'t> Model<'t> {
     /// A model with its trace; `None` where the plain run does not end whole.
     pub fn of(alloc: Global, text: &'t [u8]) -> Option<Self> {
-        let options = options_to(HORIZON)?;
+        let options = options_to(HORIZON, None)?;
         let mut trace = Vec::new(alloc);
         match run_plain(alloc, text, b"", &options, &mut trace) {
             Ok(JobEnded::Whole) => Some(Model { text, trace }),
@@ -43,8 +43,8 @@ impl<'t> Model<'t> {
     }
 }
 
-fn options_to(horizon: u64) -> Option<Options> {
-    Options::new(horizon, 20, None, None, 16)
+fn options_to(horizon: u64, workers: Option<u32>) -> Option<Options> {
+    Options::new(horizon, 20, workers, None, 16)
 }
 
 /// Runs the model in three processes by so many workers, whose turns are watched.
@@ -67,20 +67,15 @@ pub fn run_to_a_cause<R: AllocGlobal + Threads + Wait + Sync, G: Watch, W: Write
     watch: &G,
     writer: &mut W,
 ) -> Result<EndedByWorkers<G::Cause>, JobError> {
-    let Some(options) = options_to(HORIZON) else {
+    let Some(options) = options_to(HORIZON, Some(workers)) else {
         return Err(JobError::Memory);
     };
-    if workers == 0 {
-        return Err(JobError::Memory);
-    }
     run_watched(
         rt,
-        rt.alloc(),
         model.text,
         b"",
         Partition::Count(PROCESSES),
         &options,
-        workers,
         watch,
         writer,
     )
@@ -92,7 +87,7 @@ pub fn run_in_rounds<W: Write>(
     model: &Model<'_>,
     writer: &mut W,
 ) -> Result<JobEnded, JobError> {
-    let Some(options) = options_to(HORIZON) else {
+    let Some(options) = options_to(HORIZON, None) else {
         return Err(JobError::Memory);
     };
     run_bytes(
@@ -112,7 +107,7 @@ pub fn run_plainly<W: Write>(
     inputs: &[u8],
     writer: &mut W,
 ) -> Result<JobEnded, JobError> {
-    let Some(options) = options_to(PLAIN_HORIZON) else {
+    let Some(options) = options_to(PLAIN_HORIZON, None) else {
         return Err(JobError::Memory);
     };
     run_plain(alloc, model, inputs, &options, writer)

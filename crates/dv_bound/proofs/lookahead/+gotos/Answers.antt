@@ -1,7 +1,7 @@
 use Rattle.std.proofs.Common.{◌++◌, refl, sym, ap, ◌∙◌}
 use Rattle.dv_syntax.specs.Trees.{If, IfElse, For, expression_of, statement_before, statements_of}
 use Rattle.law_accepted.specs.Gotos.{gotos_in}
-use Rattle.dv_bound.specs.Response.{ticks_of}
+use Rattle.dv_bag.specs.Responses.{ticks_of}
 use Rattle.dv_bound.specs.Soonest.{response_in}
 use Rattle.dv_bound.proofs.Soonest.{soonest_rest}
 use Rattle.dv_bound.proofs.lookahead.+gotos.Goals as goal

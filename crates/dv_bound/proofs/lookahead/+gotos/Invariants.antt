@@ -1,7 +1,7 @@
 use Rattle.std.proofs.Common.{◌≡◌, drop}
 use Rattle.dv_syntax.specs.Trees.{statements_of}
 use Rattle.law_accepted.specs.Gotos.{gotos_in}
-use Rattle.dv_bound.specs.Response.{ticks_of}
+use Rattle.dv_bag.specs.Responses.{ticks_of}
 use Rattle.dv_bound.specs.Soonest.{response_in, soonest}
 use Rattle.dv_bound.proofs.lookahead.+gotos.Given as goal
 

@@ -1,7 +1,8 @@
 use Rattle.std.proofs.Common.{◌≡◌, ap, map, rules, sym, subst}
 use Rattle.dv_syntax.specs.Trees.{atomic_of, hold_of}
 use Rattle.dv_eval.specs.Scope.{Scope}
-use Rattle.dv_bound.specs.Response.{response_of, ticks_of}
+use Rattle.dv_bag.specs.Responses.{ticks_of}
+use Rattle.dv_bound.specs.Response.{response_of}
 use Rattle.dv_bound.specs.Short.{AreShort, IsShort}
 use Rattle.dv_bound.proofs.Short.{response_short}
 use Rattle.dv_bound.proofs.lookahead.response.Goals as goal

@@ -1,7 +1,8 @@
 use Rattle.std.proofs.Common.{◌≡◌, None, drop, map}
 use Rattle.std.specs.List.{flat_map}
 use Rattle.dv_syntax.specs.Trees.{rule_of}
-use Rattle.dv_bound.specs.Response.{external_gotos_in, ticks_of}
+use Rattle.dv_bag.specs.Responses.{ticks_of}
+use Rattle.dv_bound.specs.Response.{external_gotos_in}
 use Rattle.dv_bound.specs.Soonest.{response_in, soonest}
 use Rattle.dv_bound.proofs.lookahead.soonest_of_rules.Given as goal
 

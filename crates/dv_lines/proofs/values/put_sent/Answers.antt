@@ -74,11 +74,13 @@ put_port-requires-clause-order c =
     let i = c.loop-index.index in
     rw (take_rest ss i) (rise_at 0 i no_sending ss c.as_slice-sendings.ensures.order c.loop-index-test.true)
 
-pub put_port-requires-clause-within : goal.put_port-requires-clause-within
-put_port-requires-clause-within c =
+pub put_port-requires-clause-some : goal.put_port-requires-clause-some
+put_port-requires-clause-some c =
     let ss = c.as_slice-sendings.result.now in
     let i = c.loop-index.index in
-    rw (take_rest ss i, c.len.ensures) (within_at (length c.args.sent.now) i ss c.as_slice-sendings.ensures.within)
+    let ports = length c.args.sent.now in
+    let within = within_at ports i ss c.as_slice-sendings.ensures.within in
+    rw (take_rest ss i) (λ k d lt. copies_there ports k d (drop i ss) within lt)
 
 pub loop-index-preserved : goal.loop-index-preserved
 loop-index-preserved c =

@@ -1,7 +1,6 @@
 use Rattle.std.proofs.Common.{Some, ◌∙◌, ap, sym, subst}
 use Rattle.std.proofs.lemmas.Bool.{ltb-true, ltb-false}
-use Rattle.dv_time.specs.Time.{IsOfRun, next_rank, rank}
-use Rattle.dv_devs.specs.NextTimes.{earlier}
+use Rattle.dv_time.specs.Time.{IsOfRun, earlier, next_rank, rank}
 use Rattle.dv_react.specs.Components.{IsNextOfRun}
 use Rattle.dv_plain.proofs.Least.{earlier-first, earlier-second}
 use Rattle.dv_plain.proofs.run.earlier.Goals as goal

@@ -1,7 +1,7 @@
 use Rattle.std.proofs.Common.{◌≡◌, Some, ap, sym, subst, ◌∙◌}
-use Rattle.dv_time.specs.Time.{IsOfRun, next_rank, rank}
+use Rattle.dv_time.specs.Time.{IsOfRun, earlier, next_rank, rank}
 use Rattle.dv_bag.specs.Inputs.{time_at}
-use Rattle.dv_devs.specs.NextTimes.{earlier, least_next}
+use Rattle.dv_devs.specs.NextTimes.{least_next}
 use Rattle.dv_plain.specs.InputTimes.{rank_if}
 use Rattle.dv_react.specs.Components.{IsNextOfRun, components_of}
 use Rattle.dv_plain.proofs.Least.{earlier-none}

@@ -1,7 +1,7 @@
 use Rattle.std.proofs.Common.{◌≡◌, ℕ, map}
 use Rattle.std.specs.List.{All}
-use Rattle.dv_time.specs.Time.{next_rank}
-use Rattle.dv_devs.specs.NextTimes.{earlier, least_next}
+use Rattle.dv_time.specs.Time.{earlier, next_rank}
+use Rattle.dv_devs.specs.NextTimes.{least_next}
 use Rattle.dv_react.specs.declared.running.Running.{Running}
 use Rattle.dv_react.specs.Components.{IsNextOfRun, IsWaitOfRun, component_of}
 use Rattle.dv_plain.proofs.Steps.{components_from}

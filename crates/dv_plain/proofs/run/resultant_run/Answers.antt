@@ -2,11 +2,11 @@ use Rattle.std.proofs.Common.{◌≡◌, ℕ, ◌<◌, ◌∙◌, List, length, 
 use Rattle.std.specs.List.{All}
 use Rattle.std.specs.Vec.{with_items}
 use Rattle.std.proofs.lemmas.List.{with_items_is}
-use Rattle.dv_time.specs.Time.{IsOfRun, end_of, next_rank, rank}
+use Rattle.dv_time.specs.Time.{IsOfRun, earlier, end_of, next_rank, rank}
 use Rattle.dv_syntax.specs.Trees.{file_of}
 use Rattle.dv_bag.specs.Inputs.{time_at}
 use Rattle.dv_devs.specs.Network.{components_after, part_of_instant}
-use Rattle.dv_devs.specs.NextTimes.{IsFrom, earlier, least_next}
+use Rattle.dv_devs.specs.NextTimes.{IsFrom, least_next}
 use Rattle.dv_bag.specs.Part.{joined}
 use Rattle.dv_tree.specs.Instances.{root_inputs}
 use Rattle.dv_react.specs.declared.running.Running.{Running}

@@ -1,8 +1,8 @@
 use Rattle.std.proofs.Common.{◌∙◌, ◌<◌, None, ap, arith, length, map, sym}
 use Rattle.std.proofs.Math.ListN.{set}
 use Rattle.std.proofs.lemmas.List.{get_or-map, map-set}
-use Rattle.dv_devs.specs.NextTimes.{earlier}
-use Rattle.dv_proc.specs.Foreseeing.{ticks_of}
+use Rattle.dv_time.specs.Time.{earlier}
+use Rattle.dv_bag.specs.Responses.{ticks_of}
 use Rattle.dv_plan.proofs.responses.lower.Goals as goal
 
 pub returns-then-index-len : goal.returns-then-index-len

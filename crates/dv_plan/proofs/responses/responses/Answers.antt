@@ -4,10 +4,10 @@ use Rattle.std.specs.List.{range_with_len}
 use Rattle.std.proofs.lemmas.List.{get_or_default, at_drop_all, at_drop_more, length-set}
 use Rattle.std.proofs.lemmas.List.FromFn.{get_or-map-range_with_len, length-map-range_with_len}
 use Rattle.dv_bag.specs.declared.response.Response.TheVariants.{Never}
-use Rattle.dv_devs.specs.NextTimes.{earlier}
+use Rattle.dv_time.specs.Time.{earlier}
 use Rattle.dv_partition.specs.Groups.{owner_of}
 use Rattle.dv_conservative.specs.Responses.{least_response}
-use Rattle.dv_proc.specs.Foreseeing.{ticks_of}
+use Rattle.dv_bag.specs.Responses.{ticks_of}
 use Rattle.dv_plan.proofs.Responded.{earlier_none, lowered}
 use Rattle.dv_plan.proofs.responses.responses.Goals as goal
 

@@ -1,8 +1,8 @@
 use Rattle.std.proofs.Common.{◌≡◌, ◌<◌, ℕ, None, drop, get_or, length, map}
-use Rattle.dv_devs.specs.NextTimes.{earlier}
+use Rattle.dv_time.specs.Time.{earlier}
 use Rattle.dv_partition.specs.Groups.{owner_of}
 use Rattle.dv_conservative.specs.Responses.{least_response}
-use Rattle.dv_proc.specs.Foreseeing.{ticks_of}
+use Rattle.dv_bag.specs.Responses.{ticks_of}
 use Rattle.dv_plan.proofs.responses.responses.Given as goal
 
 abbrev pub invariant-loop-component : goal.invariant-loop-component

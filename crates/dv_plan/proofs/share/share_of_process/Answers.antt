@@ -5,7 +5,7 @@ use Rattle.dv_conservative.specs.Links.{Link, is_between}
 use Rattle.dv_share.specs.Links.{RiseByPort, RiseBySource, links_of}
 use Rattle.dv_share.specs.declared.link.Link.{Link as CodeLink}
 use Rattle.dv_share.specs.declared.tables.Member.{Member}
-use Rattle.dv_proc.specs.Foreseeing.{ticks_of}
+use Rattle.dv_bag.specs.Responses.{ticks_of}
 use Rattle.dv_plan.specs.Cuts.{owned_by}
 use Rattle.dv_plan.specs.declared.channels.Away.{Away}
 use Rattle.dv_plan.proofs.Rising.{kept_by_port, kept_by_source}

@@ -1,5 +1,5 @@
 use Rattle.std.proofs.Common.{List, ◌++◌, ap, codes, map, string_bytes}
-use Rattle.dv_proc.specs.Foreseeing.{ticks_of}
+use Rattle.dv_bag.specs.Responses.{ticks_of}
 use Rattle.dv_share.specs.Links.{links_of}
 use Rattle.dv_share.specs.declared.link.Link.{Link}
 use Rattle.dv_plan.specs.Texts.{links_text, paths_text, processes_text}

@@ -1,7 +1,7 @@
 use Rattle.std.proofs.Common.{◌∙◌, ℕ, ◌++◌, ◌<◌, List, ap, map, string_bytes, subst}
 use Rattle.std.specs.Prelude.{Option}
 use Rattle.dv_partition.specs.Groups.{members_of}
-use Rattle.dv_proc.specs.Foreseeing.{ticks_of}
+use Rattle.dv_bag.specs.Responses.{ticks_of}
 use Rattle.dv_plan.specs.Texts.{process_text}
 use Rattle.dv_plan.proofs.Texts.{here, next_process, with_value}
 use Rattle.dv_plan.proofs.text.push_processes.Goals as goal

@@ -1,8 +1,8 @@
 use Rattle.std.proofs.Common.{rules, ap, arith, suc, subst, ◌≡◌, ◌∙◌, true, false, sym, Some, refl}
-use Rattle.dv_proc.specs.Foreseeing.{IsOfRunIf, rank_if, ticks_of}
-use Rattle.dv_time.specs.Time.{rank}
+use Rattle.dv_bag.specs.Responses.{ticks_of}
+use Rattle.dv_proc.specs.Foreseeing.{IsOfRunIf, rank_if}
+use Rattle.dv_time.specs.Time.{earlier, rank}
 use Rattle.dv_devs.specs.Behaviour.{is_at}
-use Rattle.dv_devs.specs.NextTimes.{earlier}
 use Rattle.dv_conservative.specs.Promise.{reach}
 use Rattle.dv_proc.proofs.Earliest.{earliest_of_run, earliest_rank}
 use Rattle.dv_proc.proofs.Foreseen.{foreseen_else, foreseen_now}

@@ -12,7 +12,7 @@ use Rattle.dv_tree.specs.Instances.{instances}
 use Rattle.dv_tree.proofs.Limits.{few_components, few_leave, length-leaves}
 use Rattle.dv_run.proofs.Jobs.{job_of_text}
 use Rattle.dv_run.proofs.Lent.{all_lent, as_many, members_lent}
-use Rattle.dv_run.proofs.Lists.{all_ticks, as_many_responses, holds}
+use Rattle.dv_run.proofs.Lists.{as_many_responses, holds}
 use Rattle.dv_run.proofs.text_plan.plan_text.Goals as goal
 
 -- an accepted text has few output ports
@@ -75,7 +75,7 @@ returns c =
       direct = c.in_ok-between.ensures.direct ∙ ap (map direct_of) c.requires.links.direct;
       entrances = c.in_ok-between.ensures.entrances ∙ ap (map entry_of) c.requires.links.entries;
       exits = c.in_ok-between.ensures.exits ∙ ap (map exit_of) c.requires.links.exits;
-      responses = all_ticks c.args.responses.items ∙ c.requires.components.responses;
+      responses = c.requires.components.responses;
       ports = c.input_count.ensures.value;
       outputs = c.output_count.ensures;
     })) c.new.ensures

@@ -28,7 +28,7 @@ join_each-requires-clause-joined g c =
     let handed = g.P.LogicalProcess.handed in
     let w = c.args.world.now in
     let v = c.serial-ended.new.self in
-    let clocks = c.args.backlog.now.clocks in
+    let clocks = c.args.merger.now.backlog.clocks in
     subst (λ (j : Job). AreJoined j (map state v.processes.items) (map handed v.processes.items) clocks) (sym c.requires.job)
     (joined_later means state handed w v c.serial-ended.ensures.handed c.args.rounds c.serial-ended.result
     c.serial-ended.ensures.rounds clocks
@@ -46,7 +46,7 @@ returns-in_err-join_each-clause-true_to_model g c =
 
 pub returns-in_err-join_each-clause-err : goal.returns-in_err-join_each-clause-err
 returns-in_err-join_each-clause-err g c =
-    OnErr-always _ (falters_at_once g.N.OfJob.job c.args.lines.now (g.W.Write.contents c.args.writer.now) c.args.before
+    OnErr-always _ (falters_at_once g.N.OfJob.job c.args.merger.now.lines (g.W.Write.contents c.args.writer.now) c.args.before
     c.args.before.mark (omega arith) c.requires.within)
 
 pub write_all-requires-clause-job : goal.write_all-requires-clause-job

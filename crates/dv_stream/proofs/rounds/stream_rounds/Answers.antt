@@ -11,29 +11,25 @@ use Rattle.dv_stream.specs.Written.{Falters, GoesOn}
 use Rattle.dv_stream.specs.declared.written.Written.{Written}
 use Rattle.dv_stream.proofs.Joining.{none_joined}
 use Rattle.dv_stream.proofs.Rising.{ends_later}
-use Rattle.dv_stream.proofs.Writing.{begun_from, not_begun, nothing_written, written_further}
+use Rattle.dv_stream.proofs.Writing.{begun_from, nothing_written, written_further}
 use Rattle.dv_stream.proofs.rounds.stream_rounds.Goals as goal
 
 abbrev none : Written
 none = record { mark = first_time; faulted = false }
-
-pub returns-in_err-backlog-clause-err : goal.returns-in_err-backlog-clause-err
-returns-in_err-backlog-clause-err g c =
-    OnErr-always _ (not_begun (g.J.PlannedJob.means c.args.world.now.job) c.args.lines.now (g.W.Write.contents c.args.writer.now))
 
 pub advance-requires-clause-joined : goal.advance-requires-clause-joined
 advance-requires-clause-joined g c =
     let state = g.P.LogicalProcess.state in
     let handed = g.P.LogicalProcess.handed in
     let items = c.args.world.now.processes.items in
-    subst (λ (ts : List Time). AreJoined g.N.OfJob.job (map state items) (map handed items) ts) (sym c.in_ok-backlog.ensures.clocks)
+    subst (λ (ts : List Time). AreJoined g.N.OfJob.job (map state items) (map handed items) ts) (sym c.requires.clocks)
     (none_joined g.N.OfJob.job state handed items c.requires.kept c.args.processes c.requires.processes)
 
 pub returns-in_err-ended-clause-err : goal.returns-in_err-ended-clause-err
 returns-in_err-ended-clause-err g c =
     let contents = g.W.Write.contents in
     let job = g.J.PlannedJob.means c.args.world.now.job in
-    let tree = c.args.lines.now in
+    let tree = c.args.merger.now.lines in
     let start = contents c.args.writer.now in
     let now = contents c.advance.new.writer in
     OnErr-always _ (begun_from job tree c.a_trace_is_its_pieces.ensures.lines {a = start} {b = start} {c = now} none
@@ -46,7 +42,7 @@ loop-left-init g c =
     let state = g.P.LogicalProcess.state in
     let contents = g.W.Write.contents in
     let job = means c.args.world.now.job in
-    let tree = c.args.lines.now in
+    let tree = c.args.merger.now.lines in
     let start = contents c.args.writer.now in
     let now = contents c.advance.new.writer in
     let first = c.in_ok-ended in
@@ -76,7 +72,7 @@ pub returns-in_err-ended-2-clause-err : goal.returns-in_err-ended-2-clause-err
 returns-in_err-ended-2-clause-err g c =
     let contents = g.W.Write.contents in
     let job = g.J.PlannedJob.means c.args.world.now.job in
-    let tree = c.args.lines.now in
+    let tree = c.args.merger.now.lines in
     let start = contents c.args.writer.now in
     let was = contents c.loop-left.writer in
     let now = contents c.advance-in-loop-left.new.writer in
@@ -84,7 +80,7 @@ returns-in_err-ended-2-clause-err g c =
     OnErr-always _ (begun_from job tree c.a_trace_is_its_pieces.ensures.lines {a = start} {b = was} {c = now} c.loop-left.written
     at.written
     (subst (λ t. Falters job t was now c.loop-left.written) at.tree
-    (subst (λ (j : Job). Falters j c.loop-left.lines was now c.loop-left.written) c.requires.job c.in_err-ended-2.ensures.err)))
+    (subst (λ (j : Job). Falters j c.loop-left.merger.lines was now c.loop-left.written) c.requires.job c.in_err-ended-2.ensures.err)))
 
 pub loop-left-preserved : goal.loop-left-preserved
 loop-left-preserved g c =
@@ -92,7 +88,7 @@ loop-left-preserved g c =
     let state = g.P.LogicalProcess.state in
     let contents = g.W.Write.contents in
     let job = means c.args.world.now.job in
-    let tree = c.args.lines.now in
+    let tree = c.args.merger.now.lines in
     let start = contents c.args.writer.now in
     let was = contents c.loop-left.writer in
     let now = contents c.advance-in-loop-left.new.writer in
@@ -129,7 +125,7 @@ loop-left-preserved g c =
           written_further job tree c.a_trace_is_its_pieces.ensures.lines {a = start} {b = was} {c = now} c.loop-left.written at.written
           next.field-0-1
           (subst (λ t. GoesOn job t was now c.loop-left.written next.field-0-1) at.tree
-          (subst (λ (j : Job). GoesOn j c.loop-left.lines was now c.loop-left.written next.field-0-1) c.requires.job
+          (subst (λ (j : Job). GoesOn j c.loop-left.merger.lines was now c.loop-left.written next.field-0-1) c.requires.job
           next.ensures.written));
       least = next.ensures.least;
     }

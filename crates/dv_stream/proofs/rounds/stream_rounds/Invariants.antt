@@ -16,13 +16,13 @@ invariant-loop-left g l =
     record {
       left : l.left ≤ l.rounds;
       same : l.world.job ≡ l.fn.world.job;
-      tree : l.lines ≡ l.fn.lines;
-      joined : AreJoined meant (map state items) (map g.P.LogicalProcess.handed items) l.backlog.clocks;
-      mark : l.backlog.mark ≡ l.written.mark;
+      tree : l.merger.lines ≡ l.fn.merger.lines;
+      joined : AreJoined meant (map state items) (map g.P.LogicalProcess.handed items) l.merger.backlog.clocks;
+      mark : l.merger.backlog.mark ≡ l.written.mark;
       within : rank meant.limit l.written.mark ≤ end_of meant.limit meant.horizon;
       rounds : EndsAs job (l.rounds - l.left) l.ended (shown means state l.fn.world) (shown means state l.world);
       true_to_model : IsTrueToModel (means l.world.job) (kept_by state l.world);
-      written : IsWrittenTo job l.fn.lines (g.W.Write.contents l.fn.writer) (g.W.Write.contents l.writer) l.written;
+      written : IsWrittenTo job l.fn.merger.lines (g.W.Write.contents l.fn.writer) (g.W.Write.contents l.writer) l.written;
       least : l.written.mark ≡ least_time (map (λ x. (state x).position.clock) items);
     }
 

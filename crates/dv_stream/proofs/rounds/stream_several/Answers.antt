@@ -11,10 +11,14 @@ use Rattle.dv_plan.specs.Runs.{HasRun}
 use Rattle.dv_plan.specs.declared.ran.Committed.{Committed}
 use Rattle.dv_plan.proofs.Running.{clocks_of_world}
 use Rattle.dv_text.proofs.Taking.{OnErr-always}
-use Rattle.dv_stream.specs.Written.{IsWrittenTo}
+use Rattle.dv_stream.specs.Written.{IsBegun, IsWrittenTo}
 use Rattle.dv_stream.proofs.Worlds.{are_clocks_in, clocks_in, least_within}
 use Rattle.dv_stream.proofs.Writing.{begun_to, not_begun}
 use Rattle.dv_stream.proofs.rounds.stream_several.Goals as goal
+
+pub returns-in_err-backlog-clause-err : goal.returns-in_err-backlog-clause-err
+returns-in_err-backlog-clause-err g c =
+    OnErr-always _ (not_begun (g.J.PlannedJob.means c.args.job) c.args.words.now (g.W.Write.contents c.args.writer.now))
 
 pub returns-in_err-lines-clause-err : goal.returns-in_err-lines-clause-err
 returns-in_err-lines-clause-err g c =
@@ -31,6 +35,16 @@ pub stream_rounds-requires-clause-kept : goal.stream_rounds-requires-clause-kept
 stream_rounds-requires-clause-kept g c =
     All-weaker (λ p. g.K.Record.handed p.local.record ≡ no_text) (λ p. (g.K.Record.handed p.local.record).past ≡ nothing)
     (λ p same. ap (λ (h : Handed). h.past) same) c.in_ok-world.world.processes.items c.in_ok-world.ensures.handed
+
+pub returns-in_err-ended-clause-err : goal.returns-in_err-ended-clause-err
+returns-in_err-ended-clause-err g c =
+    let means = g.J.PlannedJob.means in
+    let contents = g.W.Write.contents in
+    let start = contents c.args.writer.now in
+    let now = contents c.stream_rounds.new.writer in
+    let first : c.in_ok-world.world.job ≡ c.args.job = c.in_ok-world.ensures.job in
+    OnErr-always _ (subst (λ j. IsBegun (means j) c.args.words.now start now) first
+    (subst (λ t. IsBegun (means c.in_ok-world.world.job) t start now) c.in_ok-lines.ensures c.in_err-ended.ensures.err))
 
 pub returns-in_err-clocks-clause-err : goal.returns-in_err-clocks-clause-err
 returns-in_err-clocks-clause-err g c =

@@ -9,7 +9,7 @@ use Rattle.dv_stream.proofs.rounds.write_all.Goals as goal
 
 pub returns-in_err-pieces-clause-err : goal.returns-in_err-pieces-clause-err
 returns-in_err-pieces-clause-err g c =
-    OnErr-always _ (falters_at_once g.N.OfJob.job c.args.lines.now (g.W.Write.contents c.args.writer.now) c.args.before
+    OnErr-always _ (falters_at_once g.N.OfJob.job c.args.merger.now.lines (g.W.Write.contents c.args.writer.now) c.args.before
     c.args.before.mark (omega arith) c.requires.within)
 
 pub write_merged-requires-clause-pieces : goal.write_merged-requires-clause-pieces
@@ -24,5 +24,5 @@ write_merged-requires-clause-pieces g c =
 pub returns-clause-ok : goal.returns-clause-ok
 returns-clause-ok g c =
     let contents = g.W.Write.contents in
-    subst (λ (j : Job). GoesOn j c.args.lines.now (contents c.args.writer.now) (contents c.write_merged.new.writer) c.args.before
+    subst (λ (j : Job). GoesOn j c.args.merger.now.lines (contents c.args.writer.now) (contents c.write_merged.new.writer) c.args.before
     c.in_ok-written.written) (sym c.requires.job) c.in_ok-written.ensures.ok

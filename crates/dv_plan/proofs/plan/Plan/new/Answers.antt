@@ -8,7 +8,7 @@ use Rattle.dv_conservative.specs.Responses.{least_response}
 use Rattle.dv_share.specs.Indices.{AreRising}
 use Rattle.dv_share.specs.Share.{numbers_of}
 use Rattle.dv_share.specs.declared.tables.Member.{Member}
-use Rattle.dv_proc.specs.Foreseeing.{ticks_of}
+use Rattle.dv_bag.specs.Responses.{ticks_of}
 use Rattle.dv_partition.specs.Groups.{owner_of}
 use Rattle.dv_partition.specs.Limits.{greatest_processes}
 use Rattle.dv_proc.specs.Channels.{meant_channel}

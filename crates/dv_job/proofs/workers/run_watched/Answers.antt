@@ -2,11 +2,11 @@ use Rattle.std.proofs.Common.{Err, Ok}
 use Rattle.std.proofs.lemmas.Result.{err_from_is_err_and}
 use Rattle.dv_job.proofs.Ran.{if_it_was_left, if_workers_ended, left_by_answer, left_by_cut}
 use Rattle.dv_job.proofs.Ran.{told_where_stopped}
-use Rattle.dv_job.proofs.workers.work_tree.Goals as goal
+use Rattle.dv_job.proofs.workers.run_watched.Goals as goal
 
 pub returns-in_err-links-clause-error : goal.returns-in_err-links-clause-error
 returns-in_err-links-clause-error g c =
-    let p = err_from_is_err_and c.from_residual.result c.from_residual.ensures.1 in
+    let p = err_from_is_err_and c.from_residual-in_err-links.result c.from_residual-in_err-links.ensures.1 in
     rw (p.1, p.2) (left_by_answer c.in_err-links.field-0.0 _ _ _ c.args.options.now _ c.in_err-links.ensures.error)
 
 pub returns-in_err-ran-clause-error : goal.returns-in_err-ran-clause-error

@@ -1,0 +1,13 @@
+//! Visits to components.
+
+use crate::index::Indexed;
+use dv_bag::Bags;
+
+/// A visit to a component that emitted or receives something at an instant.
+#[derive(Clone, Copy)]
+pub struct Visit<'a> {
+    /// What arrived at the component's index.
+    pub arrival: &'a Indexed<Bags>,
+    /// The cursor of the first emission that does not stand before that index.
+    pub cursor: usize,
+}
