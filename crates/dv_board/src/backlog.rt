@@ -163,6 +163,15 @@ impl<N: OfJob> Backlog<N> {
         Ok(clocks)
     }
 
+    /// How many entries of a process are kept; 0 for a number that is none of the job's. Of a process with the least clock there are none
+    /// after `let_go`.
+    pub fn entry_count(&self, process: u32) -> usize {
+        match self.held.get(process as usize) {
+            Some(held) => held.part.entry_count(),
+            None => 0,
+        }
+    }
+
     /// Joins a piece. What is kept already is not joined again, and the clock that is kept becomes the later of the two.
     ///
     /// # Errors

@@ -41,7 +41,7 @@ pub struct Signals<N: OfJob> {
     pub stop: Flag,
     /// The bells of the workers.
     pub bells: Vec<Bell>,
-    /// How much of each process is posted and not taken yet.
+    /// How much of each process is posted and not written yet.
     pub leads: Leads,
 }
 
@@ -58,7 +58,7 @@ impl<N: OfJob> Signals<N> {
     /// # Errors
     ///
     /// No memory for the bells and the leads.
-    pub fn new(alloc: Global, processes: usize, workers: usize) -> Result<Self, AllocError>
+    pub fn new(alloc: Global, processes: u32, workers: usize) -> Result<Self, AllocError>
         ensures { IfOk result (λ signals. length signals.bells.items ≡ workers) }
     {
         Ok(Signals {
@@ -108,11 +108,18 @@ impl<N: OfJob> Signals<N> {
         self.stop.raise(rt, &self.bells);
     }
 
-    /// Tells the workers that pieces were taken off the board.
+    /// Counts what was taken off the board.
     pub fn note_taken(&self, pieces: &[Piece<N>]) {
-        let mut may_go_on = false;
         for piece in pieces {
-            if self.leads.take_off(piece.process, piece.part.entry_count()) {
+            self.leads.take(piece.process, piece.part.entry_count());
+        }
+    }
+
+    /// Tells the workers how much of what was taken is still kept.
+    pub fn note_kept(&self, backlog: &Backlog<N>) {
+        let mut may_go_on = false;
+        for process in 0..self.leads.processes() {
+            if self.leads.keep(process, backlog.entry_count(process)) {
                 may_go_on = true;
             }
         }
@@ -161,8 +168,8 @@ fn write_known<N: OfJob, W: Write>(
     Ok(Some(written))
 }
 
-/// Writes what a backlog has of the trace from what was written on, and lets go of it. Where nothing more is known, or there is no
-/// memory to put it together, it goes on as it was.
+/// Writes what a backlog has of the trace from what was written on, and lets go of it. None where there is no memory to put that
+/// together; nothing is written then.
 ///
 /// # Errors
 ///
@@ -171,31 +178,30 @@ pub(crate) fn write_joined<N: OfJob, W: Write>(
     merger: &mut Merger<'_, N>,
     before: Written,
     writer: &mut W,
-) -> Result<Written, WriteError>
+) -> Result<Option<Written>, WriteError>
     requires of_run { IsOfRun N.job.limit before.mark }
     requires within { rank N.job.limit before.mark ≤ end_of N.job.limit N.job.horizon }
     ensures tree { merger.new.lines ≡ merger.old.lines }
-    ensures ok { IfOk result (GoesOn N.job merger.old.lines
-        (W.contents writer.old) (W.contents writer.new) before) }
-    ensures within { IfOk result (λ after.
-        rank N.job.limit after.mark ≤ end_of N.job.limit N.job.horizon) }
+    ensures some { IfOk result (λ written. IfSome written (GoesOn N.job merger.old.lines
+        (W.contents writer.old) (W.contents writer.new) before)) }
+    ensures none { IfOk result (λ written. IfNone written
+        (W.contents writer.new ≡ W.contents writer.old)) }
+    ensures within { IfOk result (λ written. IfSome written (λ after.
+        rank N.job.limit after.mark ≤ end_of N.job.limit N.job.horizon)) }
     ensures err { OnErr result (Falters N.job merger.old.lines
         (W.contents writer.old) (W.contents writer.new) before) }
 {
-    // What nothing is added to goes on at once.
-    a_trace_is_its_pieces::<Bags>();
     let alloc = merger.alloc;
-    match write_known(alloc, &merger.backlog, before, &mut merger.lines, writer)? {
-        Some(written) => {
-            merger.backlog.let_go(written.mark);
-            Ok(written)
-        }
-        None => Ok(before),
+    let known = write_known(alloc, &merger.backlog, before, &mut merger.lines, writer)?;
+    if let Some(written) = known {
+        merger.backlog.let_go(written.mark);
     }
+    Ok(known)
 }
 
-// Takes off the board what was posted, writes what is then known of the trace, and lets go of it. Where a piece is lost the run is to
-// end, since the trace has a gap there.
+// Takes off the board what was posted, writes what is then known of the trace, lets go of it, and tells the workers. Where a piece is
+// lost the run is to end, since the trace has a gap there; and where nothing can be put together, since processes that are held back
+// would wait for what is written.
 fn write_posted<N: OfJob, R: Wait, W: Write>(
     rt: &R,
     signals: &Signals<N>,
@@ -213,12 +219,19 @@ fn write_posted<N: OfJob, R: Wait, W: Write>(
     ensures err { OnErr result (Falters N.job merger.old.lines
         (W.contents writer.old) (W.contents writer.new) before) }
 {
+    // What nothing is added to goes on at once.
+    a_trace_is_its_pieces::<Bags>();
     let pieces = signals.board.take(rt, merger.alloc);
     signals.note_taken(&pieces);
     if merger.backlog.extend_all(pieces).is_err() {
         signals.stop(rt);
     }
-    write_joined(merger, before, writer)
+    let Some(written) = write_joined(merger, before, writer)? else {
+        signals.stop(rt);
+        return Ok(before);
+    };
+    signals.note_kept(&merger.backlog);
+    Ok(written)
 }
 
 /// Writes the trace of a job, with the names of a tree, as its workers post it, until their run has ended: at each ring for news

@@ -17,10 +17,12 @@ use crate::merged::Merger;
 use crate::news::write_joined;
 use crate::ran::{RunEnded, Why};
 use crate::written::Written;
+use dv_bag::Bags;
 use dv_board::{Board, Piece};
 use dv_plan::least::least_clock;
 use dv_proc::window::is_same;
 use dv_text::WriteError;
+use dv_text::laws::a_trace_is_its_pieces;
 use dv_time::Time;
 use dv_work::Ended;
 use dv_written::OfJob;
@@ -63,7 +65,12 @@ pub fn write_rest<N: OfJob, R: Wait, W: Write>(
     // Where a piece is lost, the clocks up to which the processes are kept tell it.
     let _ = merger.backlog.extend_all(board.take(rt, merger.alloc));
     let _ = merger.backlog.extend_all(rest);
-    write_joined(merger, before, writer)
+    // What nothing is added to goes on at once.
+    a_trace_is_its_pieces::<Bags>();
+    match write_joined(merger, before, writer)? {
+        Some(written) => Ok(written),
+        None => Ok(before),
+    }
 }
 
 /// The clocks of processes whose trace was written up to a mark: those up to which they are kept, if the mark is the least of them.

@@ -1,9 +1,7 @@
 -- How a run ends, by the halts of its workers.
-use Rattle.std.proofs.Common.{◌≡◌, ◌≢◌, Bool, true, false, ◌||◌, List, [], ◌∷◌, ◌++◌, map, Option, Some, None, IsSome, is_some}
+use Rattle.std.proofs.Common.{◌≡◌, Bool, true, false, List, [], ◌∷◌, ◌++◌, map, Option, Some, None, IsSome, is_some}
 use Rattle.std.proofs.Common.{refl, sym, ap, ◌∙◌, append_assoc}
 use Rattle.std.proofs.lemmas.List.{map-append}
-use Rattle.std.specs.List.{list_any}
-use Rattle.dv_work.specs.declared.report.Ended.{Ended}
 use Rattle.dv_work.specs.declared.report.Ended.TheVariants as ended
 use Rattle.dv_work.specs.declared.worker.Halt.{Halt}
 use Rattle.dv_work.specs.declared.worker.Worked.{Worked}

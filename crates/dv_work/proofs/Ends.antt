@@ -1,11 +1,10 @@
 -- What one take and one put leave of the end of a link.
 use Rattle.std.proofs.Common.{◌≡◌, ℕ, ◌<◌, List, ◌++◌, length, Option, Some, None, MatchOption, refl, sym, ap, ◌∙◌, subst}
 use Rattle.std.specs.Prelude.{slice_index_or}
-use Rattle.std.specs.List.{slice_get}
 use Rattle.std.proofs.lemmas.Option.{slice_get_read, slice_get_within}
 use Rattle.dv_conservative.specs.Process.{first_time}
 use Rattle.dv_conservative.specs.True.{AreTrue}
-use Rattle.dv_conservative.specs.World.{Channel, Job}
+use Rattle.dv_conservative.specs.World.{Job}
 use Rattle.dv_proc.specs.Packets.{meant_packet, meant_packets}
 use Rattle.dv_proc.specs.declared.packet.Packet.{Packet}
 use Rattle.dv_link.specs.Carries.{AreTrueOn, IsNextOn}

@@ -29,9 +29,11 @@ use Rattle.dv_link.specs.declared.link.Link.{Link}
 use Rattle.dv_work.specs.Ends.{IsIn, IsOut, taken}
 use Rattle.dv_work.specs.Making.{AreNew, AreSeated, IsNewIn, IsNewOut, IsSeat, no_links}
 use Rattle.dv_work.specs.Seats.{AreIns, AreOuts, Gives, Sits, prepared}
+use Rattle.dv_work.specs.declared.pause.Pause.TheVariants.{Over}
 use Rattle.dv_work.specs.declared.seat.In.{In}
 use Rattle.dv_work.specs.declared.seat.Out.{Out}
 use Rattle.dv_work.specs.declared.seat.Seat.{Seat}
+use Rattle.dv_work.proofs.Sitting.{seat_with}
 
 -- reading a list with one item more
 pub get_snoc : {X : Type 0} (xs : List X) (v : X) (k : ℕ) (y : X) → slice_get (xs ++ v ∷ []) k ≡ Some y
@@ -99,7 +101,7 @@ module _ {N P : Type 0} (job : Job) (state : P → ProcessState) (handed : P →
   -- a new process, before any link is made
   pub new_seat : (processes : List P) → AreNew job state handed IsValid processes → (p : ℕ) (x : P) → slice_get processes p ≡ Some x
       → (outs : Vec Out Global) (ins : Vec In Global) → outs.items ≡ [] → ins.items ≡ []
-      → IsSeat job state handed IsValid (no_links {N = N}) 0 0 (let s : Seat P = record { number = p; process = x; outs = outs; ins = ins; posted = first_time } in s)
+      → IsSeat job state handed IsValid (no_links {N = N}) 0 0 (let s : Seat P = record { number = p; process = x; outs = outs; ins = ins; posted = first_time; pause = Over } in s)
   new_seat processes new p x at outs ins no_outs no_ins =
       let one = new.shares p x at in
       let fresh = one.1 in
@@ -206,7 +208,7 @@ module _ {N P : Type 0} (job : Job) (state : P → ProcessState) (handed : P →
     pub with_out : (b : ℕ) (o : Out) → IsSeat job state handed IsValid links o.number b s → IsNewOut job links s.number o
         → (outs : Vec Out Global) → outs.items ≡ s.outs.items ++ o ∷ []
         → IsSeat job state handed IsValid links (o.number + 1) b
-        (let t : Seat P = record { number = s.number; process = s.process; outs = outs; ins = s.ins; posted = s.posted } in t)
+        (seat_with s s.process outs s.ins s.pause)
     with_out b o is new outs items =
         let was = is.sits.outs in
         let ends = λ (i : ℕ) (q : Out) (e : slice_get (s.outs.items ++ o ∷ []) i ≡ Some q). by_end i q (get_snoc s.outs.items o i q e) in
@@ -247,7 +249,7 @@ module _ {N P : Type 0} (job : Job) (state : P → ProcessState) (handed : P →
     pub with_in : (a : ℕ) (d : In) → IsSeat job state handed IsValid links a d.number s → IsNewIn job links d
         → (ins : Vec In Global) → ins.items ≡ s.ins.items ++ d ∷ []
         → IsSeat job state handed IsValid links a (d.number + 1)
-        (let t : Seat P = record { number = s.number; process = s.process; outs = s.outs; ins = ins; posted = s.posted } in t)
+        (seat_with s s.process s.outs ins s.pause)
     with_in a d is new ins items =
         let was = is.sits.ins in
         let ends = λ (i : ℕ) (q : In) (e : slice_get (s.ins.items ++ d ∷ []) i ≡ Some q). by_end i q (get_snoc s.ins.items d i q e) in

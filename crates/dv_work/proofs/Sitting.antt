@@ -1,8 +1,7 @@
 -- What becomes of a process with its ends when a packet comes or leaves, and when it takes a turn.
-use Rattle.std.proofs.Common.{◌≡◌, ℕ, ◌<◌, ◌≤◌, IfOk, OnErr, Bool, true, false, nat_eq, List, [], ◌∷◌, ◌++◌, length, Some, refl, sym, ap, subst, ◌∙◌, arith}
+use Rattle.std.proofs.Common.{◌≡◌, ℕ, ◌<◌, ◌≤◌, Bool, true, false, nat_eq, List, [], ◌∷◌, ◌++◌, length, Some, refl, sym, ap, subst, ◌∙◌, arith}
 use Rattle.std.specs.List.{All, list_any, slice_get}
 use Rattle.std.proofs.lemmas.List.Elements.{All-weaker}
-use Rattle.std.specs.Prelude.{Err, Ok, Result}
 use Rattle.std.proofs.Math.ListN.{set}
 use Rattle.std.specs.declared.alloc.Global.{Global}
 use Rattle.std.specs.declared.vec.Vec.{Vec}
@@ -17,14 +16,13 @@ use Rattle.dv_conservative.specs.World.{Channel, Job, owned, share_of}
 use Rattle.dv_conservative.proofs.Local.{same_number}
 use Rattle.dv_core.specs.ProcessState.{IsReceived, IsSent, IsTurned, ProcessState}
 use Rattle.dv_core.proofs.Lookups.{number_itself, set_each, set_other, set_same}
-use Rattle.dv_proc.specs.Midway.{meant_turned}
-use Rattle.dv_proc.specs.declared.process.Turned.{Turned as TurnedOfCode}
 use Rattle.dv_link.specs.Carries.{AreTrueOn}
 use Rattle.dv_link.specs.declared.link.Link.{Link}
 use Rattle.dv_record.specs.Told.{Handed}
 use Rattle.dv_work.specs.Ends.{IsIn, IsOut, given, taken}
 use Rattle.dv_work.specs.Seats.{AreIns, AreOuts, Gives, HasHandedOver, HasTold, HasToldAll, HoldsNone, IsEmptied, IsFedTruly}
 use Rattle.dv_work.specs.Seats.{Reports, Sits, holds_packet}
+use Rattle.dv_work.specs.declared.pause.Pause.{Pause}
 use Rattle.dv_work.specs.declared.seat.In.{In}
 use Rattle.dv_work.specs.declared.seat.Out.{Out}
 use Rattle.dv_work.specs.declared.seat.Seat.{Seat}
@@ -101,6 +99,17 @@ module _ {N : Type 0} (job : Job) (links : List (Link N)) where
       → AreOuts job links p x outs → AreOuts job links p y outs
   outs_same p x y outs keeps are = record { ends = are.ends; gives = λ i o at. keeps o (are.gives i o at); apart = are.apart }
 
+-- a process with other ends
+abbrev pub seat_with : {P : Type 0} → Seat P → P → Vec Out Global → Vec In Global → Pause → Seat P
+seat_with s process outs ins pause = record {
+  number = s.number;
+  process = process;
+  outs = outs;
+  ins = ins;
+  posted = s.posted;
+  pause = pause;
+}
+
 module _ {N P : Type 0} (job : Job) (state : P → ProcessState) (handed : P → Handed) (IsValid : P → Type 0) (links : List (Link N)) (s : Seat P)
     (sits : Sits job state handed IsValid links s) where
   abbrev x : ProcessState
@@ -134,7 +143,7 @@ module _ {N P : Type 0} (job : Job) (state : P → ProcessState) (handed : P →
   pub reports_same : (process : P) (outs : Vec Out Global) (ins : Vec In Global) → IsValid process → handed process ≡ handed s.process
       → state process ≡ x
       → Reports job state handed IsValid
-      (let t : Seat P = record { number = s.number; process = process; outs = outs; ins = ins; posted = s.posted } in t)
+      (seat_with s process outs ins s.pause)
   reports_same process outs ins valid kept same = record {
     valid = valid;
     there = reports.there;
@@ -146,9 +155,8 @@ module _ {N P : Type 0} (job : Job) (state : P → ProcessState) (handed : P →
   }
 
   module _ (process : P) (valid : IsValid process) (kept : handed process ≡ handed s.process) where
-    same_sits : state process ≡ x
-        → Sits job state handed IsValid links (let t : Seat P = record { number = s.number; process = process; outs = s.outs; ins = s.ins; posted = s.posted } in t)
-    same_sits same = record {
+    pub same_sits : (pause : Pause) → state process ≡ x → Sits job state handed IsValid links (seat_with s process s.outs s.ins pause)
+    same_sits pause same = record {
       valid = valid;
       fed = subst (IsFedTruly job s.number) (sym same) sits.fed;
       outs = subst (λ (y : ProcessState). AreOuts job links s.number y s.outs.items) (sym same) sits.outs;
@@ -156,9 +164,9 @@ module _ {N P : Type 0} (job : Job) (state : P → ProcessState) (handed : P →
       posted = posted_same process kept (ap (λ (y : ProcessState). y.position.clock) same);
     }
 
-    pub turned_sits : (answer : Turned) → IsTurned answer x (state process)
-        → Sits job state handed IsValid links (let t : Seat P = record { number = s.number; process = process; outs = s.outs; ins = s.ins; posted = s.posted } in t)
-    turned_sits answer turned = record {
+    pub turned_sits : (pause : Pause) (answer : Turned) → IsTurned answer x (state process)
+        → Sits job state handed IsValid links (seat_with s process s.outs s.ins pause)
+    turned_sits pause answer turned = record {
       valid = valid;
       fed = turned_fed job s.number x sits.fed (state process) answer turned;
       outs = outs_same job links s.number x (state process) s.outs.items
@@ -171,13 +179,6 @@ module _ {N P : Type 0} (job : Job) (state : P → ProcessState) (handed : P →
       };
       posted = posted_later process kept (turned_later job s.number x sits.fed (state process) answer turned);
     }
-
-    -- a turn, or none since memory ran out
-    pub after_turn : {E : Type 0} (r : Result TurnedOfCode E) → IfOk r (λ a. IsTurned (meant_turned a) x (state process))
-        → OnErr r (state process ≡ x)
-        → Sits job state handed IsValid links (let t : Seat P = record { number = s.number; process = process; outs = s.outs; ins = s.ins; posted = s.posted } in t)
-    after_turn (Ok a) made unmade = turned_sits (meant_turned a) made
-    after_turn (Err e) made unmade = same_sits unmade
 
   -- a packet is taken and received
   module _ (i : ℕ) (e d : In) (there : slice_get s.ins.items i ≡ Some e) (number : d.number ≡ e.number) (end : IsIn links d) where
@@ -202,7 +203,7 @@ module _ {N P : Type 0} (job : Job) (state : P → ProcessState) (handed : P →
           (subst (λ (n : ℕ). AreTrue job n channel first_time (taken d)) number truth.truth))
 
       pub took_sits : IsValid process → handed process ≡ handed s.process → (ins : Vec In Global) → ins.items ≡ set s.ins.items i d
-          → Sits job state handed IsValid links (let t : Seat P = record { number = s.number; process = process; outs = s.outs; ins = ins; posted = s.posted } in t)
+          → Sits job state handed IsValid links (seat_with s process s.outs ins s.pause)
       took_sits valid kept ins is = record {
         valid = valid;
         fed = received_fed job s.number x sits.fed (state process) packet got e.number channel at_channel all_true;
@@ -226,7 +227,7 @@ module _ {N P : Type 0} (job : Job) (state : P → ProcessState) (handed : P →
 
     pub sent_sits : (process : P) (packet : Packet) → IsSent o.number x (state process) → x.position.standing o.number ≡ Some packet
         → given q ≡ given o ++ packet ∷ [] → IsValid process → handed process ≡ handed s.process → (outs : Vec Out Global) → outs.items ≡ set s.outs.items i q
-        → Sits job state handed IsValid links (let t : Seat P = record { number = s.number; process = process; outs = outs; ins = s.ins; posted = s.posted } in t)
+        → Sits job state handed IsValid links (seat_with s process outs s.ins s.pause)
     sent_sits process packet sent stood more valid kept outs is = record {
       valid = valid;
       fed = sent_fed job s.number x sits.fed (state process) o.number sent;

@@ -70,6 +70,10 @@ HasToldAll state s = HasToldAtFirst state (length s.outs.items) s
 abbrev pub holds_packet : Out → Bool
 holds_packet o = is_some o.held
 
+-- whether a packet stands for the link of an end
+abbrev pub stands_in : ProcessState → Out → Bool
+stands_in x o = is_some (x.position.standing o.number)
+
 -- no end of a process holds one
 abbrev pub HoldsNone : {P : Type 0} → Seat P → Type 0
 HoldsNone s = list_any holds_packet s.outs.items ≡ false

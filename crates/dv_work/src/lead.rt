@@ -1,4 +1,4 @@
-//! How much of what processes posted waits to be taken.
+//! How much of what processes posted is not written yet.
 
 ghost use Rattle.std.specs.Prelude.{◌≡◌, IfOk, length};
 
@@ -6,18 +6,20 @@ use std::alloc::{AllocError, Global};
 use std::marker::Model;
 use std::sync::atomic::{AtomicUsize, Ordering};
 
-// The most entries of all processes together that may wait. They take megabytes, whatever the length of the run, and are many times
-// what a worker posts at once, so that a writer that keeps up holds nobody back.
-const ENTRIES_OF_ALL: usize = 65_536;
+// The most entries of all processes together that may wait to be written. They take megabytes, whatever the length of the run, and are
+// many times what a worker posts at once, so that a writer that keeps up holds nobody back.
+const ENTRIES_OF_ALL: usize = 16_384;
 
 // So many entries of each process may wait, however many processes there are. With fewer, workers would sleep and wake at almost each
 // look of the writer.
 const ENTRIES_OF_EACH: usize = 1_024;
 
-/// How many entries a process has posted that nobody has taken yet.
+/// How many entries a process has posted that are not written and let go of yet.
 #[derive(Drop)]
 pub struct Lead {
     entries: AtomicUsize,
+    // How many of them were taken. Only whoever takes changes it.
+    taken: AtomicUsize,
 }
 
 impl Lead {
@@ -25,6 +27,7 @@ impl Lead {
     pub fn new() -> Lead {
         Lead {
             entries: AtomicUsize::new(0),
+            taken: AtomicUsize::new(0),
         }
     }
 
@@ -38,9 +41,21 @@ impl Lead {
         self.entries.fetch_add(entries, Ordering::SeqCst);
     }
 
-    /// So many of them were taken. Returns how many there were before, in the same step.
-    pub fn take_off(&self, entries: usize) -> usize {
-        self.entries.fetch_sub(entries, Ordering::SeqCst)
+    /// So many of them were taken.
+    pub fn take(&self, entries: usize) {
+        self.taken.fetch_add(entries, Ordering::SeqCst);
+    }
+
+    /// Of those that were taken so many are kept, and the others were let go. Returns how many there were before and how many were
+    /// let go, in the same step.
+    pub fn keep(&self, kept: usize) -> (usize, usize) {
+        let taken = self.taken.load(Ordering::SeqCst);
+        let gone = taken.saturating_sub(kept);
+        if gone == 0 {
+            return (self.entries(), 0);
+        }
+        self.taken.store(kept, Ordering::SeqCst);
+        (self.entries.fetch_sub(gone, Ordering::SeqCst), gone)
     }
 }
 
@@ -49,6 +64,7 @@ impl Lead {
 #[derive(Drop)]
 pub struct Leads {
     leads: Vec<Lead>,
+    processes: u32,
     most: usize,
 }
 
@@ -61,15 +77,15 @@ impl Model for Leads {
 }
 
 // The most entries of each of so many processes that may wait.
-fn most_of(processes: usize) -> usize {
-    (ENTRIES_OF_ALL / processes.max(1)).max(ENTRIES_OF_EACH)
+fn most_of(processes: u32) -> usize {
+    (ENTRIES_OF_ALL / processes.max(1) as usize).max(ENTRIES_OF_EACH)
 }
 
 // The leads of so many processes that have posted nothing.
-fn new_leads(alloc: Global, processes: usize) -> Result<Vec<Lead>, AllocError>
+fn new_leads(alloc: Global, processes: u32) -> Result<Vec<Lead>, AllocError>
     ensures { IfOk result (λ leads. length leads.items ≡ processes) }
 {
-    let mut leads = Vec::with_capacity(alloc, processes)?;
+    let mut leads = Vec::with_capacity(alloc, processes as usize)?;
     for _process in 0..processes {
         leads.push(Lead::new())?;
     }
@@ -82,21 +98,32 @@ impl Leads {
     /// # Errors
     ///
     /// No memory for so many.
-    pub fn new(alloc: Global, processes: usize) -> Result<Self, AllocError>
+    pub fn new(alloc: Global, processes: u32) -> Result<Self, AllocError>
         ensures count { IfOk result (λ leads. leads ≡ processes) }
     {
         Ok(Leads {
             leads: new_leads(alloc, processes)?,
+            processes,
             most: most_of(processes),
         })
     }
 
-    /// Whether more of a process waits than may.
-    pub fn is_long(&self, process: u32) -> bool {
+    /// How many processes there are.
+    pub fn processes(&self) -> u32 {
+        self.processes
+    }
+
+    /// Whether so much of a process waits that it is held back: more than may, or still more than half of that, if it is held back already.
+    pub fn is_long(&self, process: u32, is_held_back: bool) -> bool {
         let Some(lead) = self.leads.get(process as usize) else {
             return false;
         };
-        lead.entries() > self.most
+        let most = if is_held_back {
+            self.most / 2
+        } else {
+            self.most
+        };
+        lead.entries() > most
     }
 
     /// So many entries of a process are posted.
@@ -107,13 +134,22 @@ impl Leads {
         lead.add(entries);
     }
 
-    /// So many entries of a process were taken. Tells whether more of it waited than may, and does not any more:
-    /// its worker may wait for that at its bell.
-    pub fn take_off(&self, process: u32, entries: usize) -> bool {
+    /// So many entries of a process were taken.
+    pub fn take(&self, process: u32, entries: usize) {
+        let Some(lead) = self.leads.get(process as usize) else {
+            return;
+        };
+        lead.take(entries);
+    }
+
+    /// Of the entries of a process that were taken so many are kept, and the others were let go. Tells whether more than half of what
+    /// may wait of it waited, and does not any more: its worker may wait for that at its bell.
+    pub fn keep(&self, process: u32, kept: usize) -> bool {
         let Some(lead) = self.leads.get(process as usize) else {
             return false;
         };
-        let before = lead.take_off(entries);
-        before > self.most && before.saturating_sub(entries) <= self.most
+        let (before, gone) = lead.keep(kept);
+        let half = self.most / 2;
+        before > half && before.saturating_sub(gone) <= half
     }
 }

@@ -13,10 +13,10 @@
 //!
 //! A worker reads the count of its bell, then visits all its processes, and waits only while the count is still the one that it read.
 //! What would give it work is a packet that is put on a link to one of its processes, room on a full link that leads away from one, a
-//! lead of one that was too long and is not any more, or the flag. Whoever puts a packet does so first and rings the receiver's bell
-//! after it; whoever takes one from a link whose sender asked for room (`Room`) rings the sender's bell after it, and a sender that
-//! finds its link full asks for room before it tries once more; whoever takes pieces takes them off the leads first and rings after
-//! it; the flag is set before all bells ring. So what a visit missed came after the count was read, and its ring has raised the count
+//! lead that was too long and has fallen to half of what may wait, or the flag. Whoever puts a packet does so first and rings the
+//! receiver's bell after it; whoever takes one from a link whose sender asked for room (`Room`) rings the sender's bell after it, and a
+//! sender that finds its link full asks for room before it tries once more; whoever lets go of what was written takes it off the leads
+//! first and rings after it; the flag is set before all bells ring. So what a visit missed came after the count was read, and its ring has raised the count
 //! or will. Who is about to sleep says so first and looks at the count after it; who rings raises the count first and looks for
 //! sleepers after it. All of these are steps in one order that all threads see, so at least one of the two sees the other: the one
 //! does not fall asleep, or the other wakes it.
@@ -26,24 +26,28 @@
 //! leads away all that was prepared, null messages too, was put, or a packet is held: so much is proved. A visit tries to put what
 //! is held, so it found its queue full. So all that was prepared was put, and all that was put was taken. Of the processes that
 //! are not at the end, take one with the least clock. Its channel clocks are past it, since each sender's clock is not before it
-//! and a turn promises past the clock that it leaves; so its next turn moves it, and its worker does not wait, unless the process
-//! makes no turn since too much of what it posted waits to be taken. That ends, as the next section says.
+//! and a turn before which nothing stands for a link promises there past the clock that it leaves. The last turn of each sender was such
+//! a turn: a worker waits only after visits in which nothing was put, and a process that is held back makes such a turn first (`Pause`).
+//! So the next turn of the process with the least clock moves it, and its worker does not wait, unless the process is held back. That
+//! ends, as the next section says.
 //!
 //! The caller of a streamed run may stop it by a flag of its own, after which it rings all bells. Each worker looks at the flag at
 //! each visit. One that sees it ends and raises the workers' flag, at which the others wake.
 //!
-//! # When a process makes no turn
+//! # When a process is held back
 //!
-//! Workers commit faster than one thread can merge and write, so what was posted and is not taken would grow with the run. So the
-//! lead of each process is counted: the entries that it has posted and nobody has taken. While somebody takes pieces, a process whose
-//! lead is too long makes no turn. Its worker still takes packets for it and puts what it prepared, and waits at the bell where nothing
-//! else moved.
+//! Workers commit faster than one thread can merge and write, and processes that hardly depend on each other run ahead of one another,
+//! while only what is before the least clock can be written. So what waits would grow with the run. Therefore the lead of each process is
+//! counted: the entries that it has posted and that are not written and let go of yet. While somebody takes pieces, a process whose lead
+//! is too long is held back, until it has fallen to half. Its worker still takes packets for it and puts what it prepared, and waits at
+//! the bell where nothing else moved. Such a process makes one turn more, once nothing stands for its links, and none after that.
 //!
-//! No process waits so for ever, if whoever takes pieces looks after each ring of the news, and takes all that is posted off the board
-//! and off the leads before it waits for anything else. For what a worker posts is followed by a ring of the news, and the piece is
-//! taken whatever other processes do. Only the worker of a process adds to its lead, before it posts the piece, and what is taken off
-//! tells in the same step how much there was: so a lead that its worker saw too long falls once, at one call, which tells it, and
-//! after which the bells ring.
+//! No process is held back for ever, if whoever takes pieces does so after each ring of the news, and then writes all that is before the
+//! least clock, lets go of it and takes it off the leads, before it waits for anything else. For a worker posts before it sleeps, and the
+//! news ring after that. So if all workers slept, all that was committed would be taken, and of the process with the least clock all would
+//! be written: its lead would be none. Only the worker of a process adds to its lead, before it posts the piece, and what was let go is
+//! taken off in one step that tells how much there was. So a lead that its worker saw too long falls to half at one call, which tells
+//! it, and after which the bells ring.
 //!
 //! # When a null message is put
 //!
@@ -60,11 +64,12 @@
 //! is gone, and the run ends.
 //!
 //! A worker posts all its processes after the rounds 1, 2, 4, .. and after every 64th; where a piece gets long, after every 32nd, 16th
-//! and so on, and where pieces are short again less often; and before it sleeps at its bell, and where they are done. What it did not post when it ends is in the report. A worker that finds nothing to do looks at its bell for a
-//! moment first, without sleep, and posts nothing then: processes that answer each other within microseconds would else post at each
-//! answer. While a worker sleeps its processes commit nothing. So all that a sleeping worker knows is on the board. The bell for news
-//! rings after that: whoever takes pieces off the board reads the bell's count, takes, and waits past that count, so it wakes for what
-//! it missed. No worker holds the board's lock during a turn, and nobody puts pieces together under it.
+//! and so on, and where pieces are short again less often; and before it sleeps at its bell, and where they are done. What it did not
+//! post when it ends is in the report. A worker that finds nothing to do looks at its bell for a moment first, without sleep, and posts
+//! nothing then: processes that answer each other within microseconds would else post at each answer. While a worker sleeps its processes
+//! commit nothing. So all that a sleeping worker knows is on the board. The bell for news rings after that: whoever takes pieces off the
+//! board reads the bell's count, takes, and waits past that count, so it wakes for what it missed. No worker holds the board's lock during
+//! a turn, and nobody puts pieces together under it.
 #![tactic(auto)]
 
 /// Bells, and flags.
@@ -75,6 +80,8 @@ pub mod crew;
 pub mod gate;
 /// How much of what processes posted waits to be taken.
 pub mod lead;
+/// Whether a process makes turns.
+pub mod pause;
 /// What processes committed, posted on a board while the run goes on.
 pub mod post;
 /// What a run reports.

@@ -63,19 +63,19 @@ pub struct Stream<'a, N: OfJob> {
     pub news: &'a Bell,
     /// Once it is raised, the run ends. Whoever raises it rings the bells after it, since workers may wait for the writer.
     pub stop: FlagView<'a>,
-    /// Once it is raised, somebody takes what is posted: processes do not run away from there.
+    /// Once it is raised, somebody takes what is posted: processes do not run away from what is written then.
     pub paced: &'a Flag,
-    /// What each process has posted and nobody has taken yet. Whoever takes pieces off the board takes them off there, and rings the
-    /// bells where a lead was too long and is not any more.
+    /// What each process has posted and is not written yet. Whoever takes pieces off the board tells there what was taken and what of it
+    /// is still kept, and rings the bells where a lead was too long and is not any more.
     pub leads: &'a Leads,
     /// A bell for each worker, where it waits.
     pub bells: &'a [Bell],
 }
 
 impl<N: OfJob> Stream<'_, N> {
-    /// Whether a process makes no turn for now: somebody takes what is posted, and too much of it waits.
-    pub fn holds_back(&self, process: u32) -> bool {
-        self.paced.is_raised() && self.leads.is_long(process)
+    /// Whether a process is held back, and was so or not: somebody takes what is posted, and too much of it is not written yet.
+    pub fn holds_back(&self, process: u32, was_held_back: bool) -> bool {
+        self.paced.is_raised() && self.leads.is_long(process, was_held_back)
     }
 }
 

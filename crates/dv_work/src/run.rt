@@ -247,9 +247,10 @@ where
 /// adds to the lead of a process before it posts its piece, and rings `news` after all of them. What was posted is kept nowhere else;
 /// the rest is in the report. Where the board has no memory for a piece, the piece is gone and the worker ends, out of memory.
 ///
-/// Once `paced` is raised, a process whose lead is too long makes no turn until it is not any more, and the gate is not asked for one.
-/// So from then on the caller takes off the leads what it takes off the board, and rings the bells where `take_off` tells it to; else a
-/// run may never return.
+/// Once `paced` is raised, a process whose lead is too long is held back until it has fallen to half: it makes one turn at most, and the
+/// gate is not asked for others. So from then on the caller tells the leads what it takes off the board, and what of that it still keeps,
+/// and rings the bells where `keep` tells it to. After each ring of `news` it takes all and lets go of all that is before the least of the
+/// clocks up to which it has the processes; else a run may never return.
 ///
 /// Once the caller has raised `stop`, and rung the bells, each worker ends before its next turn, and a run that is not whole, was not out
 /// of memory and was not stopped by the gate is reported cancelled. Whatever the gate, the leads and the timing of the threads, each

@@ -7,10 +7,11 @@ ghost use Rattle.dv_board.specs.Posts.{IsPiece};
 ghost use Rattle.dv_link.specs.Carries.{AreTrueOn, IsLinkOf};
 ghost use Rattle.dv_proc.specs.Packets.{meant_packet};
 ghost use Rattle.dv_work.specs.Ends.{IsIn, IsOut, given, taken};
-ghost use Rattle.dv_work.specs.Seats.{HasNull, HasToldAtFirst, IsEmptied, Reports, Sits, holds_packet};
+ghost use Rattle.dv_work.specs.Seats.{HasNull, HasToldAtFirst, IsEmptied, Reports, Sits, holds_packet, stands_in};
 ghost use Rattle.dv_work.specs.Seats.{IsAny, KeepsNoneBackAt, NoneIsNew, OthersStay};
 
 use crate::bell::{Bell, Flag};
+use crate::pause::Pause;
 use crate::post::Stream;
 use crate::room::Room;
 use dv_board::Piece;
@@ -60,6 +61,8 @@ pub struct Seat<P> {
     pub ins: Vec<In>,
     /// The time before which all that it committed was moved out of it.
     pub posted: Time,
+    /// Whether it makes turns.
+    pub pause: Pause,
 }
 
 /// All that a worker's visits need of the others: the links, where room is asked for on them, the flag, and where they post, with
@@ -190,6 +193,32 @@ impl<P: LogicalProcess> Seat<P> {
         Ok(true)
     }
 
+    /// Whether a packet stands for a link that leads away.
+    fn has_standing(&self) -> bool
+        ensures { result ≡ list_any (stands_in (P.state self.now.process)) self.now.outs.items }
+    {
+        self.outs
+            .iter()
+            .any(|end| self.process.out(end.number).is_some())
+    }
+
+    /// Looks whether it is held back, and tells whether it makes a turn.
+    pub fn may_turn<N: OfJob>(&mut self, floor: &Floor<'_, N>) -> bool
+        requires sits { Sits N.job P.state P.handed P.valid floor.now.links.now self.old }
+        ensures sits { Sits N.job P.state P.handed P.valid floor.now.links.now self.new }
+        ensures outs { self.new.outs ≡ self.old.outs }
+    {
+        let is_held_back = floor
+            .stream
+            .holds_back(self.number, self.pause.holds_back());
+        self.pause = self.pause.renewed(is_held_back);
+        match self.pause {
+            Pause::Over => true,
+            Pause::Owing => !self.has_standing(),
+            Pause::Told => false,
+        }
+    }
+
     /// One turn of the process.
     ///
     /// # Errors
@@ -205,7 +234,9 @@ impl<P: LogicalProcess> Seat<P> {
         ensures outs { self.new.outs ≡ self.old.outs }
     {
         let _ = floor.links.len();
-        self.process.turn(work)
+        let turned = self.process.turn(work)?;
+        self.pause = self.pause.after_a_turn();
+        Ok(turned)
     }
 
     // Holds the packet that stands on the link at an index, if none is held there yet.

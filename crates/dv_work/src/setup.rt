@@ -9,6 +9,7 @@ ghost use Rattle.dv_link.specs.Ends.{capacity as capacity_of};
 ghost use Rattle.dv_work.specs.Making.{AreNew, AreSeated, IsNewIn, IsNewOut, IsSeat, NamesWorkers, no_links};
 ghost use Rattle.dv_work.specs.Seats.{Sits};
 
+use crate::pause::Pause;
 use crate::seat::{In, Out, Seat};
 use dv_core::LogicalProcess;
 use dv_link::Link;
@@ -39,6 +40,7 @@ pub fn seats_of<N: OfJob, P: LogicalProcess>(
             outs: Vec::new(alloc),
             ins: Vec::new(alloc),
             posted: Time::ZERO,
+            pause: Pause::Over,
         })?;
     }
     Ok(seats)

@@ -121,7 +121,7 @@ fn progress(turned: Turned, moved: bool, holds: bool) -> Turned
     }
 }
 
-// One turn of a process, if the gate lets it. Where too much of what it posted waits to be taken there is none, and it waits.
+// One turn of a process, if the gate lets it. A process that is held back waits.
 fn turn_if_near<N: OfJob, P: LogicalProcess, G: Gate<P>>(
     floor: &Floor<'_, N>,
     gate: &G,
@@ -134,7 +134,7 @@ fn turn_if_near<N: OfJob, P: LogicalProcess, G: Gate<P>>(
     ensures err { OnErr result (Reports N.job P.state P.handed P.valid seat.new) }
     ensures outs { seat.new.outs ≡ seat.old.outs }
 {
-    if floor.stream.holds_back(seat.number) {
+    if !seat.may_turn(floor) {
         return Ok(Turned::Waiting);
     }
     seat.account(floor);
@@ -335,7 +335,7 @@ fn rounds<N: OfJob, P: ProcessHandsOver<N>, G: Gate<P>, R: Wait>(
         if post_after(rt, floor, tells, turned, &mut pace, seats).is_err() {
             return Some(Halt::Memory);
         }
-        if turned == Turned::Done {
+        if let Turned::Done = turned {
             return None;
         }
         if wait_after(rt, floor, bell, seen, turned, seats).is_err() {

@@ -5,6 +5,7 @@ use Rattle.std.proofs.lemmas.Iterator.Consumers.{YieldsList-end, YieldsList-turn
 use Rattle.std.proofs.lemmas.Option.{slice_get_read}
 use Rattle.dv_conservative.specs.Process.{first_time}
 use Rattle.dv_work.specs.Making.{IsSeat, no_links}
+use Rattle.dv_work.specs.declared.pause.Pause.TheVariants.{Over}
 use Rattle.dv_work.specs.declared.seat.Seat.{Seat}
 use Rattle.dv_work.proofs.Making.{new_seat, snoc_each}
 use Rattle.dv_work.proofs.setup.seats_of.Goals as goal
@@ -33,7 +34,7 @@ loop-process-preserved g c =
     let here : slice_get c.args.processes.items c.len-number.result ≡ Some c.in-Some.process
     = subst (λ (n : ℕ). slice_get c.args.processes.items n ≡ Some c.in-Some.process) (sym index) at in
     let made : Seat g.row.P.Denot
-    = record { number = c.len-number.result; process = c.in-Some.process; outs = c.new.result; ins = c.new-in-loop-process.result; posted = first_time } in
+    = record { number = c.len-number.result; process = c.in-Some.process; outs = c.new.result; ins = c.new-in-loop-process.result; posted = first_time; pause = Over } in
     record {
       count = (let e = is.count in let l = ap length items in let k = length-append old (made ∷ []) in
           let y = length-append c.loop-process.yielded (c.in-Some.process ∷ []) in omega arith);

@@ -1,4 +1,4 @@
-use Rattle.std.proofs.Common.{◌∙◌, length, sym, arith}
+use Rattle.std.proofs.Common.{◌∙◌, sym, arith}
 use Rattle.std.proofs.lemmas.Bool.{false≢true}
 use Rattle.dv_work.specs.Seats.{HasEvents, IsNull}
 use Rattle.dv_work.proofs.Keeping.{kept_at_all, kept_further, rest_further}

@@ -6,8 +6,8 @@ returns-then-is_err-clause-reports g c =
     all_report g.N.OfJob.job g.P.LogicalProcess.state g.P.LogicalProcess.handed g.P.LogicalProcess.valid c.args.floor.now.links.now
     c.post_after.new.seats c.post_after.ensures.sits
 
-pub returns-then-eq-clause-reports : goal.returns-then-eq-clause-reports
-returns-then-eq-clause-reports g c =
+pub returns-in-Done-clause-reports : goal.returns-in-Done-clause-reports
+returns-in-Done-clause-reports g c =
     all_report g.N.OfJob.job g.P.LogicalProcess.state g.P.LogicalProcess.handed g.P.LogicalProcess.valid c.args.floor.now.links.now
     c.post_after.new.seats c.post_after.ensures.sits
 
