@@ -1,10 +1,10 @@
 -- What the instants between two ranks add to a trace or a part: cut, joined, and by time.
-use Rattle.std.proofs.Common.{◌≡◌, ℕ, ◌≤◌, false, not, sym, ap, ap₂, subst, ◌∙◌, arith}
+use Rattle.std.proofs.Common.{◌≡◌, ℕ, ◌+◌, ◌-◌, ◌≤◌, false, not, sym, ap, ap₂, subst, ◌∙◌, arith}
 use Rattle.std.proofs.lemmas.List.Kept.{AllPairs-filter}
 use Rattle.dv_time.specs.Time.{IsOfRun, is_before, rank, time_of}
 use Rattle.dv_time.specs.declared.time.Time.{Time}
 use Rattle.dv_time.proofs.Ranks.{time_of-rank}
-use Rattle.dv_bag.specs.Part.{IsByTime, PartOf, before, joined, since}
+use Rattle.dv_bag.specs.Part.{IsByTime, PartOf, before, joined, nothing, since}
 use Rattle.dv_bag.specs.declared.entry.Entry.{Entry}
 use Rattle.dv_bag.specs.declared.entry.Outer.{Outer}
 use Rattle.dv_devs.specs.Cuts.{IsAllAt, all_between}
@@ -62,6 +62,13 @@ module _ (job : Job) (p : ℕ) where
 
   instants_at : (k : ℕ) → IsAllAt (time_of job.limit k) (instants k)
   instants_at = parts_at job.limit (whole job.flat) job.outside (owned job p)
+
+  -- from a time on and before it there is nothing
+  pub committed_none : (a : Time) → committed job p a a ≡ nothing
+  committed_none a =
+      let r = rank job.limit a in
+      let none : r - r ≡ 0 = omega arith in
+      ap (λ (n : ℕ). all_before (λ k. instants (r + k)) n) none
 
   module _ (a b c : Time) (low : IsNoLater job a b) (high : IsNoLater job b c) where
     pub committed_since : IsOfRun job.limit b → since b (committed job p a c) ≡ committed job p b c

@@ -3,5 +3,7 @@ pub mod Cutting
 pub mod Drained
 pub mod Marks
 pub mod Indices
+pub mod Stretches
+pub mod Times
 pub mod Turns
 pub mod Wholes

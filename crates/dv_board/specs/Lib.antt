@@ -3,5 +3,5 @@ pub mod Backlogs
 pub mod Clocks
 pub mod Jobs
 pub mod Marks
-pub mod Indices
+pub mod Stretches
 pub mod Posts

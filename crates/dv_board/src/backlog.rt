@@ -4,21 +4,21 @@ ghost use Rattle.std.specs.Prelude.{◌≡◌, ◌<◌, ◌≤◌, IfErr, IfNone
 ghost use Rattle.std.specs.List.{All};
 ghost use Rattle.dv_time.specs.Time.{IsOfRun, end_of, rank};
 ghost use Rattle.dv_time.specs.declared.time.Time.{Time as MeantTime};
-ghost use Rattle.dv_bag.specs.Part.{IsByTime, before, nothing, since};
+ghost use Rattle.dv_bag.specs.Part.{before, since};
 ghost use Rattle.dv_conservative.specs.Process.{first_time};
 ghost use Rattle.dv_merge.specs.Whole.{ArePartsOf};
 ghost use Rattle.dv_board.specs.Answers.{IsCutAt, IsRefused};
 ghost use Rattle.dv_board.specs.Backlogs.{clock_of, clocks_with};
 ghost use Rattle.dv_board.specs.Clocks.{IsLeast, IsNoLater, later};
 ghost use Rattle.dv_board.specs.Jobs.{IsMergeable, trace};
-ghost use Rattle.dv_board.specs.Indices.{rest_of};
+ghost use Rattle.dv_board.specs.Stretches.{AreByTime, nothing_held, part_of, rest_of};
 ghost use Rattle.dv_board.specs.Posts.{IsPiece};
 
 use crate::held::Held;
 use crate::posts::Piece;
-use dv_merge::PartSlice;
+use dv_merge::PartRefs;
 use dv_time::Time;
-use dv_written::{OfJob, WrittenPart};
+use dv_written::OfJob;
 use std::alloc::{AllocError, Global};
 use std::marker::Model;
 
@@ -53,15 +53,11 @@ pub enum Unjoined<N: OfJob> {
 // So many processes at 0.0, which have committed nothing.
 fn none_held<N: OfJob>(alloc: Global, processes: u32) -> Result<Vec<Held<N>>, AllocError>
     ensures { IfOk result (λ held. held.items
-        ≡ replicate processes (record { from = first_time; clock = first_time; part = nothing })) }
+        ≡ replicate processes nothing_held) }
 {
     let mut held = Vec::new(alloc);
     for _ in 0..processes {
-        held.push(Held {
-            from: Time::ZERO,
-            clock: Time::ZERO,
-            part: WrittenPart::new(alloc),
-        })?;
+        held.push(Held::new(alloc))?;
     }
     Ok(held)
 }
@@ -71,10 +67,11 @@ fn least_clock<N: OfJob>(held: &[Held<N>]) -> Time
     requires { 0 < length held.now }
     ensures { IsLeast result (map (λ h. h.clock) held.now) }
 {
-    let mut least = held[0].clock;
+    let mut least = held[0].clock();
     for kept in held {
-        if kept.clock.is_before(least) {
-            least = kept.clock;
+        let clock = kept.clock();
+        if clock.is_before(least) {
+            least = clock;
         }
     }
     least
@@ -86,7 +83,7 @@ fn clocks_of<N: OfJob>(alloc: Global, held: &[Held<N>]) -> Result<Vec<Time>, All
 {
     let mut clocks = Vec::with_capacity(alloc, held.len())?;
     for kept in held {
-        clocks.push(kept.clock)?;
+        clocks.push(kept.clock())?;
     }
     Ok(clocks)
 }
@@ -97,21 +94,20 @@ fn pieces_between<'h, N: OfJob>(
     held: &'h [Held<N>],
     from: Time,
     upto: Time,
-) -> Result<Vec<PartSlice<'h, N>>, AllocError>
-    requires { All (λ h. IsByTime h.part) held.now }
+) -> Result<Vec<PartRefs<'h, N>>, AllocError>
+    requires { All AreByTime held.now }
     ensures { IfOk result (λ pieces. pieces.items
-        ≡ map (λ h. since from (before upto h.part)) held.now) }
+        ≡ map (λ h. since from (before upto (part_of h))) held.now) }
 {
     let mut pieces = Vec::with_capacity(alloc, held.len())?;
     for kept in held {
-        pieces.push(PartSlice::between(&kept.part, from, upto))?;
+        pieces.push(kept.between(alloc, from, upto)?)?;
     }
     Ok(pieces)
 }
 
-// Removes what is before a time, but only from a process of which that is at least as much as what stays.
+// Lets go of what ends no later than a time.
 fn let_go_all<N: OfJob>(held: &mut Vec<Held<N>>, time: Time)
-    requires { All (λ h. IsByTime h.part) held.old.items }
     ensures { held.new.items ≡ map (rest_of time) held.old.items }
 {
     for kept in held.iter_mut() {
@@ -144,7 +140,7 @@ impl<N: OfJob> Backlog<N> {
         ensures kept { result ≡ clock_of self.now process }
         ensures of_run { IsOfRun N.job.limit result }
     {
-        self.held[process as usize].clock
+        self.held[process as usize].clock()
     }
 
     /// Up to when each process is kept, by their numbers.
@@ -167,7 +163,7 @@ impl<N: OfJob> Backlog<N> {
     /// after `let_go`.
     pub fn entry_count(&self, process: u32) -> usize {
         match self.held.get(process as usize) {
-            Some(held) => held.part.entry_count(),
+            Some(held) => held.entry_count(),
             None => 0,
         }
     }
@@ -188,11 +184,11 @@ impl<N: OfJob> Backlog<N> {
         ensures refused { IfErr result (IsRefused N.job self.old piece) }
     {
         let held = &mut self.held[piece.process as usize];
-        let kept = held.clock;
+        let kept = held.clock();
         if kept.is_before(piece.from) {
             return Err(Unjoined::Gap { kept, piece });
         }
-        if let Err(_) = held.join(piece.part, piece.clock) {
+        if let Err(_) = held.join(piece) {
             return Err(Unjoined::Memory);
         }
         Ok(())
@@ -216,17 +212,17 @@ impl<N: OfJob> Backlog<N> {
         Ok(())
     }
 
-    /// What each process has committed from the mark on and before the least clock, as slices of what is kept, and that
-    /// clock. Put together, the slices are the trace in between. `None` if the mark is not at `from`.
+    /// What each process has committed from the mark on and before the least clock, where it lies, and that clock. Put
+    /// together, that is the trace in between. `None` if the mark is not at `from`.
     ///
     /// # Errors
     ///
-    /// No memory for as many pieces as there are processes.
+    /// No memory for references to it, or for copies of what left.
     pub fn known(
         &self,
         alloc: Global,
         from: Time,
-    ) -> Result<Option<(Vec<PartSlice<'_, N>>, Time)>, AllocError>
+    ) -> Result<Option<(Vec<PartRefs<'_, N>>, Time)>, AllocError>
         ensures none { IfOk result (λ known. IfNone known (self.now.mark ≡ from → ⊥)) }
         ensures at { IfOk result (λ known. OnSome known (self.now.mark ≡ from)) }
         ensures pieces { IfOk result (λ known. IfSome known (λ k.

@@ -1,55 +1,214 @@
 //! What a backlog keeps of one process.
 
-ghost use Rattle.std.specs.Prelude.{◌≡◌, true, OnOk, OnErr};
+ghost use Rattle.std.specs.Prelude.{◌≡◌, ◌++◌, [], ◌∷◌, true, IfOk, OnOk, OnErr};
 ghost use Rattle.dv_time.specs.Time.{is_before};
-ghost use Rattle.dv_bag.specs.Part.{IsByTime};
-ghost use Rattle.dv_board.specs.Indices.{rest_of, with_piece};
+ghost use Rattle.dv_bag.specs.Part.{before, nothing, since};
+ghost use Rattle.dv_conservative.specs.Process.{first_time};
+ghost use Rattle.dv_board.specs.Posts.{IsPiece};
+ghost use Rattle.dv_board.specs.Stretches.{AreByTime, AreInTurn, ended_past, is_joined, joined_in_turn, nothing_held};
+ghost use Rattle.dv_board.specs.Stretches.{part_of, rest_of, start_past, with_piece};
 
-use dv_merge::is_mostly_later;
+use crate::posts::Piece;
+use dv_merge::PartRefs;
 use dv_time::Time;
 use dv_written::{OfJob, WrittenPart};
-use std::alloc::AllocError;
+use std::alloc::{AllocError, Global};
+use std::collections::VecDeque;
+use std::marker::Model;
+use std::mem;
 
-/// What one process committed from one time on and before its clock.
+// Pieces are joined to stretches of so many entries at most, so that of two neighbours one is long. What is joined is copied, and takes
+// some 20 kilobytes.
+const ENTRIES_OF_A_STRETCH: usize = 256;
+
+/// What a process committed from the end of the stretch before it on, and before its own end.
 #[derive(Drop)]
-pub struct Held<N: OfJob> {
-    /// Nothing before this time is in the part.
-    pub from: Time,
-    /// The clock of the process: all before it is in the part, from `from` on.
-    pub clock: Time,
-    /// The entries and what left, in between.
+pub struct Stretch<N: OfJob> {
+    /// Its end.
+    pub upto: Time,
+    /// The entries and what left.
     pub part: WrittenPart<N>,
 }
 
+/// What one process committed from one time on and before its clock, in stretches that follow one another. A long piece is a stretch as
+/// it comes, and a stretch is let go as a whole. So what waits takes the memory of its pieces, and long ones are not copied.
+#[derive(Drop)]
+pub struct Held<N: OfJob> {
+    from: Time,
+    clock: Time,
+    ended: VecDeque<Stretch<N>>,
+    last: WrittenPart<N>,
+}
+
+impl<N: OfJob> Model for Held<N> {
+    ghost use Rattle.dv_board.specs.Stretches.{HeldOf};
+
+    ghost Value = { HeldOf N };
+
+    ghost view = { λ h. record
+        { from = h.from; clock = h.clock; ended = h.ended.items; last = h.last } };
+}
+
+// Whether a part is joined to the last stretch.
+fn is_joined<N: OfJob>(last: &WrittenPart<N>, more: &WrittenPart<N>) -> bool
+    ensures { result ≡ is_joined last.now more.now }
+{
+    let entries = last.entry_count();
+    entries == 0 || more.entry_count() <= ENTRIES_OF_A_STRETCH.saturating_sub(entries)
+}
+
+// What stretches have from one time on and before another, where it lies. Those that begin no sooner than the latter are not looked at:
+// there may be very many, of a process that is far ahead.
+fn ended_between<'h, N: OfJob>(
+    alloc: Global,
+    ended: &'h VecDeque<Stretch<N>>,
+    from: Time,
+    upto: Time,
+) -> Result<PartRefs<'h, N>, AllocError>
+    requires { AreInTurn first_time ended.now.items }
+    ensures { IfOk result (λ part.
+        part ≡ since from (before upto (joined_in_turn nothing ended.now.items))) }
+{
+    let mut part = PartRefs::new(alloc);
+    let mut start = Time::ZERO;
+    for index in 0..ended.len() {
+        if !start.is_before(upto) {
+            return Ok(part);
+        }
+        part.append_between(alloc, &ended[index].part, from, upto)?;
+        start = ended[index].upto;
+    }
+    Ok(part)
+}
+
+// Lets go of the stretches in front that end no later than a time, and tells where the others begin.
+fn let_go_ended<N: OfJob>(ended: &mut VecDeque<Stretch<N>>, from: Time, time: Time) -> Time
+    ensures start { result ≡ start_past time from ended.old.items }
+    ensures ended { ended.new.items ≡ ended_past time ended.old.items }
+{
+    let mut start = from;
+    while let Some(first) = ended.front() {
+        if time.is_before(first.upto) {
+            return start;
+        }
+        start = first.upto;
+        let _ = ended.pop_front();
+    }
+    start
+}
+
+// What a piece has from a time on. Mostly it begins there, and is not looked at.
+fn since<N: OfJob>(alloc: Global, piece: Piece<N>, time: Time) -> Result<WrittenPart<N>, AllocError>
+    requires { IsPiece N.job piece }
+    ensures { IfOk result (λ part. part ≡ since time piece.part) }
+{
+    if piece.from == time {
+        return Ok(piece.part);
+    }
+    Ok(piece.part.since(alloc, time)?)
+}
+
 impl<N: OfJob> Held<N> {
+    /// Of a process at 0.0.
+    pub fn new(alloc: Global) -> Self
+        ensures { result ≡ nothing_held }
+    {
+        Held {
+            from: Time::ZERO,
+            clock: Time::ZERO,
+            ended: VecDeque::new(alloc),
+            last: WrittenPart::new(alloc),
+        }
+    }
+
+    /// The clock of the process: all before it is kept, from some time on.
+    pub fn clock(&self) -> Time
+        ensures { result ≡ self.now.clock }
+    {
+        self.clock
+    }
+
+    /// How many entries are kept.
+    pub fn entry_count(&self) -> usize {
+        let mut count = self.last.entry_count();
+        for index in 0..self.ended.len() {
+            count = count.saturating_add(self.ended[index].part.entry_count());
+        }
+        count
+    }
+
+    /// What is kept from one time on and before another, where it lies.
+    ///
+    /// # Errors
+    ///
+    /// No memory for references to it, or for copies of what left.
+    pub fn between(
+        &self,
+        alloc: Global,
+        from: Time,
+        upto: Time,
+    ) -> Result<PartRefs<'_, N>, AllocError>
+        requires { AreByTime self.now }
+        ensures { IfOk result (λ part. part ≡ since from (before upto (part_of self.now))) }
+    {
+        let mut part = ended_between(alloc, &self.ended, from, upto)?;
+        part.append_between(alloc, &self.last, from, upto)?;
+        Ok(part)
+    }
+
+    // Ends the last stretch at the clock, and begins another one with a part.
+    fn end_last(&mut self, more: WrittenPart<N>) -> Result<(), AllocError>
+        ensures ok { OnOk result (self.new ≡ record self.old {
+          ended = self.old.ended ++ record { upto = self.old.clock; part = self.old.last } ∷ [];
+          last = more;
+        }) }
+        ensures err { OnErr result (self.new ≡ self.old) }
+    {
+        self.ended.reserve(1)?;
+        let part = mem::replace(&mut self.last, more);
+        self.ended.push_back_reserved(Stretch {
+            upto: self.clock,
+            part,
+        });
+        Ok(())
+    }
+
     /// Joins what a piece has from the clock on, and the clock becomes the later of the two.
     ///
     /// # Errors
     ///
     /// No memory for what is joined. Nothing has changed.
-    pub fn join(&mut self, piece: WrittenPart<N>, clock: Time) -> Result<(), AllocError>
-        ensures ok { OnOk result (self.new ≡ with_piece self.old piece clock) }
+    pub fn join(&mut self, piece: Piece<N>) -> Result<(), AllocError>
+        requires { IsPiece N.job piece }
+        ensures ok { OnOk result (self.new ≡ with_piece self.old piece.part piece.clock) }
         ensures err { OnErr result (self.new ≡ self.old) }
-        ensures more { OnErr result (is_before self.old.clock clock ≡ true) }
+        ensures more { OnErr result (is_before self.old.clock piece.clock ≡ true) }
     {
+        let clock = piece.clock;
         if !self.clock.is_before(clock) {
             return Ok(());
         }
-        self.part.append(piece.since(self.clock))?;
+        let more = since(*self.ended.allocator(), piece, self.clock)?;
+        if is_joined(&self.last, &more) {
+            self.last.append(more)?;
+        } else {
+            self.end_last(more)?;
+        }
         self.clock = clock;
         Ok(())
     }
 
-    /// Removes what is before a time, once that is at least as much as what stays. So a process that is far ahead of
-    /// the others costs no more moves than it has entries.
+    /// Lets go of the stretches that end no later than a time.
     pub fn let_go(&mut self, time: Time)
-        requires { IsByTime self.old.part }
         ensures { self.new ≡ rest_of time self.old }
     {
-        if is_mostly_later(&self.part, time) {
+        if time.is_before(self.clock) {
+            self.from = let_go_ended(&mut self.ended, self.from, time);
             return;
         }
-        self.part.keep_since(time);
-        self.from = time;
+        let alloc = *self.ended.allocator();
+        self.from = self.clock;
+        self.ended.clear();
+        self.last = WrittenPart::new(alloc);
     }
 }

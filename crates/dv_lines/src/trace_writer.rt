@@ -18,7 +18,7 @@ use crate::lines::Lines;
 use crate::tree_words::TreeWords;
 use crate::written_part::written_part;
 use dv_bag::{Outer, Trace};
-use dv_merge::PartSlice;
+use dv_merge::PartRefs;
 use dv_text::{Ending, WriteError, hand_over, write_ending};
 use dv_time::Time;
 use dv_tree::Tree;
@@ -88,7 +88,7 @@ impl<'t, N: OfJob> TraceWriter<'t, N> {
     /// beginning of the lines was written then, and what was not written is forgotten.
     pub fn part<W: Write>(
         &mut self,
-        part: &PartSlice<'_, N>,
+        part: &PartRefs<'_, N>,
         writer: &mut W,
     ) -> Result<(), WriteError>
         ensures tree { self.new ≡ self.old }
@@ -147,8 +147,9 @@ fn write_lines<N: OfJob, W: Write>(
         (part_text (tree_names words.now) (tree_ports words.now) trace.now)) }
 {
     let written: WrittenPart<N> = written_part(alloc, trace, words)?;
+    let part = PartRefs::all_of(alloc, &written)?;
     let mut lines = Lines::new(alloc);
-    write_merged(&mut lines, writer, words, &PartSlice::all_of(&written))
+    write_merged(&mut lines, writer, words, &part)
 }
 
 // Writes the lines of a part, merged by time.
@@ -156,7 +157,7 @@ fn write_merged<N: OfJob, W: Write>(
     lines: &mut Lines,
     writer: &mut W,
     words: &TreeWords,
-    part: &PartSlice<'_, N>,
+    part: &PartRefs<'_, N>,
 ) -> Result<(), WriteError>
     requires { (e : MeantEntry) → line_of (tree_names words.now) e ≡ N.line e }
     ensures ok { OnOk result (Appends (W.contents writer.old) (W.contents writer.new)

@@ -1,6 +1,6 @@
 //! A part of a trace as written entries.
 
-ghost use Rattle.std.specs.Prelude.{◌≡◌, [], IfOk};
+ghost use Rattle.std.specs.Prelude.{◌≡◌, ◌++◌, [], ◌∷◌, IfOk, OnOk};
 ghost use Rattle.dv_bag.specs.declared.entry.Entry.{Entry as MeantEntry};
 ghost use Rattle.dv_lines.specs.Entries.{line_of};
 ghost use Rattle.dv_text.specs.Names.{tree_names};
@@ -8,7 +8,7 @@ ghost use Rattle.dv_text.specs.Names.{tree_names};
 use crate::lines::Lines;
 use crate::tree_words::TreeWords;
 use dv_bag::{Entry, Part, What};
-use dv_written::{OfJob, WrittenEntry, WrittenPart};
+use dv_written::{OfJob, WrittenPart};
 use std::alloc::{AllocError, Global};
 
 /// A part with its entries written by the words of a tree.
@@ -44,20 +44,21 @@ fn written_entries<N: OfJob>(
     let mut written = WrittenPart::new(alloc);
     let mut lines = Lines::new(alloc);
     for entry in part.entries() {
-        written.push_entry(written_entry(alloc, entry, words, &mut lines)?)?;
+        push_entry(&mut written, entry, words, &mut lines)?;
     }
     Ok(written)
 }
 
-// An entry, written by the words of a tree. Its line is put among the lines first, in place of what stood there.
-fn written_entry<N: OfJob>(
-    alloc: Global,
+// One more entry, written by the words of a tree. Its line is put among the lines first, in place of what stood there.
+fn push_entry<N: OfJob>(
+    written: &mut WrittenPart<N>,
     entry: &Entry,
     words: &TreeWords,
     lines: &mut Lines,
-) -> Result<WrittenEntry<N>, AllocError>
+) -> Result<(), AllocError>
     requires { (e : MeantEntry) → line_of (tree_names words.now) e ≡ N.line e }
-    ensures { IfOk result (λ written. written ≡ entry.now) }
+    ensures { OnOk result (written.new
+        ≡ record written.old { entries = written.old.entries ++ entry.now ∷ [] }) }
 {
     lines.clear();
     words.put_entry(lines, entry)?;
@@ -65,8 +66,8 @@ fn written_entry<N: OfJob>(
     let (time, component, sent) = (entry.time, entry.component, &entry.sent);
     match &entry.what {
         What::Transition { kind, state } => {
-            WrittenEntry::moved(alloc, line, time, component, *kind, state, sent)
+            written.push_moved(line, time, component, *kind, state, sent)
         }
-        What::Fault(fault) => WrittenEntry::faulted(alloc, line, time, component, *fault, sent),
+        What::Fault(fault) => written.push_faulted(line, time, component, *fault, sent),
     }
 }

@@ -13,10 +13,17 @@ use crate::words::Words;
 use dv_bag::{Bags, Fault, Kind, Outer, Sent, State};
 use dv_record::{History, Record};
 use dv_time::Time;
-use dv_written::{HandsOver, MakesRecord, OfJob, WrittenEntry, WrittenPart};
+use dv_written::{HandsOver, MakesRecord, OfJob, WrittenPart};
 use std::alloc::{AllocError, Global};
 use std::marker::{Model, PhantomData};
 use std::mem;
+
+// A part begins with room for as much as the one before it had, but for so many entries at most, and for so many bytes of lines. Where
+// it gets longer it grows by doubling. How long parts are varies, and they wait as they are: with room for all of the one before them
+// they took three times the memory of what was in them.
+const MOST_ROOM: usize = 128;
+
+const MOST_ROOM_OF_LINES: usize = 8_192;
 
 /// Makes records whose entries are written by words. Records share the words, and may do so on different threads. A contract reads
 /// the words.
@@ -160,8 +167,8 @@ impl<'w, N: OfJob> Record for WrittenRecord<'w, N> {
         self.by
             .put_transition(&mut self.line, time, component, kind, state, sent)?;
         let line = self.line.as_bytes();
-        let entry = WrittenEntry::moved(self.alloc, line, time, component, kind, state, sent)?;
-        self.kept.push_entry(entry)?;
+        self.kept
+            .push_moved(line, time, component, kind, state, sent)?;
         self.told = self.told.and_moved(&time, &component, &kind, state, sent);
         Ok(())
     }
@@ -176,8 +183,7 @@ impl<'w, N: OfJob> Record for WrittenRecord<'w, N> {
         self.by
             .put_fault(&mut self.line, time, component, fault, sent)?;
         let line = self.line.as_bytes();
-        let entry = WrittenEntry::faulted(self.alloc, line, time, component, fault, sent)?;
-        self.kept.push_entry(entry)?;
+        self.kept.push_faulted(line, time, component, fault, sent)?;
         self.told = self.told.and_faulted(&time, &component, &fault, sent);
         Ok(())
     }
@@ -211,8 +217,9 @@ impl<'w, N: OfJob> HandsOver<N> for WrittenRecord<'w, N> {
         self.entries = 0;
         self.lines = 0;
         self.past = self.told.again();
-        // The next part is mostly as long as this one.
-        let next = WrittenPart::with_room(alloc, self.kept.entry_count());
+        let entries = self.kept.entry_count().min(MOST_ROOM);
+        let bytes = self.kept.byte_count().min(MOST_ROOM_OF_LINES);
+        let next = WrittenPart::with_room(alloc, entries, bytes);
         mem::replace(&mut self.kept, next)
     }
 }

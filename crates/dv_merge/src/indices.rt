@@ -3,14 +3,12 @@
 ghost use Rattle.std.specs.Prelude.{◌≡◌, ◌≤◌, false, not, take, drop, filter, length};
 ghost use Rattle.std.specs.List.{AllPairs};
 ghost use Rattle.dv_time.specs.Time.{is_before};
-ghost use Rattle.dv_bag.specs.Part.{IsByTime};
 ghost use Rattle.dv_bag.specs.declared.entry.Entry.{Entry};
 ghost use Rattle.dv_bag.specs.declared.entry.Outer.{Outer};
-ghost use Rattle.dv_merge.specs.Indices.{is_mostly_later};
 
 use dv_bag::Outer;
 use dv_time::Time;
-use dv_written::{OfJob, WrittenEntry, WrittenPart};
+use dv_written::{OfJob, WrittenEntry};
 
 /// How many entries are before a time.
 pub(crate) fn entries_before<N: OfJob>(entries: &[WrittenEntry<N>], time: Time) -> usize
@@ -25,7 +23,7 @@ pub(crate) fn entries_before<N: OfJob>(entries: &[WrittenEntry<N>], time: Time) 
 }
 
 /// How many lines are before a time.
-pub(crate) fn lines_before(lines: &[Outer], time: Time) -> usize
+fn lines_before(lines: &[Outer], time: Time) -> usize
     requires { AllPairs (λ (a b : Outer). is_before b.time a.time ≡ false) lines.now }
     ensures count { result ≤ length lines.now }
     ensures before { take result lines.now
@@ -36,12 +34,12 @@ pub(crate) fn lines_before(lines: &[Outer], time: Time) -> usize
     lines.partition_point(|line| line.time.is_before(time))
 }
 
-/// Whether fewer entries of a part are before a time than from it on, for a part that stands by time.
-pub fn is_mostly_later<N: OfJob>(part: &WrittenPart<N>, time: Time) -> bool
-    requires { IsByTime part.now }
-    ensures { result ≡ is_mostly_later part.now time }
+/// The lines from one time on and before another.
+pub(crate) fn lines_between(lines: &[Outer], from: Time, upto: Time) -> &[Outer]
+    requires { AllPairs (λ (a b : Outer). is_before b.time a.time ≡ false) lines.now }
+    ensures { result.now ≡ filter (λ (o : Outer). not (is_before o.time from))
+        (filter (λ (o : Outer). is_before o.time upto) lines.now) }
 {
-    let entries = part.entries();
-    let early = entries_before(entries, time);
-    early < entries.len() - early
+    let early = &lines[..lines_before(lines, upto)];
+    &early[lines_before(early, from)..]
 }

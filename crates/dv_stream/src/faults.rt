@@ -3,11 +3,11 @@
 ghost use Rattle.std.specs.Prelude.{◌≡◌};
 ghost use Rattle.dv_written.specs.Faults.{has_fault};
 
-use dv_merge::PartSlice;
+use dv_merge::PartRefs;
 use dv_written::OfJob;
 
 /// Whether some entry is a fault.
-pub fn has_fault<N: OfJob>(part: &PartSlice<'_, N>) -> bool
+pub fn has_fault<N: OfJob>(part: &PartRefs<'_, N>) -> bool
     ensures { result ≡ has_fault part.now }
 {
     for index in 0..part.entry_count() {

@@ -12,7 +12,7 @@ use dv_bag::Bags;
 use dv_board::Backlog;
 use dv_core::PlannedJob;
 use dv_lines::TraceWriter;
-use dv_merge::{PartSlice, merge};
+use dv_merge::{PartRefs, merge};
 use dv_text::WriteError;
 use dv_text::laws::a_trace_is_its_pieces;
 use dv_time::Time;
@@ -40,14 +40,14 @@ pub struct Merger<'t, N: OfJob> {
 pub fn write_merged<N: OfJob, J: PlannedJob, W: Write>(
     alloc: Global,
     job: &J,
-    pieces: &[PartSlice<'_, N>],
+    pieces: Vec<PartRefs<'_, N>>,
     before: Written,
     mark: Time,
     lines: &mut TraceWriter<'_, N>,
     writer: &mut W,
 ) -> Result<Written, WriteError>
     requires pieces { ArePartsOf (J.means job.now).owner
-        (trace (J.means job.now) before.mark mark) pieces.now }
+        (trace (J.means job.now) before.mark mark) pieces.items }
     requires of_run { IsOfRun (J.means job.now).limit mark }
     requires order { IsNoLater (J.means job.now) before.mark mark }
     requires within { rank (J.means job.now).limit mark
@@ -63,5 +63,5 @@ pub fn write_merged<N: OfJob, J: PlannedJob, W: Write>(
     // A piece of the trace stands by time.
     a_trace_is_its_pieces::<Bags>();
     let piece = merge(alloc, pieces)?;
-    write_piece(before, &piece.as_slice(), mark, lines, writer)
+    write_piece(before, &piece, mark, lines, writer)
 }

@@ -161,10 +161,10 @@ fn write_known<N: OfJob, W: Write>(
     let Ok(Some((pieces, mark))) = backlog.known(alloc, before.mark) else {
         return Ok(None);
     };
-    let Ok(piece) = merge(alloc, &pieces) else {
+    let Ok(piece) = merge(alloc, pieces) else {
         return Ok(None);
     };
-    let written = write_piece(before, &piece.as_slice(), mark, lines, writer)?;
+    let written = write_piece(before, &piece, mark, lines, writer)?;
     Ok(Some(written))
 }
 

@@ -139,8 +139,7 @@ fn write_all<N: OfJob, J: PlannedJob, W: Write>(
     let Some((pieces, mark)) = merger.backlog.known(alloc, before.mark)? else {
         unreachable!()
     };
-    let written = write_merged(alloc, job, &pieces, before, mark, &mut merger.lines, writer)?;
-    drop(pieces);
+    let written = write_merged(alloc, job, pieces, before, mark, &mut merger.lines, writer)?;
     merger.backlog.let_go(mark);
     Ok(written)
 }

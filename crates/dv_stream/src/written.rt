@@ -10,7 +10,7 @@ ghost use Rattle.dv_text.specs.Writing.{AppendsBeginning};
 
 use crate::faults::has_fault;
 use dv_lines::TraceWriter;
-use dv_merge::PartSlice;
+use dv_merge::PartRefs;
 use dv_text::WriteError;
 use dv_time::Time;
 use dv_written::OfJob;
@@ -40,7 +40,7 @@ impl Written {
 /// A write failed, or there is no memory for a line. The writer holds a beginning of the lines.
 pub fn write_piece<N: OfJob, W: Write>(
     before: Written,
-    piece: &PartSlice<'_, N>,
+    piece: &PartRefs<'_, N>,
     mark: Time,
     lines: &mut TraceWriter<'_, N>,
     writer: &mut W,

@@ -6,9 +6,9 @@ use std::alloc::{AllocError, Global};
 use std::marker::Model;
 use std::sync::atomic::{AtomicUsize, Ordering};
 
-// The most entries of all processes together that may wait to be written. They take megabytes, whatever the length of the run, and are
-// many times what a worker posts at once, so that a writer that keeps up holds nobody back.
-const ENTRIES_OF_ALL: usize = 16_384;
+// The most entries of all processes together that may wait to be written. With lines of 40 bytes they take 0.6 megabytes, whatever the
+// length of the run. They are many times what a worker posts at once, so that a writer that keeps up holds nobody back.
+const ENTRIES_OF_ALL: usize = 8_192;
 
 // So many entries of each process may wait, however many processes there are. With fewer, workers would sleep and wake at almost each
 // look of the writer.

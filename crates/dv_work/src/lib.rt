@@ -1,10 +1,11 @@
 //! Logical processes on threads: each worker owns its processes and the ends of their links.
 //!
-//! `run_streamed` starts the workers of a `Crew`, which has the processes of a job. A worker visits its processes one after the other: at each visit it
-//! takes a packet from each link that leads there, lets the process turn, and puts what it prepared; now and then it
-//! posts what was committed to the board of a `Stream`, and it waits at its `Bell` where nothing moved. A `Gate` is
-//! asked before each turn, and may stop the run. For any timing of the threads, what a process posts and what is left
-//! in the `Report` is its part of the trace, and a run is reported whole exactly where every clock is at the end.
+//! `run_streamed` starts the workers of a `Crew`, which has the processes of a job. A worker visits its processes one
+//! after the other: at each visit it takes a packet from each link that leads there, lets the process turn, and puts
+//! what it prepared; now and then it posts what was committed to the board of a `Stream`, and it waits at its `Bell`
+//! where nothing moved. A `Gate` is asked before each turn, and may stop the run. For any timing of the threads, what a
+//! process posts and what is left in the `Report` is its part of the trace, and a run is reported whole exactly where
+//! every clock is at the end.
 //!
 //! `dv_stream` runs plans by it, and takes and writes what is posted. That workers come to an end is tested and not
 //! proved; the sections below say why they do. Processes are never moved from worker to worker.
@@ -16,10 +17,10 @@
 //! lead that was too long and has fallen to half of what may wait, or the flag. Whoever puts a packet does so first and rings the
 //! receiver's bell after it; whoever takes one from a link whose sender asked for room (`Room`) rings the sender's bell after it, and a
 //! sender that finds its link full asks for room before it tries once more; whoever lets go of what was written takes it off the leads
-//! first and rings after it; the flag is set before all bells ring. So what a visit missed came after the count was read, and its ring has raised the count
-//! or will. Who is about to sleep says so first and looks at the count after it; who rings raises the count first and looks for
-//! sleepers after it. All of these are steps in one order that all threads see, so at least one of the two sees the other: the one
-//! does not fall asleep, or the other wakes it.
+//! first and rings after it; the flag is set before all bells ring. So what a visit missed came after the count was read, and its ring
+//! has raised the count or will. Who is about to sleep says so first and looks at the count after it; who rings raises the count first
+//! and looks for sleepers after it. All of these are steps in one order that all threads see, so at least one of the two sees the other:
+//! the one does not fall asleep, or the other wakes it.
 //!
 //! If all workers waited with work left, every queue that a visit found empty is empty still, and every one that it found full is
 //! full still. A full queue's receiver takes from it at each visit, so none is full. A worker waits only where on each link that
@@ -78,7 +79,7 @@ pub mod bell;
 pub mod crew;
 /// Who watches the turns.
 pub mod gate;
-/// How much of what processes posted waits to be taken.
+/// How much of what processes posted is not written yet.
 pub mod lead;
 /// Whether a process makes turns.
 pub mod pause;

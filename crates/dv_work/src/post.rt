@@ -17,8 +17,8 @@ use std::sync::Wait;
 const ROUNDS_TO_A_POST: u64 = 64;
 
 // Where a piece has more entries than this, the next one is made after half as many rounds, and else after twice as many. So many
-// entries take about 100 kilobytes: they are written while they are near, and their memory is not new to the process each time.
-const MANY_ENTRIES: usize = 1_024;
+// entries take about 40 kilobytes: they are written while they are near, and their memory is not new to the process each time.
+const MANY_ENTRIES: usize = 512;
 
 /// After which rounds a worker tells the others how far its processes have come, and posts.
 #[derive(Drop)]

@@ -1,6 +1,6 @@
-//! Entries, each as the line that it prints.
+//! Entries, each with the length of the line that it prints.
 
-ghost use Rattle.std.specs.Prelude.{◌≡◌, IfOk};
+ghost use Rattle.std.specs.Prelude.{◌≡◌, length};
 ghost use Rattle.dv_bag.specs.declared.entry.What.TheVariants as what;
 ghost use Rattle.dv_record.specs.Told.{entry};
 ghost use Rattle.dv_written.specs.Faults.{is_fault};
@@ -9,27 +9,22 @@ use crate::job::OfJob;
 use crate::told::ToldEntry;
 use dv_bag::{Fault, Kind, Sent, State};
 use dv_time::Time;
-use smallvec::SmallVec;
-use std::alloc::{AllocError, Global};
 use std::marker::{Model, PhantomData};
 
-// A line of so many bytes takes no memory of its own. Most lines are shorter.
-const INLINE_BYTES: usize = 72;
-
-/// What happened to a component at one instant, as the line that it prints. A contract reads it as the entry; in memory are its time,
-/// its component, whether it is a fault, and its line.
+/// What happened to a component at one instant. A contract reads it as the entry; in memory are its time, its component, whether it is
+/// a fault, and how long its line is. The line lies in the text of the part that has the entry.
 #[derive(Drop)]
 pub struct WrittenEntry<N: OfJob> {
     time: Time,
     component: u32,
     fault: bool,
-    line: SmallVec<u8, INLINE_BYTES>,
+    bytes: usize,
     told: ToldEntry,
     of: PhantomData<N>,
 }
 
 impl<N: OfJob> Model for WrittenEntry<N> {
-    ghost use Rattle.std.specs.Prelude.{◌≡◌};
+    ghost use Rattle.std.specs.Prelude.{◌≡◌, length};
     ghost use Rattle.dv_bag.specs.declared.entry.Entry.{Entry};
     ghost use Rattle.dv_written.specs.Faults.{is_fault};
 
@@ -40,63 +35,52 @@ impl<N: OfJob> Model for WrittenEntry<N> {
     ghost invariant = { λ e. (e.time ≡ e.told.entry.time)
         × (e.component ≡ e.told.entry.component)
         × (e.fault ≡ is_fault e.told.entry.what)
-        × (e.line.items ≡ N.line e.told.entry) };
+        × (e.bytes ≡ length (N.line e.told.entry)) };
 }
 
 impl<N: OfJob> WrittenEntry<N> {
-    /// A transition of a component at a time, with the state after it and what the component sent then, by its line.
-    ///
-    /// # Errors
-    ///
-    /// No memory for a long line.
-    pub fn moved(
-        alloc: Global,
-        line: &[u8],
+    /// A transition of a component at a time, with the state after it and what the component sent then, by the length of its line.
+    pub(crate) fn moved(
+        bytes: usize,
         time: Time,
         component: u32,
         kind: Kind,
         state: &State,
         sent: &Sent,
-    ) -> Result<Self, AllocError>
-        requires { line.now
-            ≡ N.line (entry time component (what.Transition kind state.now) sent.now) }
-        ensures { IfOk result (λ e.
-            e ≡ entry time component (what.Transition kind state.now) sent.now) }
+    ) -> Self
+        requires { bytes
+            ≡ length (N.line (entry time component (what.Transition kind state.now) sent.now)) }
+        ensures { result ≡ entry time component (what.Transition kind state.now) sent.now }
     {
-        Ok(WrittenEntry {
+        WrittenEntry {
             time,
             component,
             fault: false,
-            line: SmallVec::from_slice(alloc, line)?,
+            bytes,
             told: ToldEntry::moved(&time, &component, &kind, state, sent),
             of: PhantomData,
-        })
+        }
     }
 
-    /// A fault of a component at a time, and what the component sent then, by its line.
-    ///
-    /// # Errors
-    ///
-    /// No memory for a long line.
-    pub fn faulted(
-        alloc: Global,
-        line: &[u8],
+    /// A fault of a component at a time, and what the component sent then, by the length of its line.
+    pub(crate) fn faulted(
+        bytes: usize,
         time: Time,
         component: u32,
         fault: Fault,
         sent: &Sent,
-    ) -> Result<Self, AllocError>
-        requires { line.now ≡ N.line (entry time component (what.Fault fault) sent.now) }
-        ensures { IfOk result (λ e. e ≡ entry time component (what.Fault fault) sent.now) }
+    ) -> Self
+        requires { bytes ≡ length (N.line (entry time component (what.Fault fault) sent.now)) }
+        ensures { result ≡ entry time component (what.Fault fault) sent.now }
     {
-        Ok(WrittenEntry {
+        WrittenEntry {
             time,
             component,
             fault: true,
-            line: SmallVec::from_slice(alloc, line)?,
+            bytes,
             told: ToldEntry::faulted(&time, &component, &fault, sent),
             of: PhantomData,
-        })
+        }
     }
 
     /// When it happened.
@@ -122,11 +106,11 @@ impl<N: OfJob> WrittenEntry<N> {
         self.fault
     }
 
-    /// The line that it prints.
+    /// How many bytes its line has.
     #[inline]
-    pub fn line(&self) -> &[u8]
-        ensures { result.now ≡ N.line self.now }
+    pub fn line_length(&self) -> usize
+        ensures { result ≡ length (N.line self.now) }
     {
-        self.line.as_slice()
+        self.bytes
     }
 }

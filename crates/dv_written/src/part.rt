@@ -1,33 +1,72 @@
 //! Parts of written entries.
 
-ghost use Rattle.std.specs.Iterator.Adapters.{IterYieldsInOrder};
-ghost use Rattle.std.specs.Prelude.{◌≡◌, ◌<◌, ◌^◌, [], ◌∷◌, ◌++◌, length, take, OnOk, OnErr};
-ghost use Rattle.std.specs.Slice.Iter.{iter_rest};
+ghost use Rattle.std.specs.Prelude.{◌≡◌, ◌<◌, ◌^◌, [], ◌∷◌, ◌++◌, length, take, IfOk, OnOk, OnErr};
+ghost use Rattle.std.specs.List.{flat_map};
 ghost use Rattle.dv_bag.specs.Part.{joined, nothing, since};
-ghost use Rattle.dv_bag.specs.declared.entry.Entry.{Entry};
-ghost use Rattle.dv_bag.specs.declared.entry.Outer.{Outer};
+ghost use Rattle.dv_bag.specs.declared.entry.What.TheVariants as what;
+ghost use Rattle.dv_record.specs.Told.{entry};
 
 use crate::entry::WrittenEntry;
 use crate::job::OfJob;
-use dv_bag::Outer;
+use dv_bag::{Fault, Kind, Outer, Sent, State};
 use dv_time::Time;
 use std::alloc::{AllocError, Global};
 use std::marker::Model;
 
-/// Entries of some components, as the lines that they print, and what those components sent outside, in the order in which they were
-/// pushed.
+/// Entries of some components with the lines that they print, and what those components sent outside, in the order in which they were
+/// pushed. The lines lie one behind the other in one text.
 #[derive(Drop)]
 pub struct WrittenPart<N: OfJob> {
     entries: Vec<WrittenEntry<N>>,
+    text: Vec<u8>,
     outer: Vec<Outer>,
 }
 
 impl<N: OfJob> Model for WrittenPart<N> {
+    ghost use Rattle.std.specs.Prelude.{◌≡◌};
+    ghost use Rattle.std.specs.List.{flat_map};
     ghost use Rattle.dv_bag.specs.Part.{PartOf};
 
     ghost Value = { PartOf };
 
     ghost view = { λ p. record { entries = p.entries.items; outer = p.outer.items } };
+
+    ghost invariant = { λ p. p.text.items ≡ flat_map N.line p.entries.items };
+}
+
+// How long the lines of entries are together.
+fn text_length<N: OfJob>(entries: &[WrittenEntry<N>]) -> usize
+    requires { length (flat_map N.line entries.now) < 2 ^ 64 }
+    ensures { result ≡ length (flat_map N.line entries.now) }
+{
+    let mut bytes = 0;
+    for entry in entries {
+        bytes += entry.line_length();
+    }
+    bytes
+}
+
+// Those of entries that are not before a time, with their lines, which are taken out of the text of all.
+fn entries_since<N: OfJob>(
+    alloc: Global,
+    entries: Vec<WrittenEntry<N>>,
+    text: &[u8],
+    time: Time,
+) -> Result<WrittenPart<N>, AllocError>
+    requires { text.now ≡ flat_map N.line entries.items }
+    ensures { IfOk result (λ rest.
+        rest ≡ since time (record { entries = entries.items; outer = [] })) }
+{
+    let mut rest = WrittenPart::new(alloc);
+    let mut text = text;
+    for entry in entries {
+        let (line, behind) = text.split_at(entry.line_length());
+        if !entry.time().is_before(time) {
+            rest.push(entry, line)?;
+        }
+        text = behind;
+    }
+    Ok(rest)
 }
 
 impl<N: OfJob> WrittenPart<N> {
@@ -37,31 +76,84 @@ impl<N: OfJob> WrittenPart<N> {
     {
         WrittenPart {
             entries: Vec::new(alloc),
+            text: Vec::new(alloc),
             outer: Vec::new(alloc),
         }
     }
 
-    /// No entries, and nothing sent outside, with room for so many entries where there is memory for it.
-    pub fn with_room(alloc: Global, entries: usize) -> Self
+    /// No entries, and nothing sent outside, with room for so many entries and for lines of so many bytes where there is memory for it.
+    pub fn with_room(alloc: Global, entries: usize, bytes: usize) -> Self
         ensures { result ≡ nothing }
     {
         WrittenPart {
             entries: Vec::with_capacity(alloc, entries).unwrap_or(Vec::new(alloc)),
+            text: Vec::with_capacity(alloc, bytes).unwrap_or(Vec::new(alloc)),
             outer: Vec::new(alloc),
         }
     }
 
-    /// One more entry, after those that are there.
-    ///
-    /// # Errors
-    ///
-    /// No memory for one more. The part is as before.
-    pub fn push_entry(&mut self, entry: WrittenEntry<N>) -> Result<(), AllocError>
+    // One more entry with its line, behind those that are there. Where memory is refused, the part is as before.
+    fn push(&mut self, entry: WrittenEntry<N>, line: &[u8]) -> Result<(), AllocError>
+        requires { line.now ≡ N.line entry }
         ensures ok { OnOk result
             (self.new ≡ record self.old { entries = self.old.entries ++ entry ∷ [] }) }
         ensures err { OnErr result (self.new ≡ self.old) }
     {
-        Ok(self.entries.push(entry)?)
+        self.entries.reserve(1)?;
+        self.text.extend_from_slice(line)?;
+        self.entries.push_reserved(entry);
+        Ok(())
+    }
+
+    /// One more entry, behind those that are there: a transition of a component at a time, with the state after it and what the
+    /// component sent then, by its line.
+    ///
+    /// # Errors
+    ///
+    /// No memory for it. The part is as before.
+    pub fn push_moved(
+        &mut self,
+        line: &[u8],
+        time: Time,
+        component: u32,
+        kind: Kind,
+        state: &State,
+        sent: &Sent,
+    ) -> Result<(), AllocError>
+        requires { line.now
+            ≡ N.line (entry time component (what.Transition kind state.now) sent.now) }
+        ensures ok { OnOk result (self.new ≡ record self.old {
+          entries = self.old.entries
+              ++ entry time component (what.Transition kind state.now) sent.now ∷ [];
+        }) }
+        ensures err { OnErr result (self.new ≡ self.old) }
+    {
+        let entry = WrittenEntry::moved(line.len(), time, component, kind, state, sent);
+        self.push(entry, line)
+    }
+
+    /// One more entry, behind those that are there: a fault of a component at a time, and what the component sent then, by its line.
+    ///
+    /// # Errors
+    ///
+    /// No memory for it. The part is as before.
+    pub fn push_faulted(
+        &mut self,
+        line: &[u8],
+        time: Time,
+        component: u32,
+        fault: Fault,
+        sent: &Sent,
+    ) -> Result<(), AllocError>
+        requires { line.now ≡ N.line (entry time component (what.Fault fault) sent.now) }
+        ensures ok { OnOk result (self.new ≡ record self.old {
+          entries = self.old.entries
+              ++ entry time component (what.Fault fault) sent.now ∷ [];
+        }) }
+        ensures err { OnErr result (self.new ≡ self.old) }
+    {
+        let entry = WrittenEntry::faulted(line.len(), time, component, fault, sent);
+        self.push(entry, line)
     }
 
     /// One more line of what was sent outside, after those that are there.
@@ -91,7 +183,12 @@ impl<N: OfJob> WrittenPart<N> {
         self.outer.len()
     }
 
-    /// All of another part, after what is there.
+    /// How many bytes the lines have together.
+    pub fn byte_count(&self) -> usize {
+        self.text.len()
+    }
+
+    /// All of another part, behind what is there.
     ///
     /// # Errors
     ///
@@ -103,39 +200,42 @@ impl<N: OfJob> WrittenPart<N> {
         if self.entries.is_empty() {
             self.outer.append(&mut more.outer)?;
             self.entries = more.entries;
+            self.text = more.text;
             return Ok(());
         }
         self.entries.reserve(more.entries.len())?;
+        self.text.reserve(more.text.len())?;
         self.outer.append(&mut more.outer)?;
-        if self.entries.append(&mut more.entries).is_err() {
+        if self.entries.append(&mut more.entries).is_err()
+            || self.text.append(&mut more.text).is_err()
+        {
             unreachable!("room was made");
         }
         Ok(())
     }
 
-    /// So many entries and lines stay, the first ones; where there are not as many, all do.
+    /// So many entries and lines of what left stay, the first ones; where there are not as many, all do.
     pub fn truncate(&mut self, entries: usize, outer: usize)
         ensures entries { self.new.entries ≡ take entries self.old.entries }
         ensures outer { self.new.outer ≡ take outer self.old.outer }
     {
         self.entries.truncate(entries);
+        self.text.truncate(text_length(&self.entries));
         self.outer.truncate(outer);
     }
 
-    /// What is before a time goes, and the rest stays.
-    pub fn keep_since(&mut self, time: Time)
-        ensures { self.new ≡ since time self.old }
-    {
-        self.entries.retain(|entry| !entry.time().is_before(time));
-        self.outer.retain(|line| !line.time.is_before(time));
-    }
-
     /// What is not before a time. The rest is gone.
-    pub fn since(mut self, time: Time) -> Self
-        ensures { result ≡ since time self }
+    ///
+    /// # Errors
+    ///
+    /// No memory for it. All of the part is gone.
+    pub fn since(mut self, alloc: Global, time: Time) -> Result<Self, AllocError>
+        ensures { IfOk result (λ rest. rest ≡ since time self) }
     {
-        self.keep_since(time);
-        self
+        let mut rest = entries_since(alloc, self.entries, &self.text, time)?;
+        self.outer.retain(|line| !line.time.is_before(time));
+        rest.outer = self.outer;
+        Ok(rest)
     }
 
     /// The entries, in the order in which they were pushed: a run pushes them by time and component.
@@ -143,6 +243,13 @@ impl<N: OfJob> WrittenPart<N> {
         ensures { result.now ≡ self.now.entries }
     {
         &self.entries
+    }
+
+    /// The lines of the entries, one behind the other.
+    pub fn text(&self) -> &[u8]
+        ensures { result.now ≡ flat_map N.line self.now.entries }
+    {
+        &self.text
     }
 
     /// What was sent outside, in the order in which it was pushed: a run pushes it by time and port.

@@ -1,23 +1,8 @@
-use Rattle.std.proofs.Common.{List, ◌++◌, append-nil, drop, length, map, set, sym, ap, ap₂, subst, ◌∙◌}
-use Rattle.std.specs.List.{All}
+use Rattle.std.proofs.Common.{List, ◌++◌, append-nil, drop, length, map, set, sym, ap, ap₂, ◌∙◌}
 use Rattle.std.proofs.lemmas.List.{drop_all, take_all, take_at}
 use Rattle.std.proofs.lemmas.List.Edits.{map_over_more}
-use Rattle.dv_board.specs.declared.held.Held.{Held}
-use Rattle.dv_bag.specs.Part.{IsByTime}
-use Rattle.dv_board.specs.Indices.{rest_of}
-use Rattle.dv_board.proofs.Indices.{at_indices_to_come}
+use Rattle.dv_board.specs.Stretches.{HeldOf, rest_of}
 use Rattle.dv_board.proofs.backlog.let_go_all.Goals as goal
-
-pub let_go-requires : goal.let_go-requires
-let_go-requires g c =
-    let old = c.deref_mut-kept-items.result.now in
-    let now = c.loop-kept.kept-items in
-    let k = c.loop-kept.kept-index in
-    let same = c.deref_mut-kept-items.ensures.value in
-    let by_time = subst (All (λ (h : Held g.row.N.Denot). IsByTime h.part)) (sym same) c.requires in
-    subst (λ (h : Held g.row.N.Denot). IsByTime h.part)
-    (sym (at_indices_to_come (rest_of c.args.time) old now k c.kept-item.result c.loop-kept-test.true c.loop-kept.invariant))
-    (by_time k c.kept-item.result c.loop-kept-test.true)
 
 pub loop-kept-preserved : goal.loop-kept-preserved
 loop-kept-preserved g c =
@@ -36,5 +21,5 @@ returns g c =
     take_at now (drop (length now) c.args.held.now.items) c.args.held.now.len
     (c.loop-kept.auto.kept-items ∙ c.deref_mut-kept-items.ensures.len)
     ∙ (c.loop-kept.invariant
-    ∙ (ap₂ (λ (a b : List (Held g.row.N.Denot)). map (rest_of c.args.time) a ++ b) (take_all k old past) (drop_all k old past)
+    ∙ (ap₂ (λ (a b : List (HeldOf g.row.N.Denot)). map (rest_of c.args.time) a ++ b) (take_all k old past) (drop_all k old past)
     ∙ (append-nil (map (rest_of c.args.time) old) ∙ ap (map (rest_of c.args.time)) c.deref_mut-kept-items.ensures.value)))

@@ -1,5 +1,5 @@
 use Rattle.std.proofs.Common.{◌≡◌, ◌++◌, drop, map, take}
-use Rattle.dv_board.specs.Indices.{rest_of}
+use Rattle.dv_board.specs.Stretches.{rest_of}
 use Rattle.dv_board.proofs.backlog.let_go_all.Given as goal
 
 abbrev pub invariant-loop-kept : goal.invariant-loop-kept

@@ -22,9 +22,13 @@ pub returns-in_err-written-clause-err : goal.returns-in_err-written-clause-err
 returns-in_err-written-clause-err g c = λ by.
     OnErr-always _ (AppendsBeginning-nothing (g.W.Write.contents c.args.writer.now) (lines c.args.trace.now c.args.words.now))
 
+pub returns-in_err-part-clause-err : goal.returns-in_err-part-clause-err
+returns-in_err-part-clause-err g c = λ by.
+    OnErr-always _ (AppendsBeginning-nothing (g.W.Write.contents c.args.writer.now) (lines c.args.trace.now c.args.words.now))
+
 pub returns-clause-ok : goal.returns-clause-ok
 returns-clause-ok g c = λ by.
-    let same = c.all_of.ensures ∙ c.in_ok-written.ensures in
+    let same = c.in_ok-part.ensures ∙ c.in_ok-written.ensures in
     subst
     (λ (t : List ℕ). OnOk c.write_merged.result
     (Appends (g.W.Write.contents c.args.writer.now) (g.W.Write.contents c.write_merged.new.writer) t))
@@ -32,7 +36,7 @@ returns-clause-ok g c = λ by.
 
 pub returns-clause-err : goal.returns-clause-err
 returns-clause-err g c = λ by.
-    let same = c.all_of.ensures ∙ c.in_ok-written.ensures in
+    let same = c.in_ok-part.ensures ∙ c.in_ok-written.ensures in
     subst
     (λ (t : List ℕ). OnErr c.write_merged.result
     (AppendsBeginning (g.W.Write.contents c.args.writer.now) (g.W.Write.contents c.write_merged.new.writer) t))

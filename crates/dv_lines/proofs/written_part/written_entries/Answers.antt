@@ -10,10 +10,9 @@ pub loop-entry-preserved : goal.loop-entry-preserved
 loop-entry-preserved g c =
     let before = c.loop-entry.written in
     let rest = iter_rest c.next.new.self in
-    let pushed = c.in_ok-push_entry.ensures.ok in (
+    let pushed = c.in_ok-push_entry.ensures in (
       ap (λ (p : PartOf). p.entries ++ rest) pushed
-          ∙ append_assoc before.entries (c.in_ok-written_entry.field-0 ∷ []) rest
-          ∙ ap (λ (e : Entry). before.entries ++ e ∷ rest) c.in_ok-written_entry.ensures
+          ∙ append_assoc before.entries (c.in-Some.entry.now ∷ []) rest
           ∙ ap (λ (es : List Entry). before.entries ++ es) (sym c.in-Some.ensures.steps)
           ∙ c.loop-entry.invariant.0,
       ap (λ (p : PartOf). p.outer) pushed ∙ c.loop-entry.invariant.1,

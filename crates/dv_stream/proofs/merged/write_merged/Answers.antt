@@ -18,7 +18,7 @@ pub write_piece-requires : goal.write_piece-requires
 write_piece-requires g c =
     let job = g.J.PlannedJob.means c.args.job.now in
     let from = c.args.before.mark in
-    let is = c.as_slice.ensures ∙ c.in_ok-piece.ensures.whole job.owner (trace job from c.args.mark) c.requires.pieces in
+    let is = c.in_ok-piece.ensures.whole job.owner (trace job from c.args.mark) c.requires.pieces in
     record {
       by_time = subst IsByTime (sym is)
           (c.a_trace_is_its_pieces.ensures.by_time job.limit (whole job.flat) job.outside (rank job.limit from)
@@ -28,14 +28,14 @@ write_piece-requires g c =
 pub returns-clause-ok : goal.returns-clause-ok
 returns-clause-ok g c =
     let job = g.J.PlannedJob.means c.args.job.now in
-    let is = c.as_slice.ensures ∙ c.in_ok-piece.ensures.whole job.owner (trace job c.args.before.mark c.args.mark) c.requires.pieces in
+    let is = c.in_ok-piece.ensures.whole job.owner (trace job c.args.before.mark c.args.mark) c.requires.pieces in
     goes_on job c.args.lines.now (g.W.Write.contents c.args.writer.now) (g.W.Write.contents c.write_piece.new.writer) c.args.before
-    c.args.mark c.as_slice.result is c.requires.order c.requires.of_run c.write_piece.result c.write_piece.ensures.text
+    c.args.mark c.in_ok-piece.piece is c.requires.order c.requires.of_run c.write_piece.result c.write_piece.ensures.text
     c.write_piece.ensures.mark c.write_piece.ensures.faults
 
 pub returns-clause-err : goal.returns-clause-err
 returns-clause-err g c =
     let job = g.J.PlannedJob.means c.args.job.now in
-    let is = c.as_slice.ensures ∙ c.in_ok-piece.ensures.whole job.owner (trace job c.args.before.mark c.args.mark) c.requires.pieces in
+    let is = c.in_ok-piece.ensures.whole job.owner (trace job c.args.before.mark c.args.mark) c.requires.pieces in
     falters job c.args.lines.now (g.W.Write.contents c.args.writer.now) (g.W.Write.contents c.write_piece.new.writer) c.args.before
-    c.args.mark c.as_slice.result is c.requires.order c.requires.within c.write_piece.result c.write_piece.ensures.err
+    c.args.mark c.in_ok-piece.piece is c.requires.order c.requires.within c.write_piece.result c.write_piece.ensures.err

@@ -16,8 +16,7 @@ write_piece-requires g c =
     let from = c.args.before.mark in
     let some = c.in-Ok-Some in
     let parts = subst (λ o. IfSome o (λ k. ArePartsOf job.owner (trace job from k.1) k.0.items)) some.field-0-is some.ensures.pieces in
-    let is = c.as_slice.ensures ∙ c.in-Ok.ensures.whole job.owner (trace job from some.mark)
-    (subst (ArePartsOf job.owner (trace job from some.mark)) (sym c.deref.ensures.value) parts) in
+    let is = c.in-Ok.ensures.whole job.owner (trace job from some.mark) parts in
     let order = subst (λ o. IfSome o (λ k. IsNoLater job from k.1)) some.field-0-is some.ensures.order in
     record {
       by_time = subst IsByTime (sym is)
@@ -31,12 +30,11 @@ returns-in_err-written-clause-err g c =
     let from = c.args.before.mark in
     let some = c.in-Ok-Some in
     let parts = subst (λ o. IfSome o (λ k. ArePartsOf job.owner (trace job from k.1) k.0.items)) some.field-0-is some.ensures.pieces in
-    let is = c.as_slice.ensures ∙ c.in-Ok.ensures.whole job.owner (trace job from some.mark)
-    (subst (ArePartsOf job.owner (trace job from some.mark)) (sym c.deref.ensures.value) parts) in
+    let is = c.in-Ok.ensures.whole job.owner (trace job from some.mark) parts in
     let order = subst (λ o. IfSome o (λ k. IsNoLater job from k.1)) some.field-0-is some.ensures.order in
     let within = subst (λ o. IfSome o (λ k. rank job.limit k.1 ≤ end_of job.limit job.horizon)) some.field-0-is some.ensures.within in
     OnErr-always _ (falters job c.args.lines.now (g.W.Write.contents c.args.writer.now) (g.W.Write.contents c.write_piece.new.writer)
-    c.args.before some.mark c.as_slice.result is order within (Err c.in_err-written.field-0.0) c.in_err-written.ensures.err)
+    c.args.before some.mark c.in-Ok.piece is order within (Err c.in_err-written.field-0.0) c.in_err-written.ensures.err)
 
 pub returns-clause-some : goal.returns-clause-some
 returns-clause-some g c =
@@ -44,10 +42,9 @@ returns-clause-some g c =
     let from = c.args.before.mark in
     let some = c.in-Ok-Some in
     let parts = subst (λ o. IfSome o (λ k. ArePartsOf job.owner (trace job from k.1) k.0.items)) some.field-0-is some.ensures.pieces in
-    let is = c.as_slice.ensures ∙ c.in-Ok.ensures.whole job.owner (trace job from some.mark)
-    (subst (ArePartsOf job.owner (trace job from some.mark)) (sym c.deref.ensures.value) parts) in
+    let is = c.in-Ok.ensures.whole job.owner (trace job from some.mark) parts in
     let order = subst (λ o. IfSome o (λ k. IsNoLater job from k.1)) some.field-0-is some.ensures.order in
     let of_run = subst (λ o. IfSome o (λ k. IsOfRun job.limit k.1)) some.field-0-is some.ensures.of_run in
     goes_on job c.args.lines.now (g.W.Write.contents c.args.writer.now) (g.W.Write.contents c.write_piece.new.writer) c.args.before
-    some.mark c.as_slice.result is order of_run (Ok c.in_ok-written.written) c.in_ok-written.ensures.text
+    some.mark c.in-Ok.piece is order of_run (Ok c.in_ok-written.written) c.in_ok-written.ensures.text
     c.in_ok-written.ensures.mark c.in_ok-written.ensures.faults

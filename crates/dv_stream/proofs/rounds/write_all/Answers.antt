@@ -18,8 +18,7 @@ write_merged-requires-clause-pieces g c =
     let from = c.args.before.mark in
     let parts = subst (λ o. IfSome o (λ k. ArePartsOf job.owner (trace job from k.1) k.0.items)) c.in-Some.is
     c.in_ok-pieces.ensures.pieces in
-    subst (λ (j : Job). ArePartsOf j.owner (trace j from c.in-Some.mark) c.deref.result.now) c.requires.job
-    (subst (ArePartsOf job.owner (trace job from c.in-Some.mark)) (sym c.deref.ensures.value) parts)
+    subst (λ (j : Job). ArePartsOf j.owner (trace j from c.in-Some.mark) c.in-Some.pieces.items) c.requires.job parts
 
 pub returns-clause-ok : goal.returns-clause-ok
 returns-clause-ok g c =

@@ -1,4 +1,4 @@
-use Rattle.std.proofs.Common.{ℕ, List, ap, ◌∙◌}
+use Rattle.std.proofs.Common.{List, ap, ◌∙◌}
 use Rattle.dv_tree.specs.Tables.{Source}
 use Rattle.dv_text.specs.Names.{tree_names}
 use Rattle.dv_lines.specs.Entries.{line_by, line_of}
