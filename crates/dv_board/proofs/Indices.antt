@@ -43,8 +43,8 @@ pub first_least : {N : Type 0} (held : List (HeldOf N)) (h : HeldOf N) → 0 < l
     → IsLeastOf held 0 h.clock
 first_least held h lt at = record { is = clock_is_in held 0 h lt at; none_before = λ k d none. absurd (omega arith) }
 
-module _ {N : Type 0} (held : List (HeldOf N)) (k : ℕ) (least : Time) (h : HeldOf N) (lt : k < length held) (at : h ≡ slice_index_or held k h)
-    (so_far : IsLeastOf held k least) where
+module _ {N : Type 0} (held : List (HeldOf N)) (k : ℕ) (least : Time) (h : HeldOf N) (lt : k < length held)
+    (at : h ≡ slice_index_or held k h) (so_far : IsLeastOf held k least) where
   pub least_falls : is_before h.clock least ≡ true → IsLeastOf held (k + 1) h.clock
   least_falls e = record {
     is = clock_is_in held k h lt at;

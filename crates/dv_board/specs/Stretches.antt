@@ -36,9 +36,9 @@ AreInTurn begin (s ∷ ss) =
 abbrev pub AreByTime : {N : Type 0} → HeldOf N → Type 0
 AreByTime h = AreInTurn first_time h.ended × IsByTime h.last
 
--- whether a part is joined to the last stretch: there is nothing in that, or they have 256 entries together at most
+-- whether a part is joined to the last stretch: there is nothing in that, or they have 64 entries together at most
 abbrev pub is_joined : PartOf → PartOf → Bool
-is_joined last more = nat_eq (length last.entries) 0 || nat_le (length more.entries) (256 - length last.entries)
+is_joined last more = nat_eq (length last.entries) 0 || nat_le (length more.entries) (64 - length last.entries)
 
 -- with a part behind the others, up to a clock
 abbrev pub with_more : {N : Type 0} → HeldOf N → PartOf → Time → HeldOf N

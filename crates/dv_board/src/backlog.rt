@@ -159,11 +159,11 @@ impl<N: OfJob> Backlog<N> {
         Ok(clocks)
     }
 
-    /// How many entries of a process are kept; 0 for a number that is none of the job's. Of a process with the least clock there are none
-    /// after `let_go`.
-    pub fn entry_count(&self, process: u32) -> usize {
+    /// How many bytes the lines have that are kept of a process; 0 for a number that is none of the job's. Of a process with the least
+    /// clock there are none after `let_go`.
+    pub fn byte_count(&self, process: u32) -> usize {
         match self.held.get(process as usize) {
-            Some(held) => held.entry_count(),
+            Some(held) => held.byte_count(),
             None => 0,
         }
     }

@@ -18,8 +18,8 @@ use std::marker::Model;
 use std::mem;
 
 // Pieces are joined to stretches of so many entries at most, so that of two neighbours one is long. What is joined is copied, and takes
-// some 20 kilobytes.
-const ENTRIES_OF_A_STRETCH: usize = 256;
+// some 5 kilobytes.
+const ENTRIES_OF_A_STRETCH: usize = 64;
 
 /// What a process committed from the end of the stretch before it on, and before its own end.
 #[derive(Drop)]
@@ -128,13 +128,13 @@ impl<N: OfJob> Held<N> {
         self.clock
     }
 
-    /// How many entries are kept.
-    pub fn entry_count(&self) -> usize {
-        let mut count = self.last.entry_count();
+    /// How many bytes the lines have that are kept.
+    pub fn byte_count(&self) -> usize {
+        let mut bytes = self.last.byte_count();
         for index in 0..self.ended.len() {
-            count = count.saturating_add(self.ended[index].part.entry_count());
+            bytes = bytes.saturating_add(self.ended[index].part.byte_count());
         }
-        count
+        bytes
     }
 
     /// What is kept from one time on and before another, where it lies.

@@ -19,8 +19,7 @@ use std::marker::{Model, PhantomData};
 use std::mem;
 
 // A part begins with room for as much as the one before it had, but for so many entries at most, and for so many bytes of lines. Where
-// it gets longer it grows by doubling. How long parts are varies, and they wait as they are: with room for all of the one before them
-// they took three times the memory of what was in them.
+// it gets longer it grows by doubling. Since it may wait after it was handed over, it gives back then what it does not use.
 const MOST_ROOM: usize = 128;
 
 const MOST_ROOM_OF_LINES: usize = 8_192;
@@ -220,7 +219,9 @@ impl<'w, N: OfJob> HandsOver<N> for WrittenRecord<'w, N> {
         let entries = self.kept.entry_count().min(MOST_ROOM);
         let bytes = self.kept.byte_count().min(MOST_ROOM_OF_LINES);
         let next = WrittenPart::with_room(alloc, entries, bytes);
-        mem::replace(&mut self.kept, next)
+        let mut part = mem::replace(&mut self.kept, next);
+        part.shrink();
+        part
     }
 }
 

@@ -41,7 +41,7 @@ pub struct Signals<N: OfJob> {
     pub stop: Flag,
     /// The bells of the workers.
     pub bells: Vec<Bell>,
-    /// How much of each process is posted and not written yet.
+    /// How many bytes of lines of each process are posted and not written yet.
     pub leads: Leads,
 }
 
@@ -58,7 +58,12 @@ impl<N: OfJob> Signals<N> {
     /// # Errors
     ///
     /// No memory for the bells and the leads.
-    pub fn new(alloc: Global, processes: u32, workers: usize) -> Result<Self, AllocError>
+    pub fn new(
+        alloc: Global,
+        processes: u32,
+        workers: usize,
+        components: usize,
+    ) -> Result<Self, AllocError>
         ensures { IfOk result (λ signals. length signals.bells.items ≡ workers) }
     {
         Ok(Signals {
@@ -69,7 +74,7 @@ impl<N: OfJob> Signals<N> {
             ended: Flag::new(),
             stop: Flag::new(),
             bells: bells_of(alloc, workers)?,
-            leads: Leads::new(alloc, processes)?,
+            leads: Leads::new(alloc, processes, components)?,
         })
     }
 
@@ -111,7 +116,7 @@ impl<N: OfJob> Signals<N> {
     /// Counts what was taken off the board.
     pub fn note_taken(&self, pieces: &[Piece<N>]) {
         for piece in pieces {
-            self.leads.take(piece.process, piece.part.entry_count());
+            self.leads.take(piece.process, piece.part.byte_count());
         }
     }
 
@@ -119,7 +124,7 @@ impl<N: OfJob> Signals<N> {
     pub fn note_kept(&self, backlog: &Backlog<N>) {
         let mut may_go_on = false;
         for process in 0..self.leads.processes() {
-            if self.leads.keep(process, backlog.entry_count(process)) {
+            if self.leads.keep(process, backlog.byte_count(process)) {
                 may_go_on = true;
             }
         }

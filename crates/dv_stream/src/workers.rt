@@ -271,7 +271,12 @@ where
     a_trace_is_its_pieces::<Bags>();
     let processes = crew.processes.len() as u32;
     let backlog: Backlog<N> = Backlog::new(alloc, processes)?;
-    let signals: Signals<N> = Signals::new(alloc, processes, crew.works.len())?;
+    let signals: Signals<N> = Signals::new(
+        alloc,
+        processes,
+        crew.works.len(),
+        words.tree().component_count(),
+    )?;
     let lines = TraceWriter::new(alloc, words)?;
     let mut merger = Merger {
         alloc,

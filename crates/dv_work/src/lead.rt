@@ -6,18 +6,18 @@ use std::alloc::{AllocError, Global};
 use std::marker::Model;
 use std::sync::atomic::{AtomicUsize, Ordering};
 
-// The most entries of all processes together that may wait to be written. With lines of 40 bytes they take 0.6 megabytes, whatever the
-// length of the run. They are many times what a worker posts at once, so that a writer that keeps up holds nobody back.
-const ENTRIES_OF_ALL: usize = 8_192;
+// So many bytes of lines of each process may wait, however small it is: some thousand lines of usual length. With fewer, workers would
+// sleep and wake at almost each look of the writer.
+const BYTES_OF_EACH: usize = 49_152;
 
-// So many entries of each process may wait, however many processes there are. With fewer, workers would sleep and wake at almost each
-// look of the writer.
-const ENTRIES_OF_EACH: usize = 1_024;
+// And so many for each of its components: two lines of usual length. All components may have a line at one instant, and a process that
+// waited at each instant would hardly ever work while others do.
+const BYTES_OF_A_COMPONENT: usize = 96;
 
-/// How many entries a process has posted that are not written and let go of yet.
+/// How many bytes the lines have that a process has posted and that are not written and let go of yet.
 #[derive(Drop)]
 pub struct Lead {
-    entries: AtomicUsize,
+    bytes: AtomicUsize,
     // How many of them were taken. Only whoever takes changes it.
     taken: AtomicUsize,
 }
@@ -26,24 +26,24 @@ impl Lead {
     /// Nothing was posted.
     pub fn new() -> Lead {
         Lead {
-            entries: AtomicUsize::new(0),
+            bytes: AtomicUsize::new(0),
             taken: AtomicUsize::new(0),
         }
     }
 
     /// How many there are.
-    pub fn entries(&self) -> usize {
-        self.entries.load(Ordering::SeqCst)
+    pub fn bytes(&self) -> usize {
+        self.bytes.load(Ordering::SeqCst)
     }
 
     /// So many are posted.
-    pub fn add(&self, entries: usize) {
-        self.entries.fetch_add(entries, Ordering::SeqCst);
+    pub fn add(&self, bytes: usize) {
+        self.bytes.fetch_add(bytes, Ordering::SeqCst);
     }
 
     /// So many of them were taken.
-    pub fn take(&self, entries: usize) {
-        self.taken.fetch_add(entries, Ordering::SeqCst);
+    pub fn take(&self, bytes: usize) {
+        self.taken.fetch_add(bytes, Ordering::SeqCst);
     }
 
     /// Of those that were taken so many are kept, and the others were let go. Returns how many there were before and how many were
@@ -52,14 +52,14 @@ impl Lead {
         let taken = self.taken.load(Ordering::SeqCst);
         let gone = taken.saturating_sub(kept);
         if gone == 0 {
-            return (self.entries(), 0);
+            return (self.bytes(), 0);
         }
         self.taken.store(kept, Ordering::SeqCst);
-        (self.entries.fetch_sub(gone, Ordering::SeqCst), gone)
+        (self.bytes.fetch_sub(gone, Ordering::SeqCst), gone)
     }
 }
 
-/// The lead of each process of a job, by their numbers, and the most entries of each that may wait. Contracts see how many
+/// The lead of each process of a job, by their numbers, and the most bytes of each that may wait. Contracts see how many
 /// processes there are. A number past the last one has no lead.
 #[derive(Drop)]
 pub struct Leads {
@@ -76,9 +76,12 @@ impl Model for Leads {
     ghost view = { λ l. length l.leads.items };
 }
 
-// The most entries of each of so many processes that may wait.
-fn most_of(processes: u32) -> usize {
-    (ENTRIES_OF_ALL / processes.max(1) as usize).max(ENTRIES_OF_EACH)
+// The most bytes of lines of each of so many processes that may wait.
+fn most_of(processes: u32, components: usize) -> usize {
+    let of_one = components / processes.max(1) as usize;
+    of_one
+        .saturating_mul(BYTES_OF_A_COMPONENT)
+        .max(BYTES_OF_EACH)
 }
 
 // The leads of so many processes that have posted nothing.
@@ -98,13 +101,13 @@ impl Leads {
     /// # Errors
     ///
     /// No memory for so many.
-    pub fn new(alloc: Global, processes: u32) -> Result<Self, AllocError>
+    pub fn new(alloc: Global, processes: u32, components: usize) -> Result<Self, AllocError>
         ensures count { IfOk result (λ leads. leads ≡ processes) }
     {
         Ok(Leads {
             leads: new_leads(alloc, processes)?,
             processes,
-            most: most_of(processes),
+            most: most_of(processes, components),
         })
     }
 
@@ -123,26 +126,26 @@ impl Leads {
         } else {
             self.most
         };
-        lead.entries() > most
+        lead.bytes() > most
     }
 
-    /// So many entries of a process are posted.
-    pub fn add(&self, process: u32, entries: usize) {
+    /// So many bytes of lines of a process are posted.
+    pub fn add(&self, process: u32, bytes: usize) {
         let Some(lead) = self.leads.get(process as usize) else {
             return;
         };
-        lead.add(entries);
+        lead.add(bytes);
     }
 
-    /// So many entries of a process were taken.
-    pub fn take(&self, process: u32, entries: usize) {
+    /// So many bytes of lines of a process were taken.
+    pub fn take(&self, process: u32, bytes: usize) {
         let Some(lead) = self.leads.get(process as usize) else {
             return;
         };
-        lead.take(entries);
+        lead.take(bytes);
     }
 
-    /// Of the entries of a process that were taken so many are kept, and the others were let go. Tells whether more than half of what
+    /// Of the bytes of a process that were taken so many are kept, and the others were let go. Tells whether more than half of what
     /// may wait of it waited, and does not any more: its worker may wait for that at its bell.
     pub fn keep(&self, process: u32, kept: usize) -> bool {
         let Some(lead) = self.leads.get(process as usize) else {

@@ -39,9 +39,9 @@
 //!
 //! Workers commit faster than one thread can merge and write, and processes that hardly depend on each other run ahead of one another,
 //! while only what is before the least clock can be written. So what waits would grow with the run. Therefore the lead of each process is
-//! counted: the entries that it has posted and that are not written and let go of yet. While somebody takes pieces, a process whose lead
-//! is too long is held back, until it has fallen to half. Its worker still takes packets for it and puts what it prepared, and waits at
-//! the bell where nothing else moved. Such a process makes one turn more, once nothing stands for its links, and none after that.
+//! counted: the bytes of the lines that it has posted and that are not written and let go of yet. While somebody takes pieces, a process
+//! whose lead is too long is held back, until it has fallen to half. Its worker still takes packets for it and puts what it prepared, and
+//! waits at the bell where nothing else moved. Such a process makes one turn more, once nothing stands for its links, and none after that.
 //!
 //! No process is held back for ever, if whoever takes pieces does so after each ring of the news, and then writes all that is before the
 //! least clock, lets go of it and takes it off the leads, before it waits for anything else. For a worker posts before it sleeps, and the

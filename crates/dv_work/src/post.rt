@@ -16,9 +16,10 @@ use std::sync::Wait;
 // compared with this many rounds.
 const ROUNDS_TO_A_POST: u64 = 64;
 
-// Where a piece has more entries than this, the next one is made after half as many rounds, and else after twice as many. So many
-// entries take about 40 kilobytes: they are written while they are near, and their memory is not new to the process each time.
-const MANY_ENTRIES: usize = 512;
+// Where the lines of a piece have more bytes than this, the next one is made after half as many rounds, and else after twice as many.
+// With its entries such a piece takes about 20 kilobytes: it is written while it is near, and its memory is not new to the process each
+// time.
+const MANY_BYTES: usize = 12_288;
 
 /// After which rounds a worker tells the others how far its processes have come, and posts.
 #[derive(Drop)]
@@ -43,9 +44,9 @@ impl Pace {
         self.rounds.is_power_of_two() || self.rounds.is_multiple_of(self.between)
     }
 
-    /// The longest piece of a post had so many entries.
-    pub fn adapt(&mut self, entries: usize) {
-        let between = if entries > MANY_ENTRIES {
+    /// The lines of the longest piece of a post had so many bytes.
+    pub fn adapt(&mut self, bytes: usize) {
+        let between = if bytes > MANY_BYTES {
             self.between / 2
         } else {
             self.between.saturating_mul(2)
@@ -79,7 +80,7 @@ impl<N: OfJob> Stream<'_, N> {
     }
 }
 
-// Posts what a process committed since it posted last, and tells how many entries that were; none where its clock has not moved.
+// Posts what a process committed since it posted last, and tells how many bytes its lines had; none where its clock has not moved.
 fn post<N: OfJob, P: ProcessHandsOver<N>, R: Wait>(
     rt: &R,
     floor: &Floor<'_, N>,
@@ -96,14 +97,15 @@ fn post<N: OfJob, P: ProcessHandsOver<N>, R: Wait>(
         return Ok(None);
     }
     let piece = seat.piece::<N>();
-    let entries = piece.part.entry_count();
+    let bytes = piece.part.byte_count();
     // Before it is on the board, since whoever takes it may take it off the lead at once.
-    floor.stream.leads.add(piece.process, entries);
+    floor.stream.leads.add(piece.process, bytes);
     floor.stream.board.post(rt, piece)?;
-    Ok(Some(entries))
+    Ok(Some(bytes))
 }
 
-/// Posts what the processes of a worker committed, and rings for it. Tells how many entries the longest piece had, if there was one.
+/// Posts what the processes of a worker committed, and rings for it. Tells how many bytes the lines of the longest piece had, if there
+/// was one.
 ///
 /// # Errors
 ///
@@ -120,8 +122,8 @@ pub fn post_all<N: OfJob, P: ProcessHandsOver<N>, R: Wait>(
 {
     let mut longest = None;
     for i in 0..seats.len() {
-        let entries = post(rt, floor, &mut seats[i])?;
-        longest = longest.max(entries);
+        let bytes = post(rt, floor, &mut seats[i])?;
+        longest = longest.max(bytes);
     }
     if longest.is_some() {
         floor.stream.news.ring();

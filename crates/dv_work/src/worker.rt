@@ -284,8 +284,8 @@ fn post_after<N: OfJob, P: ProcessHandsOver<N>, R: Wait>(
     if !posts_after(tells, turned) {
         return Ok(());
     }
-    if let Some(entries) = post_all(rt, floor, seats)? {
-        pace.adapt(entries);
+    if let Some(bytes) = post_all(rt, floor, seats)? {
+        pace.adapt(bytes);
     }
     Ok(())
 }

@@ -34,6 +34,17 @@ impl<N: OfJob> Model for WrittenPart<N> {
     ghost invariant = { λ p. p.text.items ≡ flat_map N.line p.entries.items };
 }
 
+// A kibibyte of entries and one of lines. A part has room in whole kibibytes: an allocator keeps small blocks back by their size, and
+// with sizes of all kinds it would keep more of them the longer a run is.
+const ENTRIES_OF_A_BLOCK: usize = 32;
+
+const BYTES_OF_A_BLOCK: usize = 1_024;
+
+// So many, and as many more as fill up the last block.
+fn whole_blocks(count: usize, block: usize) -> usize {
+    count.checked_next_multiple_of(block).unwrap_or(count)
+}
+
 // How long the lines of entries are together.
 fn text_length<N: OfJob>(entries: &[WrittenEntry<N>]) -> usize
     requires { length (flat_map N.line entries.now) < 2 ^ 64 }
@@ -85,6 +96,8 @@ impl<N: OfJob> WrittenPart<N> {
     pub fn with_room(alloc: Global, entries: usize, bytes: usize) -> Self
         ensures { result ≡ nothing }
     {
+        let entries = whole_blocks(entries, ENTRIES_OF_A_BLOCK);
+        let bytes = whole_blocks(bytes, BYTES_OF_A_BLOCK);
         WrittenPart {
             entries: Vec::with_capacity(alloc, entries).unwrap_or(Vec::new(alloc)),
             text: Vec::with_capacity(alloc, bytes).unwrap_or(Vec::new(alloc)),
@@ -183,8 +196,20 @@ impl<N: OfJob> WrittenPart<N> {
         self.outer.len()
     }
 
+    /// Gives back the room that is not used, but for less than a kibibyte of entries and of lines.
+    pub fn shrink(&mut self)
+        ensures { self.new ≡ self.old }
+    {
+        let entries = whole_blocks(self.entries.len(), ENTRIES_OF_A_BLOCK);
+        let bytes = whole_blocks(self.text.len(), BYTES_OF_A_BLOCK);
+        self.entries.shrink_to(entries);
+        self.text.shrink_to(bytes);
+    }
+
     /// How many bytes the lines have together.
-    pub fn byte_count(&self) -> usize {
+    pub fn byte_count(&self) -> usize
+        ensures { result ≡ length (flat_map N.line self.now.entries) }
+    {
         self.text.len()
     }
 

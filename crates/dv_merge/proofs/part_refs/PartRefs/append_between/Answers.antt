@@ -17,4 +17,5 @@ returns g c =
     let outer : c.append.new.self.items ≡ c.self.inside.outer.items ++ c.in_ok-outer.outer.items = search rules in
     ap₂ (λ (es : List Entry) (os : List Outer). record { entries = es; outer = os }) entries
     (outer ∙ ap₂ (λ (a b : List Outer). a ++ b) (ap (λ (p : PartOf). p.outer) c.self.view_is)
-    (copied ∙ c.lines_between.ensures ∙ ap (λ (os : List Outer). (since c.args.from (before c.args.upto (record { entries = []; outer = os }))).outer) c.outer.ensures))
+    (copied ∙ c.lines_between.ensures
+    ∙ ap (λ (os : List Outer). (since c.args.from (before c.args.upto (record { entries = []; outer = os }))).outer) c.outer.ensures))
