@@ -11,6 +11,7 @@ ghost use Rattle.dv_bag.specs.Numbers.{IsBagOfNumbers};
 ghost use Rattle.dv_bag.specs.Limits.{greatest_count};
 
 use crate::fault::Fault;
+use crate::limits::room_at_once;
 use crate::merge::merged;
 use crate::put::put;
 use smallvec::SmallVec;
@@ -85,6 +86,23 @@ impl Bag {
         add_copies(&mut self.pairs, value, copies)
     }
 
+    /// Room for a value that the bag lacks, where it has none: for all that it may hold, up to `ROOM_AT_ONCE`.
+    ///
+    /// # Errors
+    ///
+    /// No memory for them. The bag is as before.
+    #[inline]
+    pub(crate) fn make_room(&mut self, capacity: u64) -> Result<(), AllocError>
+        ensures { self.new ≡ self.old }
+    {
+        let count = self.pairs.len();
+        if count < self.pairs.capacity() {
+            return Ok(());
+        }
+        let more = room_at_once(capacity).saturating_sub(count);
+        self.pairs.reserve_exact(more)
+    }
+
     /// The values of another bag beside those that are here. Work is in the values of both.
     ///
     /// # Errors
@@ -99,17 +117,18 @@ impl Bag {
         Ok(())
     }
 
-    /// Makes it a copy of another bag. The memory that it has serves again.
+    /// Makes it a copy of another bag, with as much room. The memory that it has serves again.
     ///
     /// # Errors
     ///
-    /// No memory for more values than it had room for. The bag is as before.
+    /// No memory for the room of the other. The bag is as before.
     pub fn copy_from(&mut self, other: &Bag) -> Result<(), AllocError>
         ensures ok { OnOk result (self.new ≡ other.now) }
         ensures err { OnErr result (self.new ≡ self.old) }
     {
-        let more = other.pairs.len().saturating_sub(self.pairs.len());
-        self.pairs.reserve(more)?;
+        let room = other.pairs.capacity().max(other.pairs.len());
+        self.pairs
+            .reserve_exact(room.saturating_sub(self.pairs.len()))?;
         self.pairs.clear();
         self.pairs.extend_from_slice(other.pairs.as_slice())?;
         Ok(())

@@ -45,6 +45,20 @@ impl Collection {
         }
     }
 
+    /// Room for one more value, where it has none: for all that it may hold, up to `ROOM_AT_ONCE`.
+    ///
+    /// # Errors
+    ///
+    /// No memory for them. The collection is as before.
+    pub(crate) fn make_room(&mut self, capacity: u64) -> Result<(), AllocError>
+        ensures { self.new ≡ self.old }
+    {
+        match self {
+            Collection::Bag(bag) => bag.make_room(capacity),
+            Collection::Queue(queue) => queue.make_room(capacity),
+        }
+    }
+
     /// What a change makes of it with a value. One of another discipline stays as it is.
     ///
     /// # Errors
@@ -198,6 +212,17 @@ impl Held {
         ensures few { count_in result.now ≤ greatest_count }
     {
         self.collection.as_ref()
+    }
+
+    /// Room for one more value, where it has none: for all that it may hold, up to `ROOM_AT_ONCE`.
+    ///
+    /// # Errors
+    ///
+    /// No memory for them. The collection is as before.
+    pub(crate) fn make_room(&mut self, capacity: u64) -> Result<(), AllocError>
+        ensures { self.new ≡ self.old }
+    {
+        self.collection.make_room(capacity)
     }
 
     /// What a change makes of it with a value.

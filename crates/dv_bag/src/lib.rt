@@ -67,3 +67,7 @@ pub use value::{Value, ValueType};
 
 /// The most values that are sent in one output, come to one port at one instant, or lie in a collection of a state.
 pub const GREATEST_COUNT: u64 = 4096;
+
+/// The values for which a bag or a queue of a state takes room at once, where it may hold as many: 1,024 bytes of a bag, 512 of a
+/// queue. What may hold more grows beyond by doubling.
+pub const ROOM_AT_ONCE: u64 = 64;

@@ -6,8 +6,8 @@ ghost use Rattle.dv_bag.specs.Effects.{is_within};
 ghost use Rattle.dv_bag.specs.Limits.{greatest_count};
 ghost use Rattle.dv_bag.specs.declared.fault.Fault.TheVariants as fault;
 
-use crate::GREATEST_COUNT;
 use crate::fault::Fault;
+use crate::{GREATEST_COUNT, ROOM_AT_ONCE};
 
 /// Whether a number is within a range.
 ///
@@ -56,4 +56,9 @@ pub fn test_flood(count: u64) -> Result<(), Fault>
     } else {
         Err(Fault::Flood)
     }
+}
+
+/// For how many values a collection of this capacity takes room at once where it has to grow.
+pub(crate) fn room_at_once(capacity: u64) -> usize {
+    capacity.min(ROOM_AT_ONCE) as usize
 }

@@ -8,6 +8,7 @@ ghost use Rattle.dv_bag.specs.Bag.{is_number};
 ghost use Rattle.dv_bag.specs.Collections.{singles};
 ghost use Rattle.dv_bag.specs.Same.{same_values, same_values-decides};
 
+use crate::limits::room_at_once;
 use std::alloc::{AllocError, Global};
 use std::collections::VecDeque;
 use std::marker::Model;
@@ -63,17 +64,33 @@ impl Queue {
         Ok(self.values.push_back(value)?)
     }
 
-    /// Makes it a copy of another queue. The memory that it has serves again.
+    /// Room for one more value, where it has none: for all that it may hold, up to `ROOM_AT_ONCE`.
     ///
     /// # Errors
     ///
-    /// No memory for more values than it had room for. The queue is as before.
+    /// No memory for them. The queue is as before.
+    pub(crate) fn make_room(&mut self, capacity: u64) -> Result<(), AllocError>
+        ensures { self.new ≡ self.old }
+    {
+        let count = self.values.len();
+        if count < self.values.capacity() {
+            return Ok(());
+        }
+        let more = room_at_once(capacity).saturating_sub(count);
+        self.values.reserve_exact(more)
+    }
+
+    /// Makes it a copy of another queue, with as much room. The memory that it has serves again.
+    ///
+    /// # Errors
+    ///
+    /// No memory for the room of the other. The queue is as before.
     pub fn copy_from(&mut self, other: &Queue) -> Result<(), AllocError>
         ensures ok { OnOk result (self.new ≡ other.now) }
         ensures err { OnErr result (self.new ≡ self.old) }
     {
-        let more = other.len().saturating_sub(self.len());
-        self.values.reserve(more)?;
+        let more = other.values.capacity().saturating_sub(self.len());
+        self.values.reserve_exact(more)?;
         self.values.clear();
         let nothing = VecDeque::new(*self.values.allocator());
         let mut values = mem::replace(&mut self.values, nothing).into_vec();

@@ -188,7 +188,10 @@ impl Variables {
         requires { index < length self.old }
         ensures { self.new ≡ slice_set self.old index (datum.Number value) }
     {
-        self.data[index] = Datum::Number(value);
+        match &mut self.data[index] {
+            Datum::Number(number) => *number = value,
+            other => *other = Datum::Number(value),
+        }
     }
 
     /// Another truth value at this index.
@@ -197,6 +200,22 @@ impl Variables {
         ensures { self.new ≡ slice_set self.old index (datum.Flag value) }
     {
         self.data[index] = Datum::Flag(value);
+    }
+
+    /// Room for one more value in the collection at this index, where it has none: for all that it may hold, up to
+    /// `ROOM_AT_ONCE`. So a state takes early what a long run would take later.
+    ///
+    /// # Errors
+    ///
+    /// No memory for them. The variables are as before.
+    pub fn make_room(&mut self, index: usize, capacity: u64) -> Result<(), AllocError>
+        requires { HasHeldAt index self.old }
+        ensures { self.new ≡ self.old }
+    {
+        match &mut self.data[index] {
+            Datum::Held(held) => held.make_room(capacity),
+            _ => Ok(()),
+        }
     }
 
     /// What a change makes of the collection at this index with a value.

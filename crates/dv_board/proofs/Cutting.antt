@@ -51,7 +51,8 @@ filter_narrower {X} p q h (x ∷ xs) =
     (cases_Bool (p x))
 
 -- a filter of what passes another one, where none passes both
-filter_apart : {X : Type 0} (p q : X → Bool) → ((x : X) → q x ≡ true → p x ≡ false) → (xs : List X) → filter p (filter q xs) ≡ []
+filter_apart : {X : Type 0} (p q : X → Bool) → ((x : X) → q x ≡ true → p x ≡ false) → (xs : List X)
+    → filter p (filter q xs) ≡ []
 filter_apart p q h [] = refl
 filter_apart {X} p q h (x ∷ xs) =
     let more = filter_apart p q h xs in

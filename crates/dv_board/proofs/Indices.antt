@@ -72,7 +72,8 @@ least_of_all {N} held k least le so_far = record {
 -- ---- one index
 
 -- of each index, after one is set
-each_set : {X : Type 0} (P : ℕ → X → Type 0) (xs : List X) (k : ℕ) (y : X) → ((p : ℕ) (x : X) → slice_get xs p ≡ Some x → P p x) → P k y
+each_set : {X : Type 0} (P : ℕ → X → Type 0) (xs : List X) (k : ℕ) (y : X)
+    → ((p : ℕ) (x : X) → slice_get xs p ≡ Some x → P p x) → P k y
     → (p : ℕ) (x : X) → slice_get (set xs k y) p ≡ Some x → P p x
 each_set P [] k y all new p x at = all p x at
 each_set P (z ∷ zs) zero y all new zero x at = subst (P 0) (same_Some y x at) new
@@ -95,7 +96,8 @@ pub clock_read : {N : Type 0} (held : List (HeldOf N)) (p : ℕ) (h : HeldOf N) 
     → slice_index_or (clocks_of held) p first_time ≡ h.clock
 clock_read {N} held p h lt at = get_or-map (λ (h : HeldOf N). h.clock) held p h first_time lt ∙ ap (λ (h : HeldOf N). h.clock) (sym at)
 
-pub clocks_set : {N : Type 0} (held : List (HeldOf N)) (p : ℕ) (y : HeldOf N) → clocks_of (set held p y) ≡ set (clocks_of held) p y.clock
+pub clocks_set : {N : Type 0} (held : List (HeldOf N)) (p : ℕ) (y : HeldOf N)
+    → clocks_of (set held p y) ≡ set (clocks_of held) p y.clock
 clocks_set {N} = map-set (λ (h : HeldOf N). h.clock)
 
 -- the clocks of a new board, and those that stay where it is drained
@@ -164,7 +166,8 @@ module _ {N : Type 0} (h : HeldOf N) (more : PartOf) (clock : Time) where
       }))
       (cases_Bool (is_joined h.last more))
 
-pub clock_of_piece : {N : Type 0} (h : HeldOf N) (piece : PartOf) (clock : Time) → (with_piece h piece clock).clock ≡ later h.clock clock
+pub clock_of_piece : {N : Type 0} (h : HeldOf N) (piece : PartOf) (clock : Time)
+    → (with_piece h piece clock).clock ≡ later h.clock clock
 clock_of_piece {N} h piece clock = by_test (is_before h.clock clock)
   where
     by_test : (t : Bool) → (cond t (with_more h (since h.clock piece) clock) h).clock ≡ cond t clock h.clock
@@ -173,7 +176,8 @@ clock_of_piece {N} h piece clock = by_test (is_before h.clock clock)
 
 -- a piece that begins no later than the clock is joined
 pub piece_is_held : {N : Type 0} (job : Job) (mark : Time) (p : ℕ) (h : HeldOf N) (piece : PartOf) (from clock : Time)
-    → IsHeld job mark p h → IsOfRun job.limit clock → rank job.limit clock ≤ end_of job.limit job.horizon → IsNoLater job from h.clock
+    → IsHeld job mark p h → IsOfRun job.limit clock → rank job.limit clock ≤ end_of job.limit job.horizon
+    → IsNoLater job from h.clock
     → piece ≡ committed job p from clock → IsHeld job mark p (with_piece h piece clock)
 piece_is_held {N} job mark p h piece from clock held of_run within low is =
     let more : HeldOf N = with_more h (since h.clock piece) clock in

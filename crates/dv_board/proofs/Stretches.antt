@@ -54,7 +54,8 @@ still_past : (a b c : Time) → is_before b a ≡ false → is_before a c ≡ fa
 still_past a b c h k = grind (arith, nat_tests)
 
 -- stretches that begin no sooner than a time have nothing before it
-none_ahead : {N : Type 0} (upto begin : Time) (front : PartOf) (ss : List (Stretch N)) → is_before begin upto ≡ false → AreInTurn begin ss
+none_ahead : {N : Type 0} (upto begin : Time) (front : PartOf) (ss : List (Stretch N))
+    → is_before begin upto ≡ false → AreInTurn begin ss
     → before upto (joined_in_turn front ss) ≡ before upto front
 none_ahead upto begin front [] past turn = refl
 none_ahead upto begin front (s ∷ ss) past turn =
@@ -74,7 +75,8 @@ cut_enough from upto begin ss k past turn =
     ∙ ap (before upto) (sym (joined_append nothing (take k ss) (drop k ss)) ∙ ap (joined_in_turn nothing) (take-append-drop k ss)))
 
 -- the stretch at an index, and those behind it
-pub turn_at : {N : Type 0} (begin : Time) (ss : List (Stretch N)) (k : ℕ) (s : Stretch N) → k < length ss → s ≡ slice_index_or ss k s
+pub turn_at : {N : Type 0} (begin : Time) (ss : List (Stretch N)) (k : ℕ) (s : Stretch N)
+    → k < length ss → s ≡ slice_index_or ss k s
     → AreInTurn begin (drop k ss) → IsByTime s.part × AreInTurn s.upto (drop (k + 1) ss)
 turn_at {N} begin ss k s lt at turn =
     let next : suc k ≡ k + 1 = omega arith in

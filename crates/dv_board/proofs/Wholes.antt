@@ -64,7 +64,8 @@ module _ (c : Time) where
           ∙ ap (with_line o) (sym (filter_yes stays p ps k))
 
       by_order : (r : Ordering) → line_cmp o p ≡ r → filter stays (with_line o ps) ≡ with_line o (filter stays ps)
-          → filter stays (match_ordering r (o ∷ p ∷ ps) (with_values p o ∷ ps) (p ∷ with_line o ps)) ≡ with_line o (filter stays (p ∷ ps))
+          → filter stays (match_ordering r (o ∷ p ∷ ps) (with_values p o ∷ ps) (p ∷ with_line o ps))
+          ≡ with_line o (filter stays (p ∷ ps))
       by_order Less e more =
           let k = later_line c o p e h in
           filter_yes stays o (p ∷ ps) h ∙ (ap (λ (l : List Outer). o ∷ l) (filter_yes stays p ps k) ∙ beside Less e k)
@@ -161,7 +162,8 @@ pub part_at_index : (job : Job) (n p : ℕ) (x : PartOf) → slice_get (parts_be
 part_at_index job n p x at =
     let lt = slice_get_within (parts_before job n) p x at in
     sym (get_or_from_slice_get (parts_before job n) p x x at)
-    ∙ get_or-map-range_with_len (part_of_process job n) 0 job.processes p p x (subst (λ (m : ℕ). p < m) (many_parts job n) lt) (omega arith)
+    ∙ get_or-map-range_with_len (part_of_process job n) 0 job.processes p p x
+    (subst (λ (m : ℕ). p < m) (many_parts job n) lt) (omega arith)
 
 pub parts_of_trace : (job : Job) (n : ℕ) → IsMergeable job → ArePartsOf job.owner (trace_of_job job n) (parts_before job n)
 parts_of_trace job n h =

@@ -99,6 +99,7 @@ fn edit(
     };
     if change.makes_more() {
         test_room(held.count(), *capacity)?;
+        draft.make_room(slot, *capacity)?;
     }
     draft.edit(change, slot, number)?;
     Ok(())

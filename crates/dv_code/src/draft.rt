@@ -96,6 +96,22 @@ impl<'a> Draft<'a> {
         Ok(())
     }
 
+    /// Room for one more value in the collection of a slot, of a capacity.
+    ///
+    /// # Errors
+    ///
+    /// No memory for it, or for a state of its own.
+    pub(crate) fn make_room(&mut self, slot: usize, capacity: u64) -> Result<(), AllocError>
+        requires { HasHeldAt slot self.old.state.variables }
+        ensures { OnOk result (self.new ≡ self.old) }
+    {
+        own(&mut self.state)?;
+        if let Cow::Owned(state) = &mut self.state {
+            state.variables.make_room(slot, capacity)?;
+        }
+        Ok(())
+    }
+
     /// What a change makes of the collection of a slot with a number.
     ///
     /// # Errors

@@ -16,13 +16,6 @@ use dv_time::Time;
 use dv_written::{HandsOver, MakesRecord, OfJob, WrittenPart};
 use std::alloc::{AllocError, Global};
 use std::marker::{Model, PhantomData};
-use std::mem;
-
-// A part begins with room for as much as the one before it had, but for so many entries at most, and for so many bytes of lines. Where
-// it gets longer it grows by doubling. Since it may wait after it was handed over, it gives back then what it does not use.
-const MOST_ROOM: usize = 128;
-
-const MOST_ROOM_OF_LINES: usize = 8_192;
 
 /// Makes records whose entries are written by words. Records share the words, and may do so on different threads. A contract reads
 /// the words.
@@ -216,12 +209,7 @@ impl<'w, N: OfJob> HandsOver<N> for WrittenRecord<'w, N> {
         self.entries = 0;
         self.lines = 0;
         self.past = self.told.again();
-        let entries = self.kept.entry_count().min(MOST_ROOM);
-        let bytes = self.kept.byte_count().min(MOST_ROOM_OF_LINES);
-        let next = WrittenPart::with_room(alloc, entries, bytes);
-        let mut part = mem::replace(&mut self.kept, next);
-        part.shrink();
-        part
+        self.kept.take(alloc)
     }
 }
 

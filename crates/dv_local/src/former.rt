@@ -41,15 +41,19 @@ impl Model for Former {
 }
 
 impl Former {
-    /// None. It takes no memory yet.
-    pub fn new(alloc: Global) -> Self
-        ensures { result ≡ [] }
+    /// None, with room for so many.
+    ///
+    /// # Errors
+    ///
+    /// No memory for them.
+    pub fn with_room(alloc: Global, count: usize) -> Result<Self, AllocError>
+        ensures { IfOk result (λ former. former ≡ []) }
     {
-        Former {
-            copies: Vec::new(alloc),
+        Ok(Former {
+            copies: Vec::with_capacity(alloc, count)?,
             count: 0,
             alloc,
-        }
+        })
     }
 
     /// Lets go of all.

@@ -40,6 +40,10 @@ use dv_time::{Time, earliest};
 use dv_written::{HandsOver, OfJob, WrittenPart};
 use std::alloc::{AllocError, Global};
 
+// What stands for each component of an instant has room for all components from the start, or for so many where there are more. Else
+// it would grow by doubling whenever more of them have something to do at once than ever before.
+const ROOM_AT_FIRST: usize = 1_024;
+
 /// The components of one process with the links between them, what came for them, and the record that is told what happens
 /// to them. What they emitted at a time is kept until they change.
 #[derive(Drop)]
@@ -71,7 +75,7 @@ impl<A: Atomic + Drop, R: Record> LocalState<A, R> {
     ///
     /// # Errors
     ///
-    /// No memory for the agenda.
+    /// No memory for the agenda, or for lists of what components do at an instant.
     pub fn new(
         alloc: Global,
         share: Share<A>,
@@ -96,6 +100,9 @@ impl<A: Atomic + Drop, R: Record> LocalState<A, R> {
             ≡ view_by A.behaviour R.told x) }
         ensures record { IfOk result (λ x. x.record ≡ to) }
     {
+        let room = running.len().min(ROOM_AT_FIRST);
+        let before = Former::with_room(alloc, room)?;
+        let emitted = Vec::with_capacity(alloc, room)?;
         let agenda = agenda_of(alloc, &running)?;
         let components = Components::new(running);
         Ok(LocalState {
@@ -105,10 +112,10 @@ impl<A: Atomic + Drop, R: Record> LocalState<A, R> {
             agenda,
             inbox: Inbox::new(alloc),
             undo: Undo {
-                before: Former::new(alloc),
+                before,
                 taken: None,
             },
-            emitted: Vec::new(alloc),
+            emitted,
             emitted_at: None,
             scratch: Scratch::new(alloc),
             alloc,

@@ -12,6 +12,7 @@ use dv_bag::{Fault, Kind, Outer, Sent, State};
 use dv_time::Time;
 use std::alloc::{AllocError, Global};
 use std::marker::Model;
+use std::mem;
 
 /// Entries of some components with the lines that they print, and what those components sent outside, in the order in which they were
 /// pushed. The lines lie one behind the other in one text.
@@ -92,8 +93,8 @@ impl<N: OfJob> WrittenPart<N> {
         }
     }
 
-    /// No entries, and nothing sent outside, with room for so many entries and for lines of so many bytes where there is memory for it.
-    pub fn with_room(alloc: Global, entries: usize, bytes: usize) -> Self
+    // No entries, and nothing sent outside, with room for so many entries and for lines of so many bytes where there is memory for it.
+    fn with_room(alloc: Global, entries: usize, bytes: usize) -> Self
         ensures { result ≡ nothing }
     {
         let entries = whole_blocks(entries, ENTRIES_OF_A_BLOCK);
@@ -196,16 +197,6 @@ impl<N: OfJob> WrittenPart<N> {
         self.outer.len()
     }
 
-    /// Gives back the room that is not used, but for less than a kibibyte of entries and of lines.
-    pub fn shrink(&mut self)
-        ensures { self.new ≡ self.old }
-    {
-        let entries = whole_blocks(self.entries.len(), ENTRIES_OF_A_BLOCK);
-        let bytes = whole_blocks(self.text.len(), BYTES_OF_A_BLOCK);
-        self.entries.shrink_to(entries);
-        self.text.shrink_to(bytes);
-    }
-
     /// How many bytes the lines have together.
     pub fn byte_count(&self) -> usize
         ensures { result ≡ length (flat_map N.line self.now.entries) }
@@ -228,6 +219,16 @@ impl<N: OfJob> WrittenPart<N> {
             self.text = more.text;
             return Ok(());
         }
+        self.pour(&mut more)
+    }
+
+    // Moves all of another part behind what is there. The other keeps its room. Where memory is refused, both are as before.
+    fn pour(&mut self, more: &mut Self) -> Result<(), AllocError>
+        ensures joined { OnOk result (self.new ≡ joined self.old more.old) }
+        ensures emptied { OnOk result (more.new ≡ nothing) }
+        ensures err { OnErr result (self.new ≡ self.old) }
+        ensures same { OnErr result (more.new ≡ more.old) }
+    {
         self.entries.reserve(more.entries.len())?;
         self.text.reserve(more.text.len())?;
         self.outer.append(&mut more.outer)?;
@@ -237,6 +238,19 @@ impl<N: OfJob> WrittenPart<N> {
             unreachable!("room was made");
         }
         Ok(())
+    }
+
+    /// Moves all of it out, to a part with room for just that, in whole kibibytes. The room in which it was put together stays here and
+    /// serves again; where there is no memory for another part, it is moved out, too.
+    pub fn take(&mut self, alloc: Global) -> Self
+        ensures taken { result ≡ self.old }
+        ensures none { self.new ≡ nothing }
+    {
+        let mut part = WrittenPart::with_room(alloc, self.entries.len(), self.text.len());
+        match part.pour(self) {
+            Ok(()) => part,
+            Err(_) => mem::replace(self, part),
+        }
     }
 
     /// So many entries and lines of what left stay, the first ones; where there are not as many, all do.

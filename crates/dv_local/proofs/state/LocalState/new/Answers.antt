@@ -21,11 +21,11 @@ returns-clause-kept g c =
       components = subst (λ (ss : List Running). AreComponents g.A.Atomic.fits t ss) same c.requires.components;
       agenda = c.in_ok-agenda.ensures ∙ ap (λ (ss : List Running). waits_of ss) (c.deref.ensures.value ∙ same);
       arrive = none_arrive t.limit t.members.items c.new.result c.new.ensures.empty;
-      within = subst (λ (xs : List (Indexed Running)). AreWithin (length rs) xs) (sym c.new-2.ensures)
+      within = subst (λ (xs : List (Indexed Running)). AreWithin (length rs) xs) (sym c.in_ok-before.ensures)
           (all_none (λ (p : Indexed Running). p.index < length rs));
-      before = subst (λ (xs : List (Indexed Running)). AreComponents g.A.Atomic.fits t (undone xs rs)) (sym c.new-2.ensures)
+      before = subst (λ (xs : List (Indexed Running)). AreComponents g.A.Atomic.fits t (undone xs rs)) (sym c.in_ok-before.ensures)
           (subst (λ (ss : List Running). AreComponents g.A.Atomic.fits t ss) same c.requires.components);
-      emitted = subst (λ (xs : List (Indexed _)). StandByIndex (length t.members.items) xs) (sym c.new-3.ensures.items)
+      emitted = subst (λ (xs : List (Indexed _)). StandByIndex (length t.members.items) xs) (sym c.in_ok-emitted.ensures.items)
           (record { rise = tt; within = all_none _ });
       still = tt;
     }
