@@ -56,6 +56,10 @@ impl<L: Local + Drop> LogicalProcess for Process<L> {
 }
 
 impl<N: OfJob, L: LocalHandsOver<N> + Drop> ProcessHandsOver<N> for Process<L> {
+    fn rest_length(&self) -> usize {
+        Process::rest_length::<N>(self)
+    }
+
     fn hand_over(&mut self) -> WrittenPart<N> {
         Process::hand_over(self)
     }

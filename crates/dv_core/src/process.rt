@@ -9,6 +9,7 @@ ghost use Rattle.dv_core.specs.ProcessState.{IsReceived, IsSent, IsTurned, Proce
 ghost use Rattle.dv_proc.specs.Midway.{meant_turned};
 ghost use Rattle.dv_proc.specs.Refusals.{meant_refusal};
 ghost use Rattle.dv_record.specs.Told.{Handed};
+ghost use Rattle.dv_written.specs.Rest.{rest_length};
 ghost use Rattle.dv_time.specs.Limits.{greatest_tick};
 
 use dv_proc::{Packet, Refused, Turned};
@@ -104,6 +105,10 @@ pub trait LogicalProcess: Drop {
 
 /// A logical process of whose record a part is moved out while it commits more.
 pub trait ProcessHandsOver<N: OfJob>: LogicalProcess {
+    /// How many bytes the lines have together that it committed and that were not moved out yet.
+    fn rest_length(&self) -> usize
+        ensures { result ≡ rest_length N.line (Self.handed self.now).past (Self.state self.now).part };
+
     /// Moves out what it committed beyond what was moved out before, as the lines that its entries print.
     fn hand_over(&mut self) -> WrittenPart<N>
         requires { Self.valid self.old }

@@ -17,6 +17,11 @@ use dv_written::{HandsOver, MakesRecord, OfJob, WrittenPart};
 use std::alloc::{AllocError, Global};
 use std::marker::{Model, PhantomData};
 
+// The room of a part from the start: mostly it is handed over before it has more.
+const ENTRIES_AT_FIRST: usize = 512;
+
+const BYTES_AT_FIRST: usize = 16_384;
+
 /// Makes records whose entries are written by words. Records share the words, and may do so on different threads. A contract reads
 /// the words.
 #[derive(Drop)]
@@ -90,7 +95,7 @@ impl<'w, N: OfJob> MakesRecord<WrittenRecord<'w, N>> for WrittenRecords<'w, N> {
         Ok(WrittenRecord {
             by: WrittenRecords::new(self.words),
             line: Lines::new(alloc),
-            kept: WrittenPart::new(alloc),
+            kept: WrittenPart::with_room(alloc, ENTRIES_AT_FIRST, BYTES_AT_FIRST),
             entries: 0,
             lines: 0,
             told: History::new(),
@@ -205,6 +210,10 @@ impl<'w, N: OfJob> Record for WrittenRecord<'w, N> {
 }
 
 impl<'w, N: OfJob> HandsOver<N> for WrittenRecord<'w, N> {
+    fn rest_length(&self) -> usize {
+        self.kept.byte_count()
+    }
+
     fn hand_over(&mut self, alloc: Global) -> WrittenPart<N> {
         self.entries = 0;
         self.lines = 0;

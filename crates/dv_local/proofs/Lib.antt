@@ -19,3 +19,4 @@ pub mod Starts
 pub mod Accesses
 pub mod Visited
 pub mod Reacted
+pub mod Orders

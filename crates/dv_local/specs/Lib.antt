@@ -11,3 +11,5 @@ pub mod States
 -- How a component reacts where it stands, and what is committed at an instant.
 pub mod Reacting
 pub mod Commits
+-- Items that lie in lists, in an order of their own.
+pub mod Orders

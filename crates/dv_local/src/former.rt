@@ -1,6 +1,6 @@
 //! What components were before they reacted.
 
-ghost use Rattle.std.specs.Prelude.{◌≡◌, ◌<◌, ◌≤◌, ◌↔◌, ◌++◌, [], List, Some, IfOk, IsSome, OnErr, OnOk, option_to_list, length, slice_get, take};
+ghost use Rattle.std.specs.Prelude.{◌≡◌, ◌<◌, ◌≤◌, ◌↔◌, ◌++◌, [], List, Some, IfOk, IsSome, OnErr, OnOk, option_to_list, length, replicate, slice_get};
 ghost use Rattle.dv_bag.specs.Bag.{Counts};
 ghost use Rattle.dv_devs.specs.Behaviour.{emission};
 ghost use Rattle.dv_react.specs.Components.{IsWaitOfRun, component_of, rank_of};
@@ -11,48 +11,69 @@ ghost use Rattle.dv_share.specs.Share.{AreTables, FitsAt, given_at};
 ghost use Rattle.dv_share.specs.declared.tables.Member.{Member};
 ghost use Rattle.dv_local.specs.Reacting.{former_of};
 
+use crate::copies::Copies;
 use crate::moment::Moment;
-use dv_bag::{State, Variables};
-use dv_react::{Atomic, Happened, Running, Wait};
-use dv_share::{Indexed, Visit, react};
+use dv_react::{Atomic, Happened, Running};
+use dv_share::{Indexed, Tables, Visit};
 use std::alloc::{AllocError, Global};
 use std::marker::Model;
 
-/// What components were before they reacted, each with its index, the last one last. The memory of those that are let go serves
-/// again.
+// So many models have copies by themselves. Where a share has more, some of them have theirs together.
+const MODELS_APART: usize = 256;
+
+/// What components were before they reacted, each with its index, the last one last. Those of each model lie by themselves, so that the
+/// memory of one that is let go serves for one that takes the same.
 #[derive(Drop)]
 pub struct Former {
-    // Those that stand, and behind them such as were let go.
-    copies: Vec<Indexed<Running>>,
-    count: usize,
-    alloc: Global,
+    // Those of each model.
+    copies: Vec<Copies>,
+    // Among which of them each lies.
+    order: Vec<usize>,
 }
 
 impl Model for Former {
-    ghost use Rattle.std.specs.Prelude.{List, ◌≤◌, length, take};
+    ghost use Rattle.std.specs.Prelude.{List, ◌<◌, length};
     ghost use Rattle.dv_react.specs.declared.running.Running.{Running};
     ghost use Rattle.dv_share.specs.declared.index.Indexed.{Indexed};
+    ghost use Rattle.dv_local.specs.Orders.{AreCounted, in_order};
 
     ghost Value = { List (Indexed Running) };
 
-    ghost view = { λ f. take f.count f.copies.items };
+    ghost view = { λ f. in_order f.order.items f.copies.items };
 
-    ghost invariant = { λ f. f.count ≤ length f.copies.items };
+    ghost invariant = { λ f. (0 < length f.copies.items) × AreCounted f.order.items f.copies.items };
+}
+
+// No copies, of so many models.
+fn no_copies(alloc: Global, models: usize) -> Result<Vec<Copies>, AllocError>
+    ensures { IfOk result (λ copies. copies.items ≡ replicate models []) }
+{
+    let mut copies = Vec::with_capacity(alloc, models)?;
+    for _model in 0..models {
+        copies.push(Copies::new(alloc))?;
+    }
+    Ok(copies)
+}
+
+// Which of the models of a share a component has.
+fn model_of<A>(tables: &Tables<A>, index: u32) -> usize
+    requires { index < length tables.now.members.items }
+{
+    tables.members[index as usize].model as usize
 }
 
 impl Former {
-    /// None, with room for so many.
+    /// None, of components of so many models, with room for so many in their order.
     ///
     /// # Errors
     ///
     /// No memory for them.
-    pub fn with_room(alloc: Global, count: usize) -> Result<Self, AllocError>
+    pub fn with_room(alloc: Global, models: usize, count: usize) -> Result<Self, AllocError>
         ensures { IfOk result (λ former. former ≡ []) }
     {
         Ok(Former {
-            copies: Vec::with_capacity(alloc, count)?,
-            count: 0,
-            alloc,
+            copies: no_copies(alloc, models.clamp(1, MODELS_APART))?,
+            order: Vec::with_capacity(alloc, count)?,
         })
     }
 
@@ -60,7 +81,9 @@ impl Former {
     pub fn clear(&mut self)
         ensures { self.new ≡ [] }
     {
-        self.count = 0;
+        while let Some(model) = self.order.pop() {
+            self.copies[model].let_go();
+        }
     }
 
     /// Moves out the last one.
@@ -68,10 +91,10 @@ impl Former {
         ensures items { self.old ≡ self.new ++ option_to_list result }
         ensures some { IsSome result ↔ (0 < length self.old) }
     {
-        self.copies.truncate(self.count);
-        let last = self.copies.pop();
-        self.count = self.copies.len();
-        last
+        match self.order.pop() {
+            Some(model) => self.copies[model].pop(),
+            None => None,
+        }
     }
 
     /// Lets a component react in place. Tells what happened, if anything did: then what the component was is the last one.
@@ -113,47 +136,12 @@ impl Former {
         ensures same { OnErr result (component.new ≡ component.old) }
         ensures none { OnErr result (self.new ≡ self.old) }
     {
-        make_room(self.alloc, &mut self.copies, self.count)?;
-        let copy = &mut self.copies[self.count];
-        let happened = react(
-            moment.tables,
-            work,
-            moment.instant,
-            component,
-            &mut copy.what,
-            moment.emitted,
-            visit,
-        )?;
+        self.order.reserve(1)?;
+        let model = model_of(moment.tables, visit.arrival.index) % self.copies.len();
+        let happened = self.copies[model].react(moment, work, component, visit)?;
         if happened.is_some() {
-            copy.index = visit.arrival.index;
-            self.count += 1;
+            self.order.push_reserved(model);
         }
         Ok(happened)
     }
-}
-
-// Makes room for one behind so many.
-fn make_room(
-    alloc: Global,
-    copies: &mut Vec<Indexed<Running>>,
-    count: usize,
-) -> Result<(), AllocError>
-    requires { count ≤ length copies.old.items }
-    ensures room { OnOk result (count < length copies.new.items) }
-    ensures same { take count copies.new.items ≡ take count copies.old.items }
-    ensures kept { length copies.old.items ≤ length copies.new.items }
-{
-    if count < copies.len() {
-        return Ok(());
-    }
-    let state = State {
-        phase: 0,
-        variables: Variables::new(alloc),
-    };
-    let what = Running {
-        state,
-        last: 0,
-        wait: Wait::Quiet,
-    };
-    Ok(copies.push(Indexed { index: 0, what })?)
 }

@@ -17,6 +17,7 @@ mod commit;
 
 /// The components, of which each visit is counted.
 pub mod components;
+mod copies;
 mod emission;
 mod events;
 

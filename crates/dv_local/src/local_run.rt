@@ -121,6 +121,10 @@ impl<A: Atomic + Drop, R: Record> Local for LocalRun<A, R> {
 }
 
 impl<N: OfJob, A: Atomic + Drop, R: HandsOver<N>> LocalHandsOver<N> for LocalRun<A, R> {
+    fn rest_length(&self) -> usize {
+        self.state.rest_length::<N>()
+    }
+
     fn hand_over(&mut self) -> WrittenPart<N> {
         self.state.hand_over()
     }

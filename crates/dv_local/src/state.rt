@@ -15,6 +15,7 @@ ghost use Rattle.dv_bag.specs.Part.{joined, nothing};
 ghost use Rattle.dv_react.specs.Components.{components_of};
 ghost use Rattle.dv_bag.specs.Bag.{Counts};
 ghost use Rattle.dv_share.specs.Share.{AreComponents, AreEmitted};
+ghost use Rattle.dv_written.specs.Rest.{rest_length};
 ghost use Rattle.dv_local.specs.Shares.{IsShare, share_by};
 ghost use Rattle.dv_local.specs.States.{IsAtRest, IsKept, imminent_of, sent_of, settled_by, view_by};
 
@@ -101,7 +102,7 @@ impl<A: Atomic + Drop, R: Record> LocalState<A, R> {
         ensures record { IfOk result (λ x. x.record ≡ to) }
     {
         let room = running.len().min(ROOM_AT_FIRST);
-        let before = Former::with_room(alloc, room)?;
+        let before = Former::with_room(alloc, share.tables.models.len(), room)?;
         let emitted = Vec::with_capacity(alloc, room)?;
         let agenda = agenda_of(alloc, &running)?;
         let components = Components::new(running);
@@ -412,6 +413,16 @@ impl<A: Atomic, R: Record> LocalState<A, R> {
 }
 
 impl<A: Atomic, R: Record> LocalState<A, R> {
+    /// How many bytes the lines have together that were committed and not moved out yet.
+    pub fn rest_length<N: OfJob>(&self) -> usize
+    where
+        R: HandsOver<N>,
+        ensures { result ≡ rest_length N.line (R.handed self.now.record).past
+            (R.told self.now.record) }
+    {
+        self.record.rest_length()
+    }
+
     /// Moves out what was committed beyond what was moved out before, as the lines that its entries print, when all is settled.
     pub fn hand_over<N: OfJob>(&mut self) -> WrittenPart<N>
     where

@@ -14,6 +14,7 @@ ghost use Rattle.dv_proc.specs.Accesses.{CountsInstant, IsAfterEmission};
 ghost use Rattle.dv_proc.specs.Local.{IsAfterEvents, IsAfterInstant, IsFirstInput, View, are_for_ports, carried_away, sent_at};
 ghost use Rattle.dv_proc.specs.Packets.{meant_events};
 ghost use Rattle.dv_record.specs.Told.{Handed};
+ghost use Rattle.dv_written.specs.Rest.{rest_length};
 
 use crate::packet::Event;
 use crate::window::Frame;
@@ -166,6 +167,11 @@ pub trait Local {
 
 /// Components of whose record a part is moved out while they commit more, as the lines that its entries print.
 pub trait LocalHandsOver<N: OfJob>: Local {
+    /// How many bytes the lines have together that were committed and not moved out yet.
+    fn rest_length(&self) -> usize
+        ensures { result ≡ rest_length N.line (Self.handed self.now).past
+            (Self.view self.now).committed };
+
     /// Moves out what they committed beyond what was moved out before, when all is settled.
     fn hand_over(&mut self) -> WrittenPart<N>
         requires { Self.settled self.old ≡ Self.view self.old }

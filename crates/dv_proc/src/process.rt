@@ -18,6 +18,7 @@ ghost use Rattle.dv_proc.specs.declared.outgoing.Outgoing.{Outgoing as OutgoingO
 ghost use Rattle.dv_proc.specs.Packets.{meant_events, meant_packet};
 ghost use Rattle.dv_proc.specs.Refusals.{IsByTest, meant_refusal};
 ghost use Rattle.dv_proc.specs.Standing.{IsAccepted, IsBegun, IsDue, IsFar, IsProcess, IsStanding};
+ghost use Rattle.dv_written.specs.Rest.{rest_length};
 
 use crate::advance::{promise_at, step};
 use crate::incoming::{Incoming, Refused, index_of, least_clock, new_incoming};
@@ -376,6 +377,16 @@ impl<L: Local> Process<L> {
 }
 
 impl<L: Local> Process<L> {
+    /// How many bytes the lines have together that were committed and not moved out yet.
+    pub fn rest_length<N: OfJob>(&self) -> usize
+    where
+        L: LocalHandsOver<N>,
+        ensures { result ≡ rest_length N.line (L.handed self.now.local).past
+            (L.view self.now.local).committed }
+    {
+        self.local.rest_length()
+    }
+
     /// Moves out what was committed beyond what was moved out before, as the lines that its entries print.
     pub fn hand_over<N: OfJob>(&mut self) -> WrittenPart<N>
     where

@@ -54,9 +54,10 @@
 //!
 //! Packets with events are put at once. A null message is put where its process took a packet in the same visit, since who sent that
 //! one may wait for an answer, and where the process did not move. A process that runs ahead by itself would else tell each instant,
-//! and keep awake whoever can only wait for it: such a null message stays on the process until the next round in which its worker
-//! posts, and the window of the next one begins where that one ends. It is proved of each visit that no packet with events is kept
-//! back, and none at all in such a round: where one still stands afterwards, the end of its link held a packet before the visit.
+//! and keep awake whoever can only wait for it: such a null message stays on the process until its worker tells, in the rounds 1, 2, 4,
+//! .. and in every 64th, and the window of the next one begins where that one ends. It is proved of each visit that no packet with
+//! events is kept back, and none at all in such a round: where one still stands afterwards, the end of its link held a packet before
+//! the visit.
 //!
 //! # What is posted
 //!
@@ -64,13 +65,12 @@
 //! nothing of it is kept twice. Only its own worker posts a process, so no piece leaves a gap; where the board has no memory for one it
 //! is gone, and the run ends.
 //!
-//! A worker posts all its processes after the rounds 1, 2, 4, .. and after every 64th; where a piece gets long, after every 32nd, 16th
-//! and so on, and where pieces are short again less often; and before it sleeps at its bell, and where they are done. What it did not
-//! post when it ends is in the report. A worker that finds nothing to do looks at its bell for a moment first, without sleep, and posts
-//! nothing then: processes that answer each other within microseconds would else post at each answer. While a worker sleeps its processes
-//! commit nothing. So all that a sleeping worker knows is on the board. The bell for news rings after that: whoever takes pieces off the
-//! board reads the bell's count, takes, and waits past that count, so it wakes for what it missed. No worker holds the board's lock during
-//! a turn, and nobody puts pieces together under it.
+//! A worker posts all its processes after the rounds in which it tells, after a round that leaves a piece with 12 KiB of lines,
+//! before it sleeps at its bell, and where they are done. What it did not post when it ends is in the report. A worker that finds
+//! nothing to do looks at its bell for a moment first, without sleep, and posts nothing then: processes that answer each other within
+//! microseconds would else post at each answer. While a worker sleeps its processes commit nothing. So all that a sleeping worker knows
+//! is on the board. The bell for news rings after that: whoever takes pieces off the board reads the bell's count, takes, and waits past
+//! that count, so it wakes for what it missed. No worker holds the board's lock during a turn, and nobody puts pieces together under it.
 #![tactic(auto)]
 
 /// Bells, and flags.

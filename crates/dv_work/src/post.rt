@@ -12,47 +12,42 @@ use dv_written::OfJob;
 use std::alloc::AllocError;
 use std::sync::Wait;
 
-// The most rounds that a worker makes between two posts. A post and a ring together cost more than one turn, but almost nothing
-// compared with this many rounds.
+// How many rounds a worker makes between two posts where no piece gets long. A post and a ring together cost more than one turn, but
+// almost nothing compared with this many rounds.
 const ROUNDS_TO_A_POST: u64 = 64;
 
-// Where the lines of a piece have more bytes than this, the next one is made after half as many rounds, and else after twice as many.
-// With its entries such a piece takes about 20 kilobytes: it is written while it is near, and its memory is not new to the process each
-// time.
-const MANY_BYTES: usize = 12_288;
+// Once the lines of a piece have so many bytes, it is posted. With its entries it takes about 20 kilobytes then: it is written while it
+// is near, and pieces take the same memory in turn.
+const BYTES_TO_A_POST: usize = 12_288;
 
-/// After which rounds a worker tells the others how far its processes have come, and posts.
+/// In which rounds a worker tells the others how far its processes have come, and posts after them.
 #[derive(Drop)]
 pub struct Pace {
     rounds: u64,
-    between: u64,
 }
 
 impl Pace {
     /// Before the first round.
     pub fn new() -> Pace {
-        Pace {
-            rounds: 0,
-            between: ROUNDS_TO_A_POST,
+        Pace { rounds: 0 }
+    }
+
+    /// Counts a round, and says whether the worker tells in it. It does so now and then, and more often at first, so that a reader sees
+    /// the first lines soon.
+    pub fn tells_in_next(&mut self) -> bool {
+        self.rounds = self.rounds.wrapping_add(1);
+        self.rounds.is_power_of_two() || self.rounds.is_multiple_of(ROUNDS_TO_A_POST)
+    }
+}
+
+/// Whether the lines are long that one of a worker's processes committed and did not post.
+pub fn is_any_long<N: OfJob, P: ProcessHandsOver<N>>(seats: &[Seat<P>]) -> bool {
+    for seat in seats {
+        if seat.process.rest_length() >= BYTES_TO_A_POST {
+            return true;
         }
     }
-
-    /// Counts a round, and tells whether the worker posts after it. It does so now and then, and more often at first, so that a reader
-    /// sees the first lines soon.
-    pub fn posts_in_next(&mut self) -> bool {
-        self.rounds = self.rounds.wrapping_add(1);
-        self.rounds.is_power_of_two() || self.rounds.is_multiple_of(self.between)
-    }
-
-    /// The lines of the longest piece of a post had so many bytes.
-    pub fn adapt(&mut self, bytes: usize) {
-        let between = if bytes > MANY_BYTES {
-            self.between / 2
-        } else {
-            self.between.saturating_mul(2)
-        };
-        self.between = between.clamp(1, ROUNDS_TO_A_POST);
-    }
+    false
 }
 
 /// Where workers post what their processes committed, and how whoever takes that holds them back.
@@ -80,12 +75,12 @@ impl<N: OfJob> Stream<'_, N> {
     }
 }
 
-// Posts what a process committed since it posted last, and tells how many bytes its lines had; none where its clock has not moved.
+// Posts what a process committed since it posted last, and tells whether it did: not where its clock has not moved.
 fn post<N: OfJob, P: ProcessHandsOver<N>, R: Wait>(
     rt: &R,
     floor: &Floor<'_, N>,
     seat: &mut Seat<P>,
-) -> Result<Option<usize>, AllocError>
+) -> Result<bool, AllocError>
     requires { Sits N.job P.state P.handed P.valid floor.now.links.now seat.old }
     ensures sits { Sits N.job P.state P.handed P.valid floor.now.links.now seat.new }
     ensures told { HasToldAll P.state seat.old → HasToldAll P.state seat.new }
@@ -94,18 +89,17 @@ fn post<N: OfJob, P: ProcessHandsOver<N>, R: Wait>(
     seat.account(floor);
     let clock = seat.process.clock();
     if !seat.posted.is_before(clock) {
-        return Ok(None);
+        return Ok(false);
     }
     let piece = seat.piece::<N>();
     let bytes = piece.part.byte_count();
     // Before it is on the board, since whoever takes it may take it off the lead at once.
     floor.stream.leads.add(piece.process, bytes);
     floor.stream.board.post(rt, piece)?;
-    Ok(Some(bytes))
+    Ok(true)
 }
 
-/// Posts what the processes of a worker committed, and rings for it. Tells how many bytes the lines of the longest piece had, if there
-/// was one.
+/// Posts what the processes of a worker committed, and rings for it.
 ///
 /// # Errors
 ///
@@ -114,19 +108,19 @@ pub fn post_all<N: OfJob, P: ProcessHandsOver<N>, R: Wait>(
     rt: &R,
     floor: &Floor<'_, N>,
     seats: &mut [Seat<P>],
-) -> Result<Option<usize>, AllocError>
+) -> Result<(), AllocError>
     requires { All (Sits N.job P.state P.handed P.valid floor.now.links.now) seats.old }
     ensures sits { All (Sits N.job P.state P.handed P.valid floor.now.links.now) seats.new }
     ensures told { All (HasToldAll P.state) seats.old → All (HasToldAll P.state) seats.new }
     ensures put { All HoldsNone seats.old → All HoldsNone seats.new }
 {
-    let mut longest = None;
+    let mut any_posted = false;
     for i in 0..seats.len() {
-        let bytes = post(rt, floor, &mut seats[i])?;
-        longest = longest.max(bytes);
+        let has_posted = post(rt, floor, &mut seats[i])?;
+        any_posted |= has_posted;
     }
-    if longest.is_some() {
+    if any_posted {
         floor.stream.news.ring();
     }
-    Ok(longest)
+    Ok(())
 }

@@ -9,7 +9,7 @@ ghost use Rattle.dv_work.specs.Seats.{EachKeepsNoneBack, KeepsNoneBack, KeepsNon
 
 use crate::bell::Bell;
 use crate::gate::Gate;
-use crate::post::{Pace, post_all};
+use crate::post::{Pace, is_any_long, post_all};
 use crate::seat::{Floor, Seat};
 use dv_core::{LogicalProcess, ProcessHandsOver};
 use dv_proc::Turned;
@@ -238,10 +238,10 @@ fn of_both(one: Turned, other: Turned) -> Turned
     }
 }
 
-// Whether a worker posts after a round: where it tells, and always where it is done.
-fn posts_after(tells: bool, turned: Turned) -> bool {
+// Whether a worker posts after a round: where it tells, where a piece is long, and always where it is done.
+fn posts_after(tells: bool, is_long: bool, turned: Turned) -> bool {
     match turned {
-        Turned::Moved | Turned::Waiting => tells,
+        Turned::Moved | Turned::Waiting => tells || is_long,
         Turned::Done => true,
     }
 }
@@ -267,13 +267,12 @@ fn wait_for_work<N: OfJob, P: ProcessHandsOver<N>, R: Wait>(
     Ok(())
 }
 
-// Posts after a round, where that is due, and adapts the pace to it.
+// Posts after a round, where that is due.
 fn post_after<N: OfJob, P: ProcessHandsOver<N>, R: Wait>(
     rt: &R,
     floor: &Floor<'_, N>,
     tells: bool,
     turned: Turned,
-    pace: &mut Pace,
     seats: &mut [Seat<P>],
 ) -> Result<(), AllocError>
     requires { All (Sits N.job P.state P.handed P.valid floor.now.links.now) seats.old }
@@ -281,13 +280,10 @@ fn post_after<N: OfJob, P: ProcessHandsOver<N>, R: Wait>(
     ensures told { All (HasToldAll P.state) seats.old → All (HasToldAll P.state) seats.new }
     ensures put { All HoldsNone seats.old → All HoldsNone seats.new }
 {
-    if !posts_after(tells, turned) {
+    if !posts_after(tells, is_any_long::<N, P>(seats), turned) {
         return Ok(());
     }
-    if let Some(bytes) = post_all(rt, floor, seats)? {
-        pace.adapt(bytes);
-    }
-    Ok(())
+    post_all(rt, floor, seats)
 }
 
 // Waits after a round in which nothing moved.
@@ -326,13 +322,13 @@ fn rounds<N: OfJob, P: ProcessHandsOver<N>, G: Gate<P>, R: Wait>(
 {
     let mut pace = Pace::new();
     for _ in rt.forever() {
-        let tells = pace.posts_in_next();
+        let tells = pace.tells_in_next();
         let seen = bell.rings();
         let turned = match round(rt, floor, gate, worker, tells, seats, work) {
             Ok(turned) => turned,
             Err(halt) => return Some(halt),
         };
-        if post_after(rt, floor, tells, turned, &mut pace, seats).is_err() {
+        if post_after(rt, floor, tells, turned, seats).is_err() {
             return Some(Halt::Memory);
         }
         if let Turned::Done = turned {

@@ -2,3 +2,5 @@
 pub mod Faults
 -- A job where none is meant.
 pub mod Jobs
+-- How long the lines are that were not handed over yet.
+pub mod Rest

@@ -2,6 +2,7 @@
 
 ghost use Rattle.std.specs.Prelude.{◌≡◌};
 ghost use Rattle.dv_bag.specs.Part.{joined};
+ghost use Rattle.dv_written.specs.Rest.{rest_length};
 
 use crate::job::OfJob;
 use crate::part::WrittenPart;
@@ -10,6 +11,10 @@ use std::alloc::Global;
 
 /// A record of which a part is moved out while more is told, as the lines that its entries print.
 pub trait HandsOver<N: OfJob>: Record {
+    /// How many bytes the lines have together that were told and not moved out yet.
+    fn rest_length(&self) -> usize
+        ensures { result ≡ rest_length N.line (Self.handed self.now).past (Self.told self.now) };
+
     /// Moves out what was told beyond what was moved out before, when all that was told is settled.
     fn hand_over(&mut self, alloc: Global) -> WrittenPart<N>
         requires { Self.settled self.old ≡ Self.told self.old }

@@ -35,11 +35,11 @@ impl<N: OfJob> Model for WrittenPart<N> {
     ghost invariant = { λ p. p.text.items ≡ flat_map N.line p.entries.items };
 }
 
-// A kibibyte of entries and one of lines. A part has room in whole kibibytes: an allocator keeps small blocks back by their size, and
-// with sizes of all kinds it would keep more of them the longer a run is.
-const ENTRIES_OF_A_BLOCK: usize = 32;
+// Four kibibytes of entries and four of lines. A part has room in whole blocks: an allocator keeps blocks back by their size, and with
+// sizes of all kinds it would keep more of them the longer a run is.
+const ENTRIES_OF_A_BLOCK: usize = 128;
 
-const BYTES_OF_A_BLOCK: usize = 1_024;
+const BYTES_OF_A_BLOCK: usize = 4_096;
 
 // So many, and as many more as fill up the last block.
 fn whole_blocks(count: usize, block: usize) -> usize {
@@ -93,8 +93,8 @@ impl<N: OfJob> WrittenPart<N> {
         }
     }
 
-    // No entries, and nothing sent outside, with room for so many entries and for lines of so many bytes where there is memory for it.
-    fn with_room(alloc: Global, entries: usize, bytes: usize) -> Self
+    /// No entries, and nothing sent outside, with room for so many entries and for lines of so many bytes where there is memory for it.
+    pub fn with_room(alloc: Global, entries: usize, bytes: usize) -> Self
         ensures { result ≡ nothing }
     {
         let entries = whole_blocks(entries, ENTRIES_OF_A_BLOCK);
@@ -240,7 +240,7 @@ impl<N: OfJob> WrittenPart<N> {
         Ok(())
     }
 
-    /// Moves all of it out, to a part with room for just that, in whole kibibytes. The room in which it was put together stays here and
+    /// Moves all of it out, to a part with room for just that, in whole blocks. The room in which it was put together stays here and
     /// serves again; where there is no memory for another part, it is moved out, too.
     pub fn take(&mut self, alloc: Global) -> Self
         ensures taken { result ≡ self.old }

@@ -81,6 +81,7 @@ fn push(
         return Err(Fault::Empty);
     };
     test_room(held.count(), capacity)?;
+    variables.make_room(0, capacity).expect(rt, "memory");
     variables.edit(Change::Push, 0, value).expect(rt, "memory");
     Ok(())
 }
