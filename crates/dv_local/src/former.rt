@@ -18,7 +18,7 @@ use dv_share::{Indexed, Tables, Visit};
 use std::alloc::{AllocError, Global};
 use std::marker::Model;
 
-// So many models have copies by themselves. Where a share has more, some of them have theirs together.
+// So many models have copies by themselves. Where a share has more, the last ones have theirs together.
 const MODELS_APART: usize = 256;
 
 /// What components were before they reacted, each with its index, the last one last. Those of each model lie by themselves, so that the
@@ -137,7 +137,8 @@ impl Former {
         ensures none { OnErr result (self.new ≡ self.old) }
     {
         self.order.reserve(1)?;
-        let model = model_of(moment.tables, visit.arrival.index) % self.copies.len();
+        let last = self.copies.len() - 1;
+        let model = model_of(moment.tables, visit.arrival.index).min(last);
         let happened = self.copies[model].react(moment, work, component, visit)?;
         if happened.is_some() {
             self.order.push_reserved(model);

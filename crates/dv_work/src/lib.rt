@@ -55,9 +55,9 @@
 //! Packets with events are put at once. A null message is put where its process took a packet in the same visit, since who sent that
 //! one may wait for an answer, and where the process did not move. A process that runs ahead by itself would else tell each instant,
 //! and keep awake whoever can only wait for it: such a null message stays on the process until its worker tells, in the rounds 1, 2, 4,
-//! .. and in every 64th, and the window of the next one begins where that one ends. It is proved of each visit that no packet with
-//! events is kept back, and none at all in such a round: where one still stands afterwards, the end of its link held a packet before
-//! the visit.
+//! .. and in every 64th, and in one after a round that left a long piece. The window of the next one begins where that one ends. It is
+//! proved of each visit that no packet with events is kept back, and none at all in such a round: where one still stands afterwards,
+//! the end of its link held a packet before the visit.
 //!
 //! # What is posted
 //!

@@ -24,19 +24,31 @@ const BYTES_TO_A_POST: usize = 12_288;
 #[derive(Drop)]
 pub struct Pace {
     rounds: u64,
+    // Whether the last round left a long piece.
+    was_long: bool,
 }
 
 impl Pace {
     /// Before the first round.
     pub fn new() -> Pace {
-        Pace { rounds: 0 }
+        Pace {
+            rounds: 0,
+            was_long: false,
+        }
     }
 
     /// Counts a round, and says whether the worker tells in it. It does so now and then, and more often at first, so that a reader sees
-    /// the first lines soon.
+    /// the first lines soon; and after a round that left a long piece, since rounds that do much are worth a packet each.
     pub fn tells_in_next(&mut self) -> bool {
         self.rounds = self.rounds.wrapping_add(1);
-        self.rounds.is_power_of_two() || self.rounds.is_multiple_of(ROUNDS_TO_A_POST)
+        self.was_long
+            || self.rounds.is_power_of_two()
+            || self.rounds.is_multiple_of(ROUNDS_TO_A_POST)
+    }
+
+    /// Whether the round left a long piece.
+    pub fn adapt(&mut self, is_long: bool) {
+        self.was_long = is_long;
     }
 }
 

@@ -267,12 +267,13 @@ fn wait_for_work<N: OfJob, P: ProcessHandsOver<N>, R: Wait>(
     Ok(())
 }
 
-// Posts after a round, where that is due.
+// Posts after a round, where that is due, and adapts the pace to it.
 fn post_after<N: OfJob, P: ProcessHandsOver<N>, R: Wait>(
     rt: &R,
     floor: &Floor<'_, N>,
     tells: bool,
     turned: Turned,
+    pace: &mut Pace,
     seats: &mut [Seat<P>],
 ) -> Result<(), AllocError>
     requires { All (Sits N.job P.state P.handed P.valid floor.now.links.now) seats.old }
@@ -280,7 +281,9 @@ fn post_after<N: OfJob, P: ProcessHandsOver<N>, R: Wait>(
     ensures told { All (HasToldAll P.state) seats.old → All (HasToldAll P.state) seats.new }
     ensures put { All HoldsNone seats.old → All HoldsNone seats.new }
 {
-    if !posts_after(tells, is_any_long::<N, P>(seats), turned) {
+    let is_long = is_any_long::<N, P>(seats);
+    pace.adapt(is_long);
+    if !posts_after(tells, is_long, turned) {
         return Ok(());
     }
     post_all(rt, floor, seats)
@@ -328,7 +331,7 @@ fn rounds<N: OfJob, P: ProcessHandsOver<N>, G: Gate<P>, R: Wait>(
             Ok(turned) => turned,
             Err(halt) => return Some(halt),
         };
-        if post_after(rt, floor, tells, turned, seats).is_err() {
+        if post_after(rt, floor, tells, turned, &mut pace, seats).is_err() {
             return Some(Halt::Memory);
         }
         if let Turned::Done = turned {

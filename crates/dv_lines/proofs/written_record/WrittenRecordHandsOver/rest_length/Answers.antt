@@ -1,7 +1,6 @@
-use Rattle.std.proofs.Common.{List, length, drop, ap, sym, ◌∙◌}
+use Rattle.std.proofs.Common.{List, length, ap, sym, ◌∙◌}
 use Rattle.std.specs.List.{flat_map}
 use Rattle.std.proofs.Math.Seq.{drop-append_seam}
-use Rattle.dv_bag.specs.Part.{PartOf}
 use Rattle.dv_bag.specs.declared.entry.Entry.{Entry}
 use Rattle.dv_lines.specs.Entries.{Written}
 use Rattle.dv_written.specs.Rest.{rest_length}

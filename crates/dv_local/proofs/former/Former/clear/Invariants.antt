@@ -1,4 +1,4 @@
-use Rattle.std.proofs.Common.{◌≡◌, ◌<◌, length}
+use Rattle.std.proofs.Common.{◌<◌, length}
 use Rattle.dv_local.specs.Orders.{AreCounted}
 use Rattle.dv_local.proofs.former.Former.clear.Given as goal
 

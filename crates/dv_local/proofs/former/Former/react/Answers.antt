@@ -1,6 +1,6 @@
-use Rattle.std.proofs.Common.{◌≡◌, ◌<◌, ◌++◌, ◌%◌, ℕ, [], ◌∷◌, List, Option, Some, None, true, length, get_or, set, refl, ap, subst, sym, ◌∙◌}
+use Rattle.std.proofs.Common.{◌≡◌, ◌<◌, ◌++◌, ℕ, [], ◌∷◌, List, Option, Some, None, true, length, get_or, set}
+use Rattle.std.proofs.Common.{refl, ap, subst, sym, ◌∙◌, arith}
 use Rattle.std.specs.Option.{is_some}
-use Rattle.std.proofs.Math.Nat.{mod-lt}
 use Rattle.std.proofs.lemmas.List.{get_or_default}
 use Rattle.dv_react.specs.declared.happened.Happened.{Happened}
 use Rattle.dv_react.specs.declared.running.Running.{Running}
@@ -17,7 +17,7 @@ one_former p r (Some h) is = refl
 
 module _ (g : Over) (c : goal.After-push_reserved g) where
   abbrev n : ℕ
-  n = c.model_of.result % c.len.result
+  n = c.min-model.result
 
   abbrev lists : List (List (Indexed Running))
   lists = c.self.inside.copies.items
@@ -31,11 +31,11 @@ module _ (g : Over) (c : goal.After-push_reserved g) where
   one : former_of c.args.visit.now.arrival.now.index c.args.component.now c.in_ok-happened.happened ≡ copy ∷ []
   one = one_former c.args.visit.now.arrival.now.index c.args.component.now c.in_ok-happened.happened there
 
-  count : c.len.result ≡ length lists
-  count = c.len.ensures ∙ c.self.inside.copies.ok.0
+  count : c.len-last.result ≡ length lists
+  count = c.len-last.ensures ∙ c.self.inside.copies.ok.0
 
   within : n < length lists
-  within = subst (λ (k : ℕ). n < k) count (mod-lt c.model_of.result (subst (λ (k : ℕ). 0 < k) (sym count) c.self.invariant.0))
+  within = omega (arith, c.min-model.ensures, count, c.self.invariant.0)
 
   at : get_or lists n [] ≡ c.index_mut.result.now
   at = get_or_default lists n [] c.index_mut.result.now within ∙ sym c.index_mut.ensures.value
@@ -50,11 +50,14 @@ module _ (g : Over) (c : goal.After-push_reserved g) where
 
 pub invariant_of-self-then-is_some : goal.invariant_of-self-then-is_some
 invariant_of-self-then-is_some g c =
-    ((pushed_here g c).some, subst (λ (o : List ℕ). AreCounted o (set (lists g c) (n g c) c.react.new.self)) (sym (order g c)) (pushed_here g c).counted)
+    let after = set (lists g c) (n g c) c.react.new.self in
+    let here = pushed_here g c in
+    (here.some, subst (λ (o : List ℕ). AreCounted o after) (sym (order g c)) here.counted)
 
 pub returns-then-is_some-clause-former : goal.returns-then-is_some-clause-former
 returns-then-is_some-clause-former g c =
+    let former = former_of c.args.visit.now.arrival.now.index c.args.component.now c.in_ok-happened.happened in
     ap (λ (o : List ℕ). in_order o (set (lists g c) (n g c) c.react.new.self)) (order g c)
     ∙ (pushed_here g c).items
     ∙ ap (λ (l : List (Indexed Running)). in_order c.self.inside.order.items (lists g c) ++ l) (sym (one g c))
-    ∙ ap (λ (l : List (Indexed Running)). l ++ former_of c.args.visit.now.arrival.now.index c.args.component.now c.in_ok-happened.happened) c.self.view_is
+    ∙ ap (λ (l : List (Indexed Running)). l ++ former) c.self.view_is
