@@ -21,7 +21,7 @@ use std::default::MadeWith;
 use std::marker::Model;
 
 /// A bag of whole numbers. Copies of one value lie inline.
-#[derive(Debug, Drop)]
+#[derive(Drop)]
 pub struct Bag {
     pairs: SmallVec<(i64, u64), 1>,
 }

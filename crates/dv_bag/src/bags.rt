@@ -19,7 +19,7 @@ use std::default::MadeWith;
 use std::marker::Model;
 
 /// The bag of a port.
-#[derive(Debug, Drop)]
+#[derive(Drop)]
 pub struct PortBag {
     /// The index of the port.
     pub port: usize,
@@ -48,7 +48,7 @@ impl Clone for PortBag {
 }
 
 /// A bag for each of so many ports. One without values takes neither memory nor time, and two with values lie inline.
-#[derive(Debug, Drop)]
+#[derive(Drop)]
 pub struct Bags {
     ports: usize,
     held: SmallVec<PortBag, 2>,

@@ -15,7 +15,7 @@ use std::alloc::{AllocError, Global};
 use std::marker::Model;
 
 /// A bag or a queue.
-#[derive(Debug, Drop)]
+#[derive(Drop)]
 pub enum Collection {
     /// The values of a bag.
     Bag(Bag),
@@ -173,7 +173,7 @@ impl Eq for Collection {
 
 /// A collection that a state holds, in memory of its own: it has at most `GREATEST_COUNT` values, each copy counted. Two
 /// with the same values are equal, wherever they lie.
-#[derive(Debug, Drop)]
+#[derive(Drop)]
 pub struct Held {
     collection: Box<Collection>,
 }

@@ -4,7 +4,7 @@ ghost use Rattle.std.specs.Prelude.{◌≡◌};
 ghost use Rattle.dv_bag.specs.Collections.{discipline_of_change, makes_more};
 
 /// How a collection keeps its values.
-#[derive(Clone, Copy, Debug, PartialEq, Eq)]
+#[derive(Clone, Copy, PartialEq, Eq)]
 pub enum Discipline {
     /// Each value with the number of its copies. They are walked in ascending order.
     Bag,
@@ -13,7 +13,7 @@ pub enum Discipline {
 }
 
 /// What changes a collection with a value.
-#[derive(Clone, Copy, Debug, PartialEq, Eq)]
+#[derive(Clone, Copy, PartialEq, Eq)]
 pub enum Change {
     /// One copy more in a bag.
     Add,

@@ -13,7 +13,7 @@ use std::fmt;
 use std::str::FromStr;
 
 /// Which transition took place.
-#[derive(Clone, Copy, Debug, PartialEq, Eq)]
+#[derive(Clone, Copy, PartialEq, Eq)]
 pub enum Kind {
     /// The hold ended, and nothing arrived.
     Internal,
@@ -50,7 +50,7 @@ impl fmt::Display for Kind {
 }
 
 /// A word that stands for no kind of transition.
-#[derive(Clone, Copy, Debug, PartialEq, Eq)]
+#[derive(Clone, Copy, PartialEq, Eq)]
 pub struct NoKind;
 
 impl FromStr for Kind {
@@ -71,7 +71,7 @@ impl FromStr for Kind {
 }
 
 /// What happened to a component: a transition with the state after it, or a fault.
-#[derive(Debug, Drop, PartialEq, Eq)]
+#[derive(Drop, PartialEq, Eq)]
 pub enum What {
     /// A transition of this kind, with the state after it.
     Transition { kind: Kind, state: State },
@@ -94,7 +94,7 @@ impl Clone for What {
 }
 
 /// What happened to one component at one instant, and what it sent then, by output port.
-#[derive(Debug, Drop, PartialEq, Eq)]
+#[derive(Drop, PartialEq, Eq)]
 pub struct Entry {
     /// The time of the instant.
     pub time: Time,
@@ -120,7 +120,7 @@ impl Clone for Entry {
 }
 
 /// What left the model at one instant by one of its output ports.
-#[derive(Debug, Drop, PartialEq, Eq)]
+#[derive(Drop, PartialEq, Eq)]
 pub struct Outer {
     /// The time of the instant.
     pub time: Time,

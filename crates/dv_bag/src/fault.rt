@@ -69,7 +69,7 @@ impl fmt::Display for Fault {
 }
 
 /// A word that stands for no fault.
-#[derive(Clone, Copy, Debug, PartialEq, Eq)]
+#[derive(Clone, Copy, PartialEq, Eq)]
 pub struct NoFault;
 
 impl FromStr for Fault {

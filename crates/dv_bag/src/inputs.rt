@@ -17,7 +17,7 @@ use std::alloc::{AllocError, Global};
 use std::marker::Model;
 
 /// A value that comes in from outside: at a time, at an input port of the root by its number.
-#[derive(Clone, Copy, Debug, PartialEq, Eq)]
+#[derive(Clone, Copy, PartialEq, Eq)]
 pub struct Input {
     /// The time at which it comes.
     pub time: Time,
@@ -28,7 +28,7 @@ pub struct Input {
 }
 
 /// Inputs in an order in which times never fall, none with a tick above the greatest.
-#[derive(Debug, Drop)]
+#[derive(Drop)]
 pub struct Inputs {
     inputs: Vec<Input>,
 }

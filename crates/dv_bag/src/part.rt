@@ -14,7 +14,7 @@ use std::marker::Model;
 use std::slice::Iter;
 
 /// Entries of some components, and what those components sent outside, in the order in which they were pushed.
-#[derive(Debug, Drop)]
+#[derive(Drop)]
 pub struct Part {
     entries: Vec<Entry>,
     outer: Vec<Outer>,

@@ -15,7 +15,7 @@ use std::marker::Model;
 use std::mem;
 
 /// A list of whole numbers, to which values come last, and from which the first one goes.
-#[derive(Debug, Drop)]
+#[derive(Drop)]
 pub struct Queue {
     values: VecDeque<i64>,
 }

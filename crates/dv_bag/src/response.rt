@@ -5,7 +5,7 @@ ghost use Rattle.dv_time.specs.Time.{earlier};
 ghost use Rattle.dv_bag.specs.Responses.{ticks_of};
 
 /// The lookahead of an atomic model: how soon a hold can end that begins where an external rule goes to a phase.
-#[derive(Clone, Copy, Debug, PartialEq, Eq)]
+#[derive(Clone, Copy, PartialEq, Eq)]
 pub enum Response {
     /// After so many ticks or more.
     Ticks(u64),

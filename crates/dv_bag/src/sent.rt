@@ -16,7 +16,7 @@ use std::default::MadeWith;
 use std::marker::Model;
 
 /// Copies of a value that go to a port.
-#[derive(Clone, Copy, Debug, PartialEq, Eq)]
+#[derive(Clone, Copy, PartialEq, Eq)]
 pub struct Sending {
     /// The index of the output port.
     pub port: usize,
@@ -47,7 +47,7 @@ impl MadeWith<Global> for Sending {
 
 /// What a component sent at one instant: a bag for each of its output ports, as one list by port and then by value. So
 /// a port has each value once, and what goes to it lies as its bag. Copies of one value lie inline.
-#[derive(Debug, Drop)]
+#[derive(Drop)]
 pub struct Sent {
     ports: usize,
     sendings: SmallVec<Sending, 1>,

@@ -19,7 +19,7 @@ use std::default::MadeWith;
 use std::marker::Model;
 
 /// What a variable, a flag, a bag or a queue of a state holds. A number takes no memory beside it.
-#[derive(Debug, Drop)]
+#[derive(Drop)]
 pub enum Datum {
     /// The number of a variable.
     Number(i64),
@@ -30,7 +30,7 @@ pub enum Datum {
 }
 
 /// A datum as it is read: numbers and flags by value, a collection where it lies.
-#[derive(Clone, Copy, Debug, PartialEq, Eq)]
+#[derive(Clone, Copy, PartialEq, Eq)]
 pub enum DatumView<'a> {
     /// The number of a variable.
     Number(i64),
@@ -120,7 +120,7 @@ impl Eq for Datum {
 }
 
 /// The variables, flags, bags and queues of a state, in the order of their declaration. Two lie inline.
-#[derive(Debug, Drop)]
+#[derive(Drop)]
 pub struct Variables {
     data: SmallVec<Datum, 2>,
 }
@@ -333,7 +333,7 @@ impl Eq for Variables {
 }
 
 /// A state of an atomic model: its phase, by number, and its variables.
-#[derive(Debug, Drop, PartialEq, Eq)]
+#[derive(Drop, PartialEq, Eq)]
 pub struct State {
     /// The index of the phase.
     pub phase: u32,
@@ -362,7 +362,7 @@ impl Clone for State {
 }
 
 /// What a rule does: the state after it, what it sent by port, and the phase of its last `goto`, if one ran.
-#[derive(Debug, Drop, PartialEq, Eq)]
+#[derive(Drop, PartialEq, Eq)]
 pub struct Effect {
     /// The state after the rule.
     pub state: State,

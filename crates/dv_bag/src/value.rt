@@ -1,7 +1,7 @@
 //! What an expression gives.
 
 /// The type of a value.
-#[derive(Clone, Copy, Debug, PartialEq, Eq)]
+#[derive(Clone, Copy, PartialEq, Eq)]
 pub enum ValueType {
     /// A number.
     Number,
@@ -10,7 +10,7 @@ pub enum ValueType {
 }
 
 /// A value of an expression.
-#[derive(Clone, Copy, Debug, PartialEq, Eq)]
+#[derive(Clone, Copy, PartialEq, Eq)]
 pub enum Value {
     /// This number.
     Number(i64),

@@ -23,7 +23,7 @@ use dv_syntax::{Atomic, Declaration, Hold, Name, Rule, Start, StateCollection, T
 use std::alloc::{AllocError, Global};
 
 /// What a name stands for at an offset of an atomic model.
-#[derive(Clone, Copy, Debug, PartialEq, Eq)]
+#[derive(Clone, Copy, PartialEq, Eq)]
 pub enum NameSort {
     /// A variable of the state, which holds a number.
     Variable,

@@ -7,7 +7,7 @@ use dv_bag::Discipline;
 use dv_syntax::BagCall;
 
 /// What a name has to stand for where it is read as a collection.
-#[derive(Clone, Copy, Debug, PartialEq, Eq)]
+#[derive(Clone, Copy, PartialEq, Eq)]
 pub enum Wanted {
     /// The values of a bag or of a queue.
     Values,

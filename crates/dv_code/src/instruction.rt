@@ -4,7 +4,7 @@
 use dv_bag::{Change, Discipline};
 
 /// Where a collection is read: one of the state, of this discipline, by its slot, or the bag that has arrived at an input port.
-#[derive(Clone, Copy, Debug, PartialEq, Eq)]
+#[derive(Clone, Copy, PartialEq, Eq)]
 pub enum Source {
     /// The collection in a slot of the state, by its discipline and the index of the slot.
     Own(Discipline, u16),
@@ -13,7 +13,7 @@ pub enum Source {
 }
 
 /// What has a value by itself.
-#[derive(Clone, Copy, Debug, PartialEq, Eq)]
+#[derive(Clone, Copy, PartialEq, Eq)]
 pub enum Leaf {
     /// This number.
     Number(i64),
@@ -40,7 +40,7 @@ pub enum Leaf {
 }
 
 /// What makes a value of a value.
-#[derive(Clone, Copy, Debug, PartialEq, Eq)]
+#[derive(Clone, Copy, PartialEq, Eq)]
 pub enum Unary {
     /// The number with the other sign.
     Negate,
@@ -51,7 +51,7 @@ pub enum Unary {
 }
 
 /// What makes a value of two, of which the second is on top.
-#[derive(Clone, Copy, Debug, PartialEq, Eq)]
+#[derive(Clone, Copy, PartialEq, Eq)]
 pub enum Binary {
     /// The sum.
     Add,
@@ -82,7 +82,7 @@ pub enum Binary {
 }
 
 /// What is done with a value.
-#[derive(Clone, Copy, Debug, PartialEq, Eq)]
+#[derive(Clone, Copy, PartialEq, Eq)]
 pub enum Action {
     /// The number goes into the variable of a slot.
     SetVariable(u16),
@@ -95,7 +95,7 @@ pub enum Action {
 }
 
 /// What is done without a value.
-#[derive(Clone, Copy, Debug, PartialEq, Eq)]
+#[derive(Clone, Copy, PartialEq, Eq)]
 pub enum Deed {
     /// The phase to which the rule goes, until another is named.
     Go(u32),
@@ -104,7 +104,7 @@ pub enum Deed {
 }
 
 /// One instruction. A jump names the address to which it leads, from 0.
-#[derive(Clone, Copy, Debug, PartialEq, Eq)]
+#[derive(Clone, Copy, PartialEq, Eq)]
 pub enum Instruction {
     /// One value more.
     Push(Leaf),

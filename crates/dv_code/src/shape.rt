@@ -8,7 +8,7 @@ use std::marker::Model;
 use std::sync::Arc;
 
 /// What a slot of a state may hold.
-#[derive(Clone, Copy, Debug, PartialEq, Eq)]
+#[derive(Clone, Copy, PartialEq, Eq)]
 pub enum Slot {
     /// A number of a range.
     Ranged {
@@ -29,7 +29,7 @@ pub enum Slot {
 }
 
 /// What a program is for.
-#[derive(Clone, Copy, Debug, PartialEq, Eq)]
+#[derive(Clone, Copy, PartialEq, Eq)]
 pub enum ProgramSort {
     /// A rule that sends.
     Output,

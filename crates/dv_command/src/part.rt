@@ -8,7 +8,7 @@ use crate::subcommand::{Subcommand, is_flag, takes_value};
 use std::alloc::{AllocError, Global};
 
 /// One thing that words say.
-#[derive(Clone, Copy, Debug)]
+#[derive(Clone, Copy)]
 pub(crate) enum Part<'a> {
     /// A value by itself.
     Value(&'a str),
@@ -19,7 +19,7 @@ pub(crate) enum Part<'a> {
 }
 
 /// How the next word is read.
-#[derive(Clone, Copy, Debug)]
+#[derive(Clone, Copy)]
 pub(crate) enum Index<'a> {
     Ready,
     /// As the value of this option.
@@ -29,7 +29,7 @@ pub(crate) enum Index<'a> {
 }
 
 /// What a word says, if anything yet, and how the next one is read.
-#[derive(Clone, Copy, Debug)]
+#[derive(Clone, Copy)]
 pub(crate) struct Read<'a> {
     pub part: Option<Part<'a>>,
     pub next: Index<'a>,

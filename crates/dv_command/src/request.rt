@@ -10,7 +10,7 @@ use std::alloc::AllocError;
 pub(crate) const USUAL_LIMIT: u32 = 20;
 
 /// A subcommand with its values.
-#[derive(Debug, Drop)]
+#[derive(Drop)]
 pub enum Request {
     /// Check a model and print the number of its components.
     Check(Check),
@@ -35,7 +35,7 @@ pub enum Request {
 }
 
 /// A model that is asked for by itself.
-#[derive(Debug, Drop)]
+#[derive(Drop)]
 pub struct ModelFile {
     /// The file of the model.
     pub model: String,
@@ -44,7 +44,7 @@ pub struct ModelFile {
 }
 
 /// A model to check.
-#[derive(Debug, Drop)]
+#[derive(Drop)]
 pub struct Check {
     /// The model.
     pub file: ModelFile,
@@ -53,7 +53,7 @@ pub struct Check {
 }
 
 /// A model with a trace of it.
-#[derive(Debug, Drop)]
+#[derive(Drop)]
 pub struct TraceFiles {
     /// The file of the model.
     pub model: String,
@@ -66,7 +66,7 @@ pub struct TraceFiles {
 }
 
 /// A trace as a value change dump.
-#[derive(Debug, Drop)]
+#[derive(Drop)]
 pub struct Waves {
     /// The model and the trace.
     pub files: TraceFiles,
@@ -79,7 +79,7 @@ pub struct Waves {
 }
 
 /// Count what a trace says of each component.
-#[derive(Debug, Drop)]
+#[derive(Drop)]
 pub struct Stats {
     /// The model and the trace.
     pub files: TraceFiles,
@@ -88,7 +88,7 @@ pub struct Stats {
 }
 
 /// What of a trace is counted, and how it is printed. The last tick is not before the first one.
-#[derive(Debug, Drop)]
+#[derive(Drop)]
 pub struct StatsChoice {
     /// The first tick that counts, 0 to 10^15, where that is given.
     pub from: Option<u64>,
@@ -103,7 +103,7 @@ pub struct StatsChoice {
 }
 
 /// A trace as a table.
-#[derive(Debug, Drop)]
+#[derive(Drop)]
 pub struct Table {
     /// The model and the trace.
     pub files: TraceFiles,
@@ -114,7 +114,7 @@ pub struct Table {
 }
 
 /// How the components of a model are divided into processes.
-#[derive(Debug, Drop)]
+#[derive(Drop)]
 pub enum PartitionChoice {
     /// As the text of a file says.
     File(String),
@@ -123,7 +123,7 @@ pub enum PartitionChoice {
 }
 
 /// A model with how it is divided into processes.
-#[derive(Debug, Drop)]
+#[derive(Drop)]
 pub struct Plan {
     /// The file of the model.
     pub model: String,
@@ -134,7 +134,7 @@ pub struct Plan {
 }
 
 /// A model to print as a graph. It is not divided where phases are shown.
-#[derive(Debug, Drop)]
+#[derive(Drop)]
 pub struct Graph {
     /// The model.
     pub file: ModelFile,
@@ -145,7 +145,7 @@ pub struct Graph {
 }
 
 /// What of a model a graph shows.
-#[derive(Debug, Drop)]
+#[derive(Drop)]
 pub enum GraphChoice {
     /// All components.
     All,
@@ -156,7 +156,7 @@ pub enum GraphChoice {
 }
 
 /// Run a model and print its trace, or the numbers of it. Horizon and microsteps are within their ranges: the type keeps that.
-#[derive(Debug, Drop)]
+#[derive(Drop)]
 pub struct Run {
     /// The file of the model.
     pub model: String,
@@ -182,14 +182,14 @@ pub struct Run {
 }
 
 /// The text to print where the words are no command.
-#[derive(Debug, Drop)]
+#[derive(Drop)]
 pub struct Usage {
     /// The text, as it is printed.
     pub text: String,
 }
 
 /// Why nothing is asked for.
-#[derive(Debug, Drop)]
+#[derive(Drop)]
 pub enum RequestError {
     /// The words are no command, or ask for help.
     Usage(Usage),

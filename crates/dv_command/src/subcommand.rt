@@ -6,7 +6,7 @@ ghost use Rattle.dv_command.specs.Subcommands.{stats_has_flag, stats_takes_value
 ghost use Rattle.dv_command.specs.Subcommands.{vcd_has_flag, vcd_takes_value};
 
 /// What stands behind the program's name.
-#[derive(Clone, Copy, Debug)]
+#[derive(Clone, Copy)]
 pub(crate) enum Subcommand {
     Check,
     Code,

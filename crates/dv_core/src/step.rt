@@ -1,7 +1,7 @@
 //! What may be done to a world, and what it answers.
 
 /// What may happen in a world. Processes and links are said by their numbers.
-#[derive(Clone, Copy, Debug, PartialEq, Eq)]
+#[derive(Clone, Copy, PartialEq, Eq)]
 pub enum Step {
     /// A turn of a process.
     Turn(u32),
@@ -14,7 +14,7 @@ pub enum Step {
 }
 
 /// What a step is answered: it is done, or the first of the others that holds is the answer, and nothing changes.
-#[derive(Clone, Copy, Debug, PartialEq, Eq)]
+#[derive(Clone, Copy, PartialEq, Eq)]
 pub enum Reply {
     /// It is done.
     Done,
@@ -31,7 +31,7 @@ pub enum Reply {
 }
 
 /// How rounds end.
-#[derive(Clone, Copy, Debug, PartialEq, Eq)]
+#[derive(Clone, Copy, PartialEq, Eq)]
 pub enum Ended {
     /// Every clock is at the end.
     Whole,

@@ -16,7 +16,7 @@ use std::alloc::{AllocError, Global};
 use std::marker::Model;
 
 /// The range of a variable, and its value at the start.
-#[derive(Clone, Copy, Debug, PartialEq, Eq)]
+#[derive(Clone, Copy, PartialEq, Eq)]
 pub struct VariableRange {
     /// The least number that the variable may hold.
     pub low: i64,
@@ -50,7 +50,7 @@ fn bound_value(bound: &Bound) -> i64
 }
 
 /// What a state variable may hold, and what it holds at the start.
-#[derive(Clone, Copy, Debug, PartialEq, Eq)]
+#[derive(Clone, Copy, PartialEq, Eq)]
 pub enum Domain {
     /// The numbers of a range.
     Number(VariableRange),

@@ -7,7 +7,7 @@ use crate::words::{faults, input_refusals, partition_refusals, refusals};
 use std::alloc::{AllocError, Global};
 
 /// What a refusal or a fault means, and its cure.
-#[derive(Clone, Copy, Debug)]
+#[derive(Clone, Copy)]
 pub struct Explanation {
     /// The number of a refusal, as `E7`, `I2` or `Q3`, or the name of a fault, as `overflow`.
     pub code: &'static str,
@@ -18,7 +18,7 @@ pub struct Explanation {
 }
 
 /// A model with its inputs, and what comes of it.
-#[derive(Clone, Copy, Debug)]
+#[derive(Clone, Copy)]
 pub struct Example {
     /// The text of the model.
     pub model: &'static str,

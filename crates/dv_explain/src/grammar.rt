@@ -7,7 +7,7 @@ use dv_lex::{Keyword, Symbol, Token, TokenKind};
 use std::fmt;
 
 /// A part of the grammar that is owed at an offset of a text.
-#[derive(Clone, Copy, Debug, PartialEq, Eq)]
+#[derive(Clone, Copy, PartialEq, Eq)]
 pub enum Part {
     /// A sign, with its spelling.
     Sign(Symbol, &'static str),

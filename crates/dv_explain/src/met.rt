@@ -5,7 +5,7 @@ use dv_lex::{Names, Symbol, Token, TokenKind};
 use std::fmt;
 
 /// What stands at an offset of a text.
-#[derive(Clone, Copy, Debug, PartialEq, Eq)]
+#[derive(Clone, Copy, PartialEq, Eq)]
 pub enum Met<'a> {
     /// A name, with its text.
     Name(&'a str),

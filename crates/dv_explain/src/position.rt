@@ -3,7 +3,7 @@
 use std::fmt;
 
 /// Where a token stands: its line, and in characters its column; both count from 1.
-#[derive(Clone, Copy, Debug, PartialEq, Eq)]
+#[derive(Clone, Copy, PartialEq, Eq)]
 pub struct Position {
     /// The number of the line, counted from 1.
     pub line: usize,

@@ -4,7 +4,7 @@ use dv_trace::{TraceError, TraceRefusal};
 use std::alloc::{AllocError, AllocFailed};
 
 /// Why nothing is told of the faults of a trace.
-#[derive(Clone, Copy, Debug, PartialEq, Eq)]
+#[derive(Clone, Copy, PartialEq, Eq)]
 pub enum FaultsError {
     /// The trace is none of the model.
     Refused(TraceRefusal),

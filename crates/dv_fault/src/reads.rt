@@ -4,7 +4,7 @@ use dv_syntax::{Command, Expr, Stmt};
 use std::alloc::AllocError;
 
 /// What an expression reads.
-#[derive(Clone, Copy, Debug, PartialEq, Eq)]
+#[derive(Clone, Copy, PartialEq, Eq)]
 pub(crate) enum Read {
     /// The state variable, the input port or the variable of a loop of this name.
     Name(u32),

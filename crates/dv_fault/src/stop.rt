@@ -5,7 +5,7 @@ use dv_syntax::RuleSort;
 use std::alloc::{AllocError, AllocFailed};
 
 /// Of what a fault is.
-#[derive(Clone, Copy, Debug, PartialEq, Eq)]
+#[derive(Clone, Copy, PartialEq, Eq)]
 pub(crate) enum Site {
     /// Of the rule of this sort for the phase of this name.
     Rule { sort: RuleSort, phase: u32 },

@@ -1,7 +1,7 @@
 //! Links between ports, without the tree.
 
 /// A port of a component: an input or an output port, by the component's number and the port's index.
-#[derive(Clone, Copy, Debug, PartialEq, Eq)]
+#[derive(Clone, Copy, PartialEq, Eq)]
 pub struct ComponentPort {
     /// The number of the component.
     pub component: u32,
@@ -11,7 +11,7 @@ pub struct ComponentPort {
 
 /// A link from one port to another. Of each value that is sent at the one so many copies arrive at the other: as many as
 /// ways lead there.
-#[derive(Clone, Copy, Debug, PartialEq, Eq)]
+#[derive(Clone, Copy, PartialEq, Eq)]
 pub struct Link<From, To> {
     /// Where values are sent, or come in from outside.
     pub from: From,

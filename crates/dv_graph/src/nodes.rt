@@ -12,7 +12,7 @@ use std::fmt;
 use std::io::Write;
 
 /// What a node stands for. It is displayed as the node's name.
-#[derive(Clone, Copy, Debug, PartialEq, Eq)]
+#[derive(Clone, Copy, PartialEq, Eq)]
 pub(crate) enum Node {
     Component(u32),
     /// A coupled model that is drawn as one box, by its number among these.

@@ -10,7 +10,7 @@ use dv_syntax::{Atomic, Coupled, End, Link, Model, Name};
 use std::alloc::{AllocError, Global};
 
 /// Which end of a link.
-#[derive(Clone, Copy, Debug, PartialEq, Eq)]
+#[derive(Clone, Copy, PartialEq, Eq)]
 enum Side {
     From,
     To,

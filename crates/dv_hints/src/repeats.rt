@@ -9,7 +9,7 @@ use dv_syntax::{Atomic, Coupled, End, Model, Name, RuleSort};
 use std::alloc::{AllocError, Global};
 
 /// Which names may not be the same.
-#[derive(Clone, Copy, Debug, PartialEq, Eq)]
+#[derive(Clone, Copy, PartialEq, Eq)]
 enum Space {
     Models,
     /// Ports, variables, flags, bags and queues of an atomic model.

@@ -5,7 +5,7 @@ use dv_syntax::{Declaration, Name, RuleSort};
 use std::fmt;
 
 /// What a name of an atomic model stands for.
-#[derive(Clone, Copy, Debug, PartialEq, Eq)]
+#[derive(Clone, Copy, PartialEq, Eq)]
 pub enum NameSort {
     /// An input port.
     Input,

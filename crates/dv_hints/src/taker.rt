@@ -5,7 +5,7 @@ use dv_syntax::{Name, Operator, Prefix};
 use std::fmt;
 
 /// What takes the value of an expression.
-#[derive(Clone, Copy, Debug, PartialEq, Eq)]
+#[derive(Clone, Copy, PartialEq, Eq)]
 pub enum Taker {
     /// An operator before its operand
     Prefix(Prefix),

@@ -7,7 +7,7 @@ use dv_syntax::BagCall;
 use std::fmt;
 
 /// What a name of an atomic model has to stand for at its offset.
-#[derive(Clone, Copy, Debug, PartialEq, Eq)]
+#[derive(Clone, Copy, PartialEq, Eq)]
 pub enum Wanted {
     /// A phase.
     Phase,

@@ -59,7 +59,7 @@ impl fmt::Display for InputRefusal {
 }
 
 /// Why there are no inputs.
-#[derive(Clone, Copy, Debug, PartialEq, Eq)]
+#[derive(Clone, Copy, PartialEq, Eq)]
 pub enum InputsError {
     /// The text is refused.
     Refused(InputRefusal),

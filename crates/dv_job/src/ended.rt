@@ -13,7 +13,7 @@ use std::fmt;
 use thiserror::Error;
 
 /// How a run ended that printed a trace.
-#[derive(Clone, Copy, Debug, PartialEq, Eq)]
+#[derive(Clone, Copy, PartialEq, Eq)]
 pub enum JobEnded {
     /// The trace is whole, to its horizon, and no component had a fault.
     Whole,

@@ -12,7 +12,7 @@ pub const MOST_WORKERS: u32 = 256;
 pub const GREATEST_CAPACITY: u32 = 1_024;
 
 /// What drives the processes of a run.
-#[derive(Clone, Copy, Debug, PartialEq, Eq)]
+#[derive(Clone, Copy, PartialEq, Eq)]
 pub enum Driver {
     /// All of them in rounds on one thread, so many rounds at most; without a number there are enough.
     Rounds(Option<u64>),
@@ -21,7 +21,7 @@ pub enum Driver {
 }
 
 /// How far to run, and how. Its values are within their ranges: its type keeps that.
-#[derive(Clone, Copy, Debug)]
+#[derive(Clone, Copy)]
 pub struct Options {
     /// The last tick of the run, 0 to 10^15.
     pub horizon: u64,

@@ -5,7 +5,7 @@ use crate::numeral::Numeral;
 
 /// A word of the language. `Version` is one where a text begins with it, and a name elsewhere; `Queue`, `Push`, `Pop` and `Front`
 /// are words behind a header of version 2, and names elsewhere; the others are never names.
-#[derive(Clone, Copy, Debug, PartialEq, Eq)]
+#[derive(Clone, Copy, PartialEq, Eq)]
 pub enum Keyword {
     /// `atomic`
     Atomic,
@@ -98,7 +98,7 @@ pub enum Keyword {
 }
 
 /// A sign of one or two characters.
-#[derive(Clone, Copy, Debug, PartialEq, Eq)]
+#[derive(Clone, Copy, PartialEq, Eq)]
 pub enum Symbol {
     /// `:=`
     Assign,
@@ -147,7 +147,7 @@ pub enum Symbol {
 }
 
 /// What a token is.
-#[derive(Clone, Copy, Debug, PartialEq, Eq)]
+#[derive(Clone, Copy, PartialEq, Eq)]
 pub enum TokenKind {
     /// A name, by its number in the table of names.
     Name(u32),
@@ -160,7 +160,7 @@ pub enum TokenKind {
 }
 
 /// A token, and its offset: the number of the bytes of the text before it.
-#[derive(Clone, Copy, Debug, PartialEq, Eq)]
+#[derive(Clone, Copy, PartialEq, Eq)]
 pub struct Token {
     /// What the token is.
     pub kind: TokenKind,

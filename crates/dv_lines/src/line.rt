@@ -14,7 +14,7 @@ use crate::values::{put_sent, put_values, put_variables};
 use dv_bag::{Bag, Fault, Kind, Sent, State};
 
 /// The words of a component, and the bytes in which they lie.
-#[derive(Clone, Copy, Debug)]
+#[derive(Clone, Copy)]
 pub struct ComponentWords<'w> {
     /// The bytes in which all of these words lie.
     pub bytes: &'w [u8],

@@ -19,7 +19,7 @@ pub enum PartitionRefusal {
 }
 
 /// Why a partition has no groups.
-#[derive(Clone, Copy, Debug, PartialEq, Eq, Drop)]
+#[derive(Clone, Copy, PartialEq, Eq, Drop)]
 pub enum PartitionError {
     /// The partition is refused.
     Refused(PartitionRefusal),

@@ -12,7 +12,7 @@ use dv_share::Link;
 use std::alloc::{AllocError, Global};
 
 /// A link between processes that leads away from one: its number, and where it leads.
-#[derive(Clone, Copy, Debug, PartialEq, Eq)]
+#[derive(Clone, Copy, PartialEq, Eq)]
 pub struct Away {
     /// The number of the link between processes.
     pub number: u32,

@@ -1,7 +1,7 @@
 //! The ends of a link between processes.
 
 /// Between which processes a link leads, by their numbers.
-#[derive(Clone, Copy, Debug, PartialEq, Eq)]
+#[derive(Clone, Copy, PartialEq, Eq)]
 pub struct Channel {
     /// The number of the process from which the link leads.
     pub source: u32,

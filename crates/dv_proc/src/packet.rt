@@ -10,7 +10,7 @@ use dv_time::Time;
 use std::cmp::Ordering;
 
 /// At a time, so many copies of a value for an input port of a component of the model.
-#[derive(Clone, Copy, Debug, PartialEq, Eq)]
+#[derive(Clone, Copy, PartialEq, Eq)]
 pub struct Event {
     /// The time at which the value arrives.
     pub time: Time,
@@ -25,7 +25,7 @@ pub struct Event {
 }
 
 /// All events of a window on a link: not before `from`, and before `upto`. Without events it is a null message.
-#[derive(Debug, Drop)]
+#[derive(Drop)]
 pub struct Packet {
     /// The number of the link.
     pub link: u32,

@@ -33,7 +33,7 @@ use dv_written::{OfJob, WrittenPart};
 use std::alloc::{AllocError, Global};
 
 /// What a turn answers.
-#[derive(Clone, Copy, Debug, PartialEq, Eq)]
+#[derive(Clone, Copy, PartialEq, Eq)]
 pub enum Turned {
     /// The clock rose, or a packet was prepared.
     Moved,

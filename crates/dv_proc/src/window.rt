@@ -11,7 +11,7 @@ use crate::packet::Event;
 use dv_time::Time;
 
 /// The frame of a run: its microstep limit and its horizon, in ticks.
-#[derive(Clone, Copy, Debug)]
+#[derive(Clone, Copy)]
 pub struct Frame {
     /// The greatest microstep of a tick.
     pub limit: u32,

@@ -5,7 +5,7 @@ use dv_trace::{TraceError, TraceRefusal};
 use std::alloc::{AllocError, AllocFailed};
 
 /// Why the numbers are not written to their end.
-#[derive(Clone, Copy, Debug, PartialEq, Eq)]
+#[derive(Clone, Copy, PartialEq, Eq)]
 pub enum StatsError {
     /// The trace is refused; nothing was written.
     Refused(TraceRefusal),

@@ -3,7 +3,7 @@
 use dv_trace::End;
 
 /// How the numbers are written.
-#[derive(Clone, Copy, Debug, PartialEq, Eq)]
+#[derive(Clone, Copy, PartialEq, Eq)]
 pub enum Form {
     /// In aligned columns, a section for each kind of row.
     Columns,
@@ -12,7 +12,7 @@ pub enum Form {
 }
 
 /// What is wanted of a trace, and in which form.
-#[derive(Clone, Copy, Debug)]
+#[derive(Clone, Copy)]
 pub struct StatsOptions<'a> {
     /// Whether the trace has to have an end. One without an end counts up to the tick of its last line.
     pub end: End,

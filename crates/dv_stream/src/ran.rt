@@ -9,7 +9,7 @@ use dv_plan::Committed;
 use dv_time::Time;
 
 /// How a run ended.
-#[derive(Clone, Copy, Debug, PartialEq, Eq)]
+#[derive(Clone, Copy, PartialEq, Eq)]
 pub enum RunEnded {
     /// Every clock is at the end.
     Whole,
@@ -18,7 +18,7 @@ pub enum RunEnded {
 }
 
 /// Why a run did not come to its end.
-#[derive(Clone, Copy, Debug, PartialEq, Eq)]
+#[derive(Clone, Copy, PartialEq, Eq)]
 pub enum Why {
     /// The rounds that were granted are used up.
     Rounds,

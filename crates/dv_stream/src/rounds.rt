@@ -46,7 +46,7 @@ use std::marker::Brand;
 const ROUNDS_BETWEEN: u64 = 64;
 
 /// What bounds a run in rounds.
-#[derive(Clone, Copy, Debug, PartialEq, Eq)]
+#[derive(Clone, Copy, PartialEq, Eq)]
 pub struct Bounds {
     /// How many rounds there are at most.
     pub rounds: u64,

@@ -17,7 +17,7 @@ use dv_written::OfJob;
 use std::io::Write;
 
 /// Up to when the trace was written: all that is before the mark, and nothing since it.
-#[derive(Clone, Copy, Debug, PartialEq, Eq)]
+#[derive(Clone, Copy, PartialEq, Eq)]
 pub struct Written {
     /// The time before which all was written.
     pub mark: Time,

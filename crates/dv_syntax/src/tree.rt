@@ -5,7 +5,7 @@ use dv_bag::{Change, Discipline};
 use dv_lex::Numeral;
 
 /// The version of the language that a header says.
-#[derive(Clone, Copy, Debug, PartialEq, Eq)]
+#[derive(Clone, Copy, PartialEq, Eq)]
 pub enum Version {
     /// Version 1, in which there are no queues.
     First,
@@ -14,7 +14,7 @@ pub enum Version {
 }
 
 /// A name where it stands: its number in the table of names, and its offset.
-#[derive(Clone, Copy, Debug, PartialEq, Eq)]
+#[derive(Clone, Copy, PartialEq, Eq)]
 pub struct Name {
     /// Its number in the table of names.
     pub number: u32,
@@ -23,7 +23,7 @@ pub struct Name {
 }
 
 /// A number where it stands.
-#[derive(Clone, Copy, Debug, PartialEq, Eq)]
+#[derive(Clone, Copy, PartialEq, Eq)]
 pub struct Number {
     /// The value.
     pub value: Numeral,
@@ -32,7 +32,7 @@ pub struct Number {
 }
 
 /// An operator before its operand.
-#[derive(Clone, Copy, Debug, PartialEq, Eq)]
+#[derive(Clone, Copy, PartialEq, Eq)]
 pub enum Prefix {
     /// `-`
     Minus,
@@ -41,7 +41,7 @@ pub enum Prefix {
 }
 
 /// An operator between two operands.
-#[derive(Clone, Copy, Debug, PartialEq, Eq)]
+#[derive(Clone, Copy, PartialEq, Eq)]
 pub enum Operator {
     /// `or`
     Or,
@@ -72,7 +72,7 @@ pub enum Operator {
 }
 
 /// What a call asks of a collection.
-#[derive(Clone, Copy, Debug, PartialEq, Eq)]
+#[derive(Clone, Copy, PartialEq, Eq)]
 pub enum BagCall {
     /// The number of its values, each copy counted.
     Size,
@@ -87,7 +87,7 @@ pub enum BagCall {
 }
 
 /// What a statement of a word and a name does.
-#[derive(Clone, Copy, Debug, PartialEq, Eq)]
+#[derive(Clone, Copy, PartialEq, Eq)]
 pub enum Command {
     /// It goes to a phase.
     Goto,
@@ -96,7 +96,7 @@ pub enum Command {
 }
 
 /// An expression. An offset is that of the node's first token where no operand has it.
-#[derive(Debug, Drop)]
+#[derive(Drop)]
 pub enum Expr {
     /// A number.
     Literal(Number),
@@ -160,7 +160,7 @@ pub enum Expr {
 }
 
 /// A statement. An offset is that of its first word.
-#[derive(Debug, Drop)]
+#[derive(Drop)]
 #[cycle(statements)]
 pub enum Stmt {
     /// `variable := value;`
@@ -233,7 +233,7 @@ pub enum Stmt {
 }
 
 /// Statements in braces.
-#[derive(Debug, Drop)]
+#[derive(Drop)]
 #[cycle(statements)]
 pub struct Block {
     /// The statements, in the order of the text.
@@ -241,7 +241,7 @@ pub struct Block {
 }
 
 /// A bound of a range or a start value: a number, perhaps behind a minus sign whose offset is kept.
-#[derive(Clone, Copy, Debug, PartialEq, Eq)]
+#[derive(Clone, Copy, PartialEq, Eq)]
 pub struct Bound {
     /// The offset of the minus sign in bytes of the text, if there is one.
     pub minus: Option<u32>,
@@ -250,7 +250,7 @@ pub struct Bound {
 }
 
 /// `var name: low..high = start;`
-#[derive(Clone, Copy, Debug, PartialEq, Eq)]
+#[derive(Clone, Copy, PartialEq, Eq)]
 pub struct Variable {
     /// The name.
     pub name: Name,
@@ -263,7 +263,7 @@ pub struct Variable {
 }
 
 /// `flag name = start;`
-#[derive(Clone, Copy, Debug, PartialEq, Eq)]
+#[derive(Clone, Copy, PartialEq, Eq)]
 pub struct Flag {
     /// The name.
     pub name: Name,
@@ -272,7 +272,7 @@ pub struct Flag {
 }
 
 /// `bag name capacity;` or `queue name capacity;`
-#[derive(Clone, Copy, Debug, PartialEq, Eq)]
+#[derive(Clone, Copy, PartialEq, Eq)]
 pub struct StateCollection {
     /// Whether it is a bag or a queue.
     pub discipline: Discipline,
@@ -283,7 +283,7 @@ pub struct StateCollection {
 }
 
 /// What declares a name that ports, variables, flags, bags and queues share.
-#[derive(Clone, Copy, Debug, PartialEq, Eq)]
+#[derive(Clone, Copy, PartialEq, Eq)]
 pub enum Declaration {
     /// `in port;`
     In(Name),
@@ -298,7 +298,7 @@ pub enum Declaration {
 }
 
 /// `phases first, second, ..;` and the offset of its first word.
-#[derive(Debug, Drop)]
+#[derive(Drop)]
 pub struct Phases {
     /// The offset of `phases`, in bytes of the text.
     pub offset: u32,
@@ -307,7 +307,7 @@ pub struct Phases {
 }
 
 /// `start phase;` and the offset of its first word.
-#[derive(Clone, Copy, Debug, PartialEq, Eq)]
+#[derive(Clone, Copy, PartialEq, Eq)]
 pub struct Start {
     /// The offset of `start`, in bytes of the text.
     pub offset: u32,
@@ -316,7 +316,7 @@ pub struct Start {
 }
 
 /// How long a phase is held, in ticks.
-#[derive(Debug, Drop)]
+#[derive(Drop)]
 pub enum Ticks {
     /// The hold never ends.
     Forever,
@@ -325,7 +325,7 @@ pub enum Ticks {
 }
 
 /// `hold phase: ticks;` and the offset of its first word.
-#[derive(Debug, Drop)]
+#[derive(Drop)]
 pub struct Hold {
     /// The offset of `hold`, in bytes of the text.
     pub offset: u32,
@@ -336,7 +336,7 @@ pub struct Hold {
 }
 
 /// What a rule is for.
-#[derive(Clone, Copy, Debug, PartialEq, Eq)]
+#[derive(Clone, Copy, PartialEq, Eq)]
 pub enum RuleSort {
     /// It sends, before the transition at the end of a hold.
     Output,
@@ -349,7 +349,7 @@ pub enum RuleSort {
 }
 
 /// `output phase { .. }`, and `internal`, `external` and `confluent` alike
-#[derive(Debug, Drop)]
+#[derive(Drop)]
 pub struct Rule {
     /// What the rule is for.
     pub sort: RuleSort,
@@ -360,7 +360,7 @@ pub struct Rule {
 }
 
 /// `atomic name { .. }`: its items by what they say, each kind in the order of the text.
-#[derive(Debug, Drop)]
+#[derive(Drop)]
 pub struct Atomic {
     /// The name of the model.
     pub name: Name,
@@ -377,7 +377,7 @@ pub struct Atomic {
 }
 
 /// An end of a link: a port of a part, or of the coupled model itself where there is no part.
-#[derive(Clone, Copy, Debug, PartialEq, Eq)]
+#[derive(Clone, Copy, PartialEq, Eq)]
 pub struct End {
     /// The name of the part; none for the model itself.
     pub part: Option<Name>,
@@ -386,7 +386,7 @@ pub struct End {
 }
 
 /// `part name: model;`
-#[derive(Clone, Copy, Debug, PartialEq, Eq)]
+#[derive(Clone, Copy, PartialEq, Eq)]
 pub struct Part {
     /// The name of the part.
     pub name: Name,
@@ -395,7 +395,7 @@ pub struct Part {
 }
 
 /// `link from -> to;` and the offset of `link`.
-#[derive(Clone, Copy, Debug, PartialEq, Eq)]
+#[derive(Clone, Copy, PartialEq, Eq)]
 pub struct Link {
     /// The offset of `link`, in bytes of the text.
     pub offset: u32,
@@ -406,7 +406,7 @@ pub struct Link {
 }
 
 /// `coupled name { .. }`: its items by what they say, each kind in the order of the text.
-#[derive(Debug, Drop)]
+#[derive(Drop)]
 pub struct Coupled {
     /// The name of the model.
     pub name: Name,
@@ -421,7 +421,7 @@ pub struct Coupled {
 }
 
 /// A model.
-#[derive(Debug, Drop)]
+#[derive(Drop)]
 pub enum Model {
     /// An atomic model, which has phases and rules.
     Atomic(Atomic),
@@ -430,7 +430,7 @@ pub enum Model {
 }
 
 /// A model text: its models in order, and the name of the root.
-#[derive(Debug, Drop)]
+#[derive(Drop)]
 pub struct File {
     /// The models, in the order of the text.
     pub models: Vec<Model>,

@@ -6,7 +6,7 @@ use dv_trace::{TraceError, TraceRefusal};
 use std::alloc::{AllocError, AllocFailed};
 
 /// Why a table is not written to its end.
-#[derive(Clone, Copy, Debug, PartialEq, Eq)]
+#[derive(Clone, Copy, PartialEq, Eq)]
 pub enum TableError {
     /// The inputs are refused; nothing was written.
     Inputs(InputRefusal),

@@ -14,7 +14,7 @@ pub(crate) struct Index<'a> {
 }
 
 /// Which values a row tells.
-#[derive(Clone, Copy, Debug, PartialEq, Eq)]
+#[derive(Clone, Copy, PartialEq, Eq)]
 pub(crate) enum Travel {
     /// Those that were sent by an output port.
     Sent,

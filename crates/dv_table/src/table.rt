@@ -17,7 +17,7 @@ use std::alloc::Global;
 use std::io::Write;
 
 /// How a table is written.
-#[derive(Clone, Copy, Debug, PartialEq, Eq)]
+#[derive(Clone, Copy, PartialEq, Eq)]
 pub enum TableForm {
     /// As comma-separated values, below titles: tick, microstep, component, what, name, value.
     Csv,
@@ -26,7 +26,7 @@ pub enum TableForm {
 }
 
 /// What a table is made of besides the model and the trace, and how it is written.
-#[derive(Clone, Copy, Debug)]
+#[derive(Clone, Copy)]
 pub struct TableOptions<'a> {
     /// Whether the trace has to have an end.
     pub end: End,

@@ -12,7 +12,7 @@ use std::alloc::{AllocError, Global};
 use std::io::Write;
 
 /// How a text ends.
-#[derive(Debug, Drop)]
+#[derive(Drop)]
 pub enum Ending {
     /// The trace reaches this horizon, in ticks.
     Whole(u64),
@@ -21,7 +21,7 @@ pub enum Ending {
 }
 
 /// Why a text is not written to its end.
-#[derive(Clone, Copy, Debug, PartialEq, Eq)]
+#[derive(Clone, Copy, PartialEq, Eq)]
 pub enum WriteError {
     /// The writer answered an error, or took no byte of a piece that has some.
     Write,

@@ -11,7 +11,7 @@ use std::cmp::Ordering;
 use std::fmt;
 
 /// A time of a simulation: a tick and a microstep within it.
-#[derive(Clone, Copy, Debug, PartialEq, Eq, Hash)]
+#[derive(Clone, Copy, PartialEq, Eq, Hash)]
 pub struct Time {
     /// The whole ticks since the start.
     pub tick: u64,
@@ -20,7 +20,7 @@ pub struct Time {
 }
 
 /// When something happens next.
-#[derive(Clone, Copy, Debug, PartialEq, Eq)]
+#[derive(Clone, Copy, PartialEq, Eq)]
 pub enum Next {
     /// It happens at this time.
     At(Time),
@@ -29,7 +29,7 @@ pub enum Next {
 }
 
 /// A hold of 0 at the last microstep that the limit allows.
-#[derive(Clone, Copy, Debug, PartialEq, Eq)]
+#[derive(Clone, Copy, PartialEq, Eq)]
 pub struct Microsteps;
 
 impl Time {

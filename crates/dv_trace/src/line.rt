@@ -6,7 +6,7 @@ use std::alloc::Global;
 
 /// The values of a bag or a queue, as the line has them, with commas between them: those of a bag ascend, copies repeated, and
 /// those of a queue go from the first to the last. Without values the text is empty.
-#[derive(Clone, Copy, Debug, PartialEq, Eq)]
+#[derive(Clone, Copy, PartialEq, Eq)]
 pub struct Values<'a> {
     /// The values as text.
     pub text: &'a str,
@@ -15,7 +15,7 @@ pub struct Values<'a> {
 }
 
 /// What a variable, a flag, a bag or a queue holds.
-#[derive(Clone, Copy, Debug, PartialEq, Eq)]
+#[derive(Clone, Copy, PartialEq, Eq)]
 pub enum Datum<'a> {
     /// The number of a variable.
     Number(i64),
@@ -26,7 +26,7 @@ pub enum Datum<'a> {
 }
 
 /// What was sent by a port, or left the model there: the index of the port, and the values, of which there are some.
-#[derive(Clone, Copy, Debug, PartialEq, Eq)]
+#[derive(Clone, Copy, PartialEq, Eq)]
 pub struct Sending<'a> {
     /// The index of the output port.
     pub port: usize,
@@ -35,7 +35,7 @@ pub struct Sending<'a> {
 }
 
 /// What happened to a component.
-#[derive(Debug, Drop)]
+#[derive(Drop)]
 pub enum Happening<'a> {
     /// A transition to a phase, by its index, and what the variables, flags, bags and queues hold then, in their order.
     Transition {
@@ -51,7 +51,7 @@ pub enum Happening<'a> {
 }
 
 /// The line of a component, by its number.
-#[derive(Debug, Drop)]
+#[derive(Drop)]
 pub struct Entry<'a> {
     /// The time of the line.
     pub time: Time,
@@ -64,7 +64,7 @@ pub struct Entry<'a> {
 }
 
 /// The line of what leaves the model at a time, by the indices of the root's output ports, ascending.
-#[derive(Debug, Drop)]
+#[derive(Drop)]
 pub struct Outside<'a> {
     /// The time of the line.
     pub time: Time,
@@ -73,7 +73,7 @@ pub struct Outside<'a> {
 }
 
 /// A line.
-#[derive(Debug, Drop)]
+#[derive(Drop)]
 pub enum TraceLine<'a> {
     /// An empty line, which says nothing.
     Empty,
@@ -90,7 +90,7 @@ pub enum TraceLine<'a> {
 }
 
 /// What happened to a component, but for what it holds then.
-#[derive(Clone, Copy, Debug, PartialEq, Eq)]
+#[derive(Clone, Copy, PartialEq, Eq)]
 pub enum Event {
     /// A transition to a phase, by its index.
     Transition { kind: Kind, phase: u32 },
@@ -98,7 +98,7 @@ pub enum Event {
 }
 
 /// The line of a component, by its number, but for its lists.
-#[derive(Clone, Copy, Debug, PartialEq, Eq)]
+#[derive(Clone, Copy, PartialEq, Eq)]
 pub struct EntryHead {
     pub time: Time,
     pub component: u32,
@@ -106,7 +106,7 @@ pub struct EntryHead {
 }
 
 /// A line, but for its lists.
-#[derive(Clone, Copy, Debug, PartialEq, Eq)]
+#[derive(Clone, Copy, PartialEq, Eq)]
 pub enum LineHead {
     /// An empty line, which says nothing.
     Empty,
@@ -122,7 +122,7 @@ pub enum LineHead {
 }
 
 /// The lists of a line. Their memory serves for one line after the other.
-#[derive(Debug, Drop)]
+#[derive(Drop)]
 pub struct LineLists<'a> {
     /// What the variables, flags, bags and queues of a component hold behind its transition, in their order.
     pub state: Vec<Datum<'a>>,

@@ -4,7 +4,7 @@ use dv_time::Time;
 use std::fmt;
 
 /// Whether a trace has to have an end, which is `whole` with the horizon, or `partial` behind clocks.
-#[derive(Clone, Copy, Debug, PartialEq, Eq)]
+#[derive(Clone, Copy, PartialEq, Eq)]
 pub enum End {
     /// The trace has to have an end, with its line feed.
     Required,
@@ -13,7 +13,7 @@ pub enum End {
 }
 
 /// How far a trace reaches: what happened before which time is in it.
-#[derive(Clone, Copy, Debug, PartialEq, Eq)]
+#[derive(Clone, Copy, PartialEq, Eq)]
 pub enum Reach {
     /// It has all up to this horizon, a tick.
     Whole(u64),

@@ -67,7 +67,7 @@ impl fmt::Display for TraceRefusal {
 }
 
 /// Why a trace is not read to its end.
-#[derive(Clone, Copy, Debug, PartialEq, Eq)]
+#[derive(Clone, Copy, PartialEq, Eq)]
 pub enum TraceError {
     /// The trace is malformed, or is none of this model.
     Refused(TraceRefusal),
@@ -82,7 +82,7 @@ impl From<AllocError> for TraceError {
 }
 
 /// Why a line is not read.
-#[derive(Clone, Copy, Debug, PartialEq, Eq)]
+#[derive(Clone, Copy, PartialEq, Eq)]
 pub(crate) enum LineError {
     Refused(TraceReason),
     Memory,

@@ -8,7 +8,7 @@ ghost use Rattle.dv_tree.specs.Tables.{with_link};
 use std::alloc::{AllocError, Global};
 
 /// A port by its index: a port of the coupled model itself, or of one of its parts.
-#[derive(Clone, Copy, Debug, PartialEq, Eq)]
+#[derive(Clone, Copy, PartialEq, Eq)]
 pub enum Target {
     /// A port of the coupled model itself, by its index.
     Own { port: usize },
@@ -17,7 +17,7 @@ pub enum Target {
 }
 
 /// What comes from a port of some model, and where it goes.
-#[derive(Clone, Copy, Debug, PartialEq, Eq)]
+#[derive(Clone, Copy, PartialEq, Eq)]
 pub struct Coupling {
     /// The index of the port from which it leads.
     pub port: usize,
@@ -26,7 +26,7 @@ pub struct Coupling {
 }
 
 /// A link by the indices of its two ends.
-#[derive(Clone, Copy, Debug, PartialEq, Eq)]
+#[derive(Clone, Copy, PartialEq, Eq)]
 pub struct ResolvedLink {
     /// The port from which it leads.
     pub from: Target,

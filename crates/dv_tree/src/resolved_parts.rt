@@ -9,7 +9,7 @@ use dv_syntax::{Name, Part};
 use std::alloc::{AllocError, Global};
 
 /// A part: its name, and the index of its model among those of which there are tables.
-#[derive(Clone, Copy, Debug, PartialEq, Eq)]
+#[derive(Clone, Copy, PartialEq, Eq)]
 pub struct ResolvedPart {
     /// The name of the part.
     pub name: Name,

@@ -8,7 +8,7 @@ use std::io;
 use std::io::ErrorKind;
 
 /// Why a trace is not dumped to its end.
-#[derive(Debug, Drop)]
+#[derive(Drop)]
 pub enum VcdError {
     /// The text of the inputs is refused; nothing was written.
     Inputs(InputRefusal),

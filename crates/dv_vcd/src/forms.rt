@@ -4,7 +4,7 @@ use dv_eval::Domain;
 use std::fmt;
 
 /// The form of a variable of the dump. It is displayed as in the declaration.
-#[derive(Clone, Copy, Debug, PartialEq, Eq)]
+#[derive(Clone, Copy, PartialEq, Eq)]
 pub(crate) enum Form {
     /// A bit.
     Wire,

@@ -4,7 +4,7 @@ use crate::timescale::Timescale;
 use dv_trace::End;
 
 /// What is asked of a dump.
-#[derive(Clone, Copy, Debug)]
+#[derive(Clone, Copy)]
 pub struct WaveOptions<'a> {
     /// Whether the trace has to have an end.
     pub end: End,

@@ -25,7 +25,7 @@ pub struct GraphOptions<'a> {
 }
 
 /// What of a model a graph shows.
-#[derive(Clone, Copy, Debug, PartialEq, Eq)]
+#[derive(Clone, Copy, PartialEq, Eq)]
 pub enum Shown<'a> {
     /// All components.
     All,

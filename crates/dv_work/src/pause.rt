@@ -1,7 +1,7 @@
 //! Whether a process makes turns.
 
 /// Whether a process makes turns, or is held back since too much of what it posted is not written yet.
-#[derive(Clone, Copy, Debug)]
+#[derive(Clone, Copy)]
 pub enum Pause {
     /// It makes turns.
     Over,

@@ -21,7 +21,7 @@ pub trait MakesRecord<R: Record> {
 }
 
 /// Makes records that can be made of nothing.
-#[derive(Clone, Copy, Debug)]
+#[derive(Clone, Copy)]
 pub struct Blanks;
 
 impl<R: BlankRecord> MakesRecord<R> for Blanks {

@@ -1,12 +1,11 @@
 //! Compares what calls give with what is wanted. A test that compares by these functions is proved in a fraction of the
 //! time that the macros take, which are proved anew wherever they stand.
 
-use std::fmt::Debug;
 use std::process::Abort;
 
 /// Fails the test where what was got differs from what is wanted, and names it.
-pub fn expect_same<T: PartialEq + Debug + Drop>(rt: &impl Abort, what: &str, got: T, wanted: T) {
-    assert_eq!(rt; got, wanted, "{what}");
+pub fn expect_same<T: PartialEq + Drop>(rt: &impl Abort, what: &str, got: T, wanted: T) {
+    assert!(rt; got == wanted, "{what}");
 }
 
 /// Fails the test where the two differ. The message has the first as it is written here.

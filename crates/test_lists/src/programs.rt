@@ -79,7 +79,7 @@ fn change_program<R: Abort + AllocGlobal>(
     answers: &mut Answers,
 ) -> Result<(), AllocError> {
     let found = taken(rt, shape_like(program, tables)?, program.code())?;
-    assert!(rt; found.is_some(), "{:?}", program.code());
+    assert!(rt; found.is_some());
     change_each(rt, program, tables, answers)
 }
 

@@ -53,6 +53,6 @@ fn short_lists_are_taken_as_the_definition_says(rt: HostRuntime) -> Result<(), F
         taken: 8,
         refused: 4_088,
     };
-    assert_eq!(rt; of_three, wanted);
+    assert!(rt; of_three == wanted);
     Ok(())
 }

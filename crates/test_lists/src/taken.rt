@@ -43,9 +43,9 @@ pub fn taken<R: Abort + AllocGlobal>(
 ) -> Result<Option<Valid>, AllocError> {
     let wanted = is_valid(rt.alloc(), &shape, list)?;
     let found = validate(rt.alloc(), shape, list.to_vec(rt.alloc())?)?;
-    assert_eq!(rt; found.is_some(), wanted, "{list:?}");
+    assert!(rt; found.is_some() == wanted);
     if let Some(program) = &found {
-        assert!(rt; program.code() == list, "{list:?}");
+        assert!(rt; program.code() == list);
     }
     Ok(found)
 }

@@ -73,7 +73,7 @@ fn compare_output<L: Ledger>(
     by_tree: &Result<Effect, RuleError>,
 ) {
     if let Some(sent) = runs.output(program, state) {
-        assert!(rt; is_sent(&sent, by_tree), "{:?}", program.code());
+        assert!(rt; is_sent(&sent, by_tree));
     }
 }
 
@@ -108,11 +108,11 @@ impl Endings {
     }
 
     /// Counts a run, and fails the test where a program and its tree differ, or the program did not run.
-    fn count(&mut self, rt: &impl Abort, program: &Valid, found: Option<Likeness>) {
+    fn count(&mut self, rt: &impl Abort, found: Option<Likeness>) {
         match found {
             Some(Likeness::SameEffect) => self.effects = self.effects.saturating_add(1),
             Some(Likeness::SameFault) => self.faults = self.faults.saturating_add(1),
-            _ => assert!(rt; false, "{found:?} of {:?}", program.code()),
+            _ => assert!(rt; false, "{found:?}"),
         }
     }
 
@@ -141,7 +141,7 @@ impl Endings {
                 )
             }
         };
-        self.count(rt, pair.program, found);
+        self.count(rt, found);
     }
 
     /// Compares the programs of a model with its rules and holds, from some states, with some arrivals.

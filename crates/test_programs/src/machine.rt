@@ -198,13 +198,13 @@ fn expect_added<R: Abort + AllocGlobal, L: Ledger>(rt: &R, runs: &mut Runs<L>) {
         goto: Some(1),
         is_silent: true,
     };
-    assert_eq!(rt; added_up(rt, runs, true), Ok(wanted));
+    assert!(rt; added_up(rt, runs, true) == Ok(wanted));
 }
 
 /// Fails the test unless the number stays where the flag is down.
 fn expect_same_number<R: Abort + AllocGlobal, L: Ledger>(rt: &R, runs: &mut Runs<L>) {
     let outline = added_up(rt, runs, false).expect(rt, "no fault");
-    assert_eq!(rt; outline.number, Some(1));
+    assert!(rt; outline.number == Some(1));
 }
 
 fn adds_up<R: Abort + AllocGlobal, L: Ledger>(rt: &R, blank: Blank)
@@ -274,7 +274,7 @@ fn sends_each<R: Abort + AllocGlobal, L: Ledger>(rt: &R, blank: Blank)
         other: 1,
         all: 3,
     };
-    assert_eq!(rt; sent_values(rt, &mut runs), Ok(wanted));
+    assert!(rt; sent_values(rt, &mut runs) == Ok(wanted));
 }
 
 #[test]
@@ -295,7 +295,7 @@ fn divided<R: Abort + AllocGlobal, L: Ledger>(
 
 /// Fails the test unless the divider divides by 0. The fault leaves values on the stack.
 fn expect_fault<R: Abort + AllocGlobal, L: Ledger>(rt: &R, runs: &mut Runs<L>) {
-    assert_eq!(rt; divided(rt, runs, 0), Err(RuleError::Fault(Fault::Divide)));
+    assert!(rt; divided(rt, runs, 0) == Err(RuleError::Fault(Fault::Divide)));
 }
 
 /// The ticks that the hold gives.
@@ -310,7 +310,7 @@ fn ticks_given<R: Abort + AllocGlobal, L: Ledger>(
 
 /// Fails the test unless the hold gives one tick more.
 fn expect_one_more<R: Abort + AllocGlobal, L: Ledger>(rt: &R, runs: &mut Runs<L>) {
-    assert_eq!(rt; ticks_given(rt, runs), Ok(42));
+    assert!(rt; ticks_given(rt, runs) == Ok(42));
 }
 
 /// Fails the test unless the divider sends 5 and 7 + 1.
@@ -320,7 +320,7 @@ fn expect_sum<R: Abort + AllocGlobal, L: Ledger>(rt: &R, runs: &mut Runs<L>) {
         other: 1,
         all: 2,
     };
-    assert_eq!(rt; divided(rt, runs, 1), Ok(wanted));
+    assert!(rt; divided(rt, runs, 1) == Ok(wanted));
 }
 
 fn goes_on_after_a_fault<R: Abort + AllocGlobal, L: Ledger>(rt: &R, blank: Blank)

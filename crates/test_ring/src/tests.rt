@@ -17,18 +17,18 @@ fn frame() -> Frame {
 #[test]
 fn as_many_rounds_as_times_are_enough(rt: HostRuntime) -> Result<(), Fail> {
     let mut world = ring(rt.alloc(), frame(), 0, 1)?;
-    assert_eq!(rt; world.serial(&mut (), 23), Ended::Whole);
+    assert!(rt; world.serial(&mut (), 23) == Ended::Whole);
     let (_records, clocks) = world.finish(rt.alloc())?;
     let end = Time { tick: 11, micro: 0 };
-    assert_eq!(rt; clocks.as_slice(), [end, end].as_slice());
+    assert!(rt; clocks.as_slice() == [end, end].as_slice());
     Ok(())
 }
 
 #[test]
 fn a_response_saves_rounds(rt: HostRuntime) -> Result<(), Fail> {
     let mut world = ring(rt.alloc(), frame(), 5, 1)?;
-    assert_eq!(rt; world.serial(&mut (), 2), Ended::Stalled);
-    assert_eq!(rt; world.serial(&mut (), 3), Ended::Whole);
+    assert!(rt; world.serial(&mut (), 2) == Ended::Stalled);
+    assert!(rt; world.serial(&mut (), 3) == Ended::Whole);
     Ok(())
 }
 
@@ -74,18 +74,18 @@ fn packets_go_from_process_to_process(rt: HostRuntime) -> Result<(), Fail> {
         Reply::Stopped,
         Reply::Done,
     ];
-    assert_eq!(rt; replies.as_slice(), expected.as_slice());
+    assert!(rt; replies.as_slice() == expected.as_slice());
     // The window of the one packet that was taken ends at 3.0, and nothing is due before.
-    assert_eq!(rt; world.process(1).clock(), Time { tick: 3, micro: 0 });
+    assert!(rt; world.process(1).clock() == Time { tick: 3, micro: 0 });
     Ok(())
 }
 
 #[test]
 fn a_stop_comes_before_a_full_link(rt: HostRuntime) -> Result<(), Fail> {
     let mut world = ring(rt.alloc(), frame(), 3, 0)?;
-    assert_eq!(rt; world.step(&mut (), Step::Turn(0)), Reply::Done);
-    assert_eq!(rt; world.step(&mut (), Step::Put(0)), Reply::Full);
-    assert_eq!(rt; world.step(&mut (), Step::Stop(0)), Reply::Done);
-    assert_eq!(rt; world.step(&mut (), Step::Put(0)), Reply::Stopped);
+    assert!(rt; world.step(&mut (), Step::Turn(0)) == Reply::Done);
+    assert!(rt; world.step(&mut (), Step::Put(0)) == Reply::Full);
+    assert!(rt; world.step(&mut (), Step::Stop(0)) == Reply::Done);
+    assert!(rt; world.step(&mut (), Step::Put(0)) == Reply::Stopped);
     Ok(())
 }
