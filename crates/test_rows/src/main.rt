@@ -2,15 +2,12 @@
 //! and what has to come of it.
 //!
 //! What is wanted was worked out by hand from what the language means, and never taken from a run. A row of a run is
-//! also run in several processes, and by workers, which have to print the same. The rows test the calls of `dv_job`,
-//! and what `dv_cause` and `dv_explain` tell of refusals.
+//! also run in several processes, and by workers, which have to print the same, on links that hold one packet and more:
+//! no option of the program sets how many. The rows test the calls of `dv_job`.
 //!
-//! Each word names a file of rows, as `data/README.md` describes it. The word `explanations` stands for the examples
-//! that `pdevs explain` shows.
+//! Each word names a file of rows. `data/README.md` says how they are written, and which are here.
 #![tactic(auto)]
 
-/// What `pdevs explain` shows, and whether it is so.
-mod explanations;
 /// What comes of a text by a command.
 mod outcome;
 /// A file of rows.
@@ -25,11 +22,7 @@ fn main(rt: HostRuntime) -> io::Result<ExitCode> {
     let words: Vec<String> = std::env::args(&rt)?.skip(1).collect(rt.alloc())?;
     let mut do_all_hold = true;
     for word in &words {
-        let do_hold = if word.as_str() == "explanations" {
-            explanations::do_hold(&rt)?
-        } else {
-            row::do_hold(&rt, word.as_str())?
-        };
+        let do_hold = row::do_hold(&rt, word.as_str())?;
         do_all_hold = do_all_hold && do_hold;
     }
     Ok(if do_all_hold {

@@ -1,10 +1,8 @@
 //! What comes of a text by a command.
 
-use dv_cause::{Source, explained};
-use dv_explain::{explanation_of, explanation_text};
 use dv_job::{
-    Driver, JobError, Options, check_bytes, list_code, plan_bytes, run_by_workers, run_bytes,
-    run_plain, status,
+    Driver, Options, check_bytes, list_code, plan_bytes, run_by_workers, run_bytes, run_plain,
+    status,
 };
 use dv_partition::Partition;
 use std::alloc::{AllocError, Global};
@@ -44,12 +42,11 @@ pub fn outcome_of<R: AllocGlobal + Threads + Wait + Sync>(
 ) -> Result<String, AllocError> {
     let alloc = rt.alloc();
     match command.split_whitespace().next() {
-        Some("check") => checked(alloc, command, texts),
-        Some("code") => listed(alloc, command, texts),
+        Some("check") => checked(alloc, texts),
+        Some("code") => listed(alloc, texts),
         Some("plain") => ran_plainly(alloc, command, texts),
         Some("plan") => planned(alloc, command, texts),
         Some("run") => ran(rt, command, texts),
-        Some("explain") => text_of_code(alloc, command),
         Some(_) | None => String::from_str(alloc, "no command"),
     }
 }
@@ -99,53 +96,18 @@ fn outcome_by_workers<R: AllocGlobal + Threads + Wait + Sync>(
     Ok(None)
 }
 
-fn checked(alloc: Global, command: &str, texts: Texts<'_>) -> Result<String, AllocError> {
+fn checked(alloc: Global, texts: Texts<'_>) -> Result<String, AllocError> {
     match check_bytes(alloc, texts.model) {
         Ok(components) => format!(in alloc; "accepted {components}\nstatus 0"),
-        Err(error) => error_text(alloc, command, texts, &error),
+        Err(error) => error.to_string(alloc),
     }
 }
 
-/// An error, and where the command has `--explain` what is told of it: of the meaning of its number only the first sentence.
-fn error_text(
-    alloc: Global,
-    command: &str,
-    texts: Texts<'_>,
-    error: &JobError,
-) -> Result<String, AllocError> {
-    if !command.contains("--explain") {
-        return error.to_string(alloc);
-    }
-    let model = Source {
-        name: "model.pd",
-        bytes: texts.model,
-    };
-    let inputs = Source {
-        name: "inputs.txt",
-        bytes: texts.inputs,
-    };
-    let told = explained(alloc, model, inputs, error)?;
-    let (cause, meaning) = last_line(told.as_str());
-    match meaning.split_once(". ") {
-        Some((sentence, _)) => format!(in alloc; "{error}\n{cause}{sentence}."),
-        None => format!(in alloc; "{error}\n{cause}{meaning}"),
-    }
-}
-
-/// The lines before the last one, and the last one without its line feed.
-fn last_line(text: &str) -> (&str, &str) {
-    let text = text.trim_end_matches('\n');
-    match text.rfind('\n') {
-        Some(offset) => text.split_at(offset),
-        None => ("", text),
-    }
-}
-
-fn listed(alloc: Global, command: &str, texts: Texts<'_>) -> Result<String, AllocError> {
+fn listed(alloc: Global, texts: Texts<'_>) -> Result<String, AllocError> {
     let mut printed = Vec::new(alloc);
     let ending = match list_code(alloc, texts.model, &mut printed) {
         Ok(()) => String::from_str(alloc, "status 0")?,
-        Err(error) => error_text(alloc, command, texts, &error)?,
+        Err(error) => error.to_string(alloc)?,
     };
     told(alloc, &printed, ending.as_str())
 }
@@ -153,7 +115,7 @@ fn listed(alloc: Global, command: &str, texts: Texts<'_>) -> Result<String, Allo
 fn planned(alloc: Global, command: &str, texts: Texts<'_>) -> Result<String, AllocError> {
     match plan_bytes(alloc, texts.model, partition_of(command, texts.partition)) {
         Ok(plan) => format!(in alloc; "{plan}\nstatus 0"),
-        Err(error) => error_text(alloc, command, texts, &error),
+        Err(error) => error.to_string(alloc),
     }
 }
 
@@ -198,7 +160,7 @@ fn ran<R: AllocGlobal + Threads + Wait + Sync>(
     let status = status(&ended);
     let ending = match ended {
         Ok(_) => format!(in alloc; "status {status}")?,
-        Err(error) => error_text(alloc, command, texts, &error)?,
+        Err(error) => error.to_string(alloc)?,
     };
     told(alloc, &printed, ending.as_str())
 }
@@ -212,7 +174,7 @@ fn ran_plainly(alloc: Global, command: &str, texts: Texts<'_>) -> Result<String,
     let status = status(&ended);
     let ending = match ended {
         Ok(_) => format!(in alloc; "status {status}")?,
-        Err(error) => error_text(alloc, command, texts, &error)?,
+        Err(error) => error.to_string(alloc)?,
     };
     told(alloc, &printed, ending.as_str())
 }
@@ -232,18 +194,6 @@ fn options_of(command: &str) -> Option<Options> {
 /// A number where 32 bits are wanted. One that is greater is out of every range, as the greatest of 32 bits is.
 fn in_32_bits(number: u64) -> u32 {
     number.min(u64::from(u32::MAX)) as u32
-}
-
-/// What is printed of the code behind `explain`.
-fn text_of_code(alloc: Global, command: &str) -> Result<String, AllocError> {
-    let code = command.strip_prefix("explain ").unwrap_or("");
-    match explanation_of(code) {
-        Some(explanation) => {
-            let text = explanation_text(alloc, explanation)?;
-            format!(in alloc; "{text}status 0")
-        }
-        None => String::from_str(alloc, "no code"),
-    }
 }
 
 /// What was printed, and then how it ended.
