@@ -6,12 +6,13 @@ from dataclasses import dataclass, field
 from pathlib import Path
 
 # Seconds that one call may take.
-LONGEST_CALL = 300
+LONGEST_CALL = 600
 
 
 @dataclass(frozen=True)
 class Answer:
-    """What a call came to: its status, what it printed, and what it wrote to standard error. A call that does not end has no status."""
+    """What a call came to: its status, what it printed, and what it wrote to standard error. A call that does not end has no
+    status."""
 
     status: int | None
     printed: bytes
@@ -41,10 +42,12 @@ class Bench:
             self.kept[name] = content
 
     def call(self, words, given=b"", where=None, stood_in=None):
-        """Calls the program with words, in its folder or where it is said. With `stood_in`, which has variables of the environment,
-        the library stands between it and the system."""
+        """Calls the program with words, in its folder or where it is said. With `stood_in`, which has variables of the
+        environment, the library stands between it and the system."""
         environment = None
         if stood_in is not None:
+            if self.stand_in is None:
+                raise FileNotFoundError("no stand-in for the system, for which a C compiler is needed: cc, or what CC names")
             environment = dict(os.environ, LD_PRELOAD=str(self.stand_in), **stood_in)
         try:
             ended = subprocess.run(

@@ -1,10 +1,11 @@
 """Rows of command lines and what they ask for. `tests/commands/README.md` says how they are written.
 
-The words of a row that asks for nothing are answered by a text on how the program is used. Those of a row that asks for something have
-to come to the same as the words that are written from what the row says: on a model with a trace, inputs and a partition; on one that
-is refused; and on one of a single component, which no partition divides. So that an option that is not looked at is seen, on one of
-the three each option has to make a difference, and so has another horizon and another limit of microsteps. Where lines are told while
-a run goes on, the clock hurries; of the threads of a run their number is compared. What the rest of a row hides `hidden` names."""
+The words of a row that asks for nothing are answered by a text on how the program is used. Those of a row that asks for
+something have to come to the same as the words that are written from what the row says: on a model with a trace, inputs and a
+partition; on one that is refused; and on one of a single component, which no partition divides. So that an option that is not
+looked at is seen, on one of the three each option has to make a difference, and so has another horizon and another limit of
+microsteps. Where lines are told while a run goes on, the clock hurries; of the threads of a run their number is compared. What
+the rest of a row hides `hidden` names."""
 
 import re
 from dataclasses import dataclass
@@ -49,7 +50,8 @@ class Files:
 
 
 def come_to(bench, words, given):
-    """What words come to, as a text: the answer, in which lines that tell how far a run is are one, and how many threads it had."""
+    """What words come to, as a text: the answer, in which lines that tell how far a run is are one, and how many threads it
+    had."""
     threads = bench.folder / "threads"
     threads.unlink(missing_ok=True)
     answer = bench.call(words, given, stood_in={"HURRY": "", "THREADS": str(threads)})

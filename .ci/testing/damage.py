@@ -1,4 +1,5 @@
-"""Damaged texts. Each has to be answered: it is accepted, or refused by one line. `tests/damage/README.md` says how texts are damaged."""
+"""Damaged texts. Each has to be answered: it is accepted, or refused by one line. `tests/damage/README.md` says how texts are
+damaged."""
 
 import re
 from dataclasses import dataclass
@@ -45,7 +46,8 @@ def checked(bench, model):
 
 
 def hold_cut(text, length, wanted, bench):
-    """What is wrong with what the beginning of a text is answered: an answer, `accepted`, or the number of a refusal is wanted."""
+    """What is wrong with what the beginning of a text is answered: an answer, `accepted`, or the number of a refusal is
+    wanted."""
     return wrong_with(text[:length], wanted, bench)
 
 
@@ -70,8 +72,9 @@ def cut_trials(name, text, wanted_of, byte, wanted):
 
 
 def cut_of(root):
-    """Models that are cut and of which each byte is replaced. Of one it is known that a beginning without the last `;` is E4, that the
-    others are accepted, and that a byte 255, which stands in no text of UTF-8, is E1; of all others, that there is an answer."""
+    """Models that are cut and of which each byte is replaced. Of one it is known that a beginning without the last `;` is E4,
+    that the others are accepted, and that a byte 255, which stands in no text of UTF-8, is E1; of all others, that there is an
+    answer."""
     text = (root / KNOWN).read_bytes()
     ended = text.rindex(b";") + 1
     trials = list(cut_trials(KNOWN, text, lambda length: "E4" if length < ended else "accepted", 255, "E1"))

@@ -2,11 +2,12 @@
 
 An example has a model, inputs and a trace, and its page the command that prints that trace.
 
-In a document a fenced block with a root is a model, and one that is marked `inputs` its inputs. An indented line that begins with `$ `
-is a command of a shell, and the indented lines behind it are all that it prints. It has the model and the inputs that were shown last,
-under the names that it gives. Where it names files of the repository, those have to give the same. A line of its own as `E7 line 3`
-between backquotes is the answer to the model and the inputs that were shown last. Of a command whose output goes on to a program that
-may be missing, only the status is looked at, and one that begins with such a program is left out."""
+In a document a fenced block with a root is a model, and one that is marked `inputs` its inputs. An indented line that begins
+with `$ ` is a command of a shell, and the indented lines behind it are all that it prints. It has the model and the inputs that
+were shown last, under the names that it gives. Where it names files of the repository, those have to give the same. A line of
+its own as `E7 line 3` between backquotes is the answer to the model and the inputs that were shown last. Of a command whose
+output goes on to a program that may be missing, only the status is looked at, and one that begins with such a program is left
+out."""
 
 import re
 import shutil

@@ -6,8 +6,8 @@ from functools import partial
 from testing.model_rows import outcome
 from testing.trial import Group, Trial, difference
 
-# The codes whose explanation has an example: all refusals of models but those of no text and of no memory, which no example shows,
-# all of inputs, and the faults but the one for which too many values have to come. Partitions have none.
+# The codes whose explanation has an example: all refusals of models but those of no text and of no memory, which no example
+# shows, all of inputs, and the faults but the one for which too many values have to come. Partitions have none.
 MODELS = [f"E{number}" for number in range(2, 18)]
 INPUTS = [f"I{number}" for number in range(1, 6)]
 FAULTS = ["range", "overflow", "divide", "empty", "full", "negative", "microsteps"]
@@ -27,8 +27,8 @@ def unindented(text):
 
 
 def words_of(code, answer):
-    """The words of the run of an example. One of a fault runs to the horizon that its answer tells; of the fault of microsteps the
-    example has three."""
+    """The words of the run of an example. One of a fault runs to the horizon that its answer tells; of the fault of microsteps
+    the example has three."""
     if code in MODELS:
         return ["--horizon", "0"]
     if code in INPUTS:

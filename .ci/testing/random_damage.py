@@ -29,8 +29,8 @@ class Source:
 
 
 def changed(source, text):
-    """A text with one random change: a byte or a sign put in, a sign in the place of a byte, a piece taken out, or one put in again,
-    behind itself or elsewhere."""
+    """A text with one random change: a byte or a sign put in, a sign in the place of a byte, a piece taken out, or one put in
+    again, behind itself or elsewhere."""
     first = source.offset(len(text))
     last = min(first + source.offset(MOST_BYTES), len(text))
     match source.below(6):

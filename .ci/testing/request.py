@@ -1,6 +1,7 @@
 """What a row of command lines says is asked for, as the words of another command line that asks for the same.
 
-These words are written from what the row says alone: each option once, in one order, as `--name=value`, and the files behind `--`."""
+These words are written from what the row says alone: each option once, in one order, as `--name=value`, and the files behind
+`--`."""
 
 import re
 from dataclasses import dataclass
@@ -66,14 +67,13 @@ class Request:
 
     def words(self):
         """The words that ask for it."""
-        written = [
-            OPTIONS[name] if name in FLAGS else f"{OPTIONS[name]}={self.options[name]}" for name in OPTIONS if name in self.options
-        ]
+        given = [name for name in OPTIONS if name in self.options]
+        written = [OPTIONS[name] if name in FLAGS else f"{OPTIONS[name]}={self.options[name]}" for name in given]
         return [self.command, *written, "--", self.model, *([self.trace] if self.trace else [])]
 
     def parts(self):
-        """The names of what can be asked for otherwise, each with a request that differs from this one in it alone: without an option,
-        or with another horizon or another microstep where the program has one in any case."""
+        """The names of what can be asked for otherwise, each with a request that differs from this one in it alone: without an
+        option, or with another horizon or another microstep where the program has one in any case."""
         for name in self.options:
             if name == "horizon":
                 yield name, self.other(horizon=str(int(self.options[name]) - 1 if int(self.options[name]) > 0 else 1))

@@ -1,7 +1,8 @@
-/* Stands between a program and the system. The file that the variable TRACE names it gives in pieces of 50 bytes, and every other read
- * of that file is interrupted. Where it is read from its beginning again, it has the bytes of the file that AGAIN names, if one is
- * named. FAILS has the numbers, 1 and 2, of the readings that fail where the bytes end. With the variable HURRY the clock goes on by
- * two seconds each time that it is looked at. To the file that THREADS names a byte is added for each thread that is started. */
+/* Stands between a program and the system. The file that the variable TRACE names it gives in pieces of 50 bytes, and every
+ * other read of that file is interrupted. Where it is read from its beginning again, it has the bytes of the file that AGAIN
+ * names, if one is named. FAILS has the numbers, 1 and 2, of the readings that fail where the bytes end. With the variable
+ * HURRY the clock goes on by two seconds each time that it is looked at. To the file that THREADS names a byte is added for
+ * each thread that is started. */
 #define _GNU_SOURCE
 #include <dlfcn.h>
 #include <errno.h>

@@ -123,8 +123,8 @@ def hold_refused(model, wanted, trace, bench):
 
 
 def refused_in(root, name):
-    """The traces of a file as trials. A line that begins with `= ` tells what is answered to the trace behind it; what stands before
-    the first one is the model."""
+    """The traces of a file as trials. A line that begins with `= ` tells what is answered to the trace behind it; what stands
+    before the first one is the model."""
     model, rows = "", []
     for place, line in lines_of(root, name):
         if line.startswith("= "):
@@ -166,14 +166,16 @@ def warnings_of(root):
 
 
 def faults_of(root):
-    """Models with faults. `@ HORIZON LIMIT` begins the line of the run, `< ` those of the inputs, `= ` those of what is told."""
+    """Models with faults. `@ HORIZON LIMIT` begins the line of the run, `< ` those of the inputs, `= ` those of what is
+    told."""
     _, rows = rows_of(root, "tests/views/faulted.txt", ("@ ", "< ", "= "))
     return Group("faults", [Trial(row.place, partial(hold_faulted, row)) for row in rows])
 
 
 def readings_of(root):
-    """Traces that fail or are changed while a dump reads them twice. Lines that begin with `1 ` are the trace at its first reading, and
-    those with `2 ` at the second one; `1!` and `2!` say that the read behind these fails; `= ` gives what is answered."""
+    """Traces that fail or are changed while a dump reads them twice. Lines that begin with `1 ` are the trace at its first
+    reading, and those with `2 ` at the second one; `1!` and `2!` say that the read behind these fails; `= ` gives what is
+    answered."""
     model, rows = rows_of(root, "tests/views/twice.txt", ("= ", "1 ", "2 ", "1!", "2!"))
     return Group("readings", [Trial(row.place, partial(hold_read, model, row)) for row in rows])
 

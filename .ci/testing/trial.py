@@ -3,9 +3,9 @@
 import difflib
 import multiprocessing
 import os
-import sys
 import tempfile
 from collections.abc import Callable
+from concurrent.futures import ProcessPoolExecutor
 from dataclasses import dataclass
 from pathlib import Path
 
@@ -15,7 +15,7 @@ from testing.bench import Bench
 MOST_SHOWN = 10
 MOST_LINES = 12
 LONGEST_LINE = 200
-# So many trials are given to a processor at a time.
+# So many trials are given to a process at a time.
 AT_A_TIME = 4
 
 
@@ -62,9 +62,9 @@ def begin(program, folder, stand_in):
 def try_one(index):
     """Tries one thing. What is wrong with it, where something is."""
     try:
-        return index, Trying.trials[index].hold(Trying.bench)
+        return Trying.trials[index].hold(Trying.bench)
     except Exception as error:  # A trial that can't be made is one that fails, and the others go on.
-        return index, f"{type(error).__name__}: {error}"
+        return f"{type(error).__name__}: {error}"
 
 
 def tell(group, wrong):
@@ -79,29 +79,23 @@ def tell(group, wrong):
         for line in what.splitlines():
             print(f"    {line}")
     if failed > MOST_SHOWN:
-        print(f"  and {failed - MOST_SHOWN} more")
-    sys.stdout.flush()
+        print(f"  and {failed - MOST_SHOWN} more", flush=True)
 
 
 def try_groups(groups, program, stand_in):
     """Tries all trials of groups, and tells of each group as it is done. How many passed, and how many failed; a group without
     trials counts as one that failed."""
-    owners = [number for number, group in enumerate(groups) for _ in group.trials]
+    # The processes have the trials from this one, as they begin as copies of it.
     Trying.trials = [trial for group in groups for trial in group.trials]
-    left = [len(group.trials) for group in groups]
-    wrong = [[] for _ in groups]
-    for number, group in enumerate(groups):
-        if not group.trials:
-            tell(group, [])
-    context = multiprocessing.get_context("fork")
+    passed = failed = 0
     with tempfile.TemporaryDirectory() as folder:
-        with context.Pool(os.cpu_count(), begin, (program, folder, stand_in)) as pool:
-            for index, what in pool.imap_unordered(try_one, range(len(owners)), AT_A_TIME):
-                number = owners[index]
-                if what:
-                    wrong[number].append((Trying.trials[index].place, what))
-                left[number] -= 1
-                if left[number] == 0:
-                    tell(groups[number], wrong[number])
-    failed = sum(len(found) for found in wrong)
-    return len(owners) - failed, failed + sum(not group.trials for group in groups)
+        fork = multiprocessing.get_context("fork")
+        with ProcessPoolExecutor(os.cpu_count(), fork, begin, (program, folder, stand_in)) as pool:
+            answers = pool.map(try_one, range(len(Trying.trials)), chunksize=AT_A_TIME)
+            for group in groups:
+                found = [(trial.place, next(answers)) for trial in group.trials]
+                wrong = [(place, what) for place, what in found if what]
+                tell(group, wrong)
+                passed += len(found) - len(wrong)
+                failed += len(wrong) if found else 1
+    return passed, failed

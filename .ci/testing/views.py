@@ -1,7 +1,9 @@
-"""The views of models and traces, each compared with the file of its name. `tests/views/README.md` says where the files are from.
+"""The views of models and traces, each compared with the file of its name. `tests/views/README.md` says where the files are
+from.
 
-A folder has a model, a trace and perhaps inputs, or they are those of the example of the same name. What reads a trace piece by piece
-reads each trace once more from a stand-in for the system, which gives it a few bytes at a time and interrupts every other read."""
+A folder has a model, a trace and perhaps inputs, or they are those of the example of the same name. What reads a trace piece by
+piece reads each trace once more from a stand-in for the system, which gives it a few bytes at a time and interrupts every other
+read."""
 
 from dataclasses import dataclass
 from functools import partial
@@ -69,8 +71,8 @@ def words_of(view, folder, source):
 
 
 def shown(answer, view):
-    """What an answer shows: the view, or the line of its error; of the warnings without the line that the model is accepted. That a
-    trace has no end, where one need not have one, is told beside the view."""
+    """What an answer shows: the view, or the line of its error; of the warnings without the line that the model is accepted.
+    That a trace has no end, where one need not have one, is told beside the view."""
     printed, told = answer.printed.decode(), answer.told.decode()
     if view.file == "warnings.txt" and answer.status == 0:
         accepted, _, printed = printed.partition("\n")
