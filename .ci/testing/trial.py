@@ -90,7 +90,7 @@ def try_groups(groups, program, stand_in):
     passed = failed = 0
     with tempfile.TemporaryDirectory() as folder:
         fork = multiprocessing.get_context("fork")
-        with ProcessPoolExecutor(os.cpu_count(), fork, begin, (program, folder, stand_in)) as pool:
+        with ProcessPoolExecutor(len(os.sched_getaffinity(0)), fork, begin, (program, folder, stand_in)) as pool:
             answers = pool.map(try_one, range(len(Trying.trials)), chunksize=AT_A_TIME)
             for group in groups:
                 found = [(trial.place, next(answers)) for trial in group.trials]
