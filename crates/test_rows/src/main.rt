@@ -2,8 +2,8 @@
 //! and what has to come of it.
 //!
 //! What is wanted was worked out by hand from what the language means, and never taken from a run. A row of a run is
-//! also run in several processes, and by workers, which have to print the same, on links that hold one packet and more:
-//! no option of the program sets how many. The rows test the calls of `dv_job`.
+//! also run plainly, in several processes, and by workers, which have to print the same, on links that hold one packet and
+//! more: the program has no plain run, and no option of it sets how many. The rows test the calls of `dv_job`.
 //!
 //! Each word names a file of rows. `data/README.md` says how they are written, and which are here.
 #![tactic(auto)]

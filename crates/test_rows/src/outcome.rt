@@ -51,8 +51,8 @@ pub fn outcome_of<R: AllocGlobal + Threads + Wait + Sync>(
     }
 }
 
-/// What a run of one process prints where each component has a process of its own and that is not what is wanted: in rounds
-/// with one packet on a link at most, and by workers. Of any other command nothing.
+/// What a run of one process prints in another way where that is not what is wanted: by the plain run; and where each component
+/// has a process of its own, in rounds with one packet on a link at most, and by workers. Of any other command nothing.
 pub fn other_outcome<R: AllocGlobal + Threads + Wait + Sync>(
     rt: &R,
     command: &str,
@@ -61,6 +61,12 @@ pub fn other_outcome<R: AllocGlobal + Threads + Wait + Sync>(
 ) -> Result<Option<String>, AllocError> {
     if !command.starts_with("run") || command.contains("--p") || command.contains("--rounds") {
         return Ok(None);
+    }
+    let options = command.strip_prefix("run").unwrap_or("");
+    let plainly = format!(in rt.alloc(); "plain{options}")?;
+    let outcome = outcome_of(rt, plainly.as_str(), texts)?;
+    if outcome.as_str() != wanted {
+        return Ok(Some(outcome));
     }
     let count = check_bytes(rt.alloc(), texts.model).unwrap_or(1);
     let count = count.min(MOST_PROCESSES);
