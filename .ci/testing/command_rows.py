@@ -19,8 +19,9 @@ FOLDER = "tests/commands"
 MODELS = ("shown.pd", "refused.pd", "undivided.pd")
 # The files that rows name, beside models and traces, and those that lie there for them.
 NAMED = {"i.txt": "inputs.txt", "j.txt": "inputs.txt", "p.json": "partition.json"}
-# Files of rows that ask for nothing.
-IDLE = ("m.pd", "n.pd", "-m", "--warn", "--explain", "t.txt", "u.txt", "-t")
+# The models and traces that rows name which ask for nothing.
+IDLE_MODELS = ("m.pd", "n.pd", "-m")
+IDLE_TRACES = ("t.txt", "u.txt", "-t")
 TOLD = re.compile(r"pdevs: \d+\.\d s: tick \d+, [\d,]+ lines\n")
 STANDARD_INPUT = "-"
 
@@ -80,9 +81,8 @@ def hold_request(files, words, request, bench):
 
 def hold_idle(files, words, is_right, bench):
     """What is wrong with the answer to the words of a row that asks for nothing. The files that it may name are there."""
-    for name in IDLE:
-        bench.put(name, files.trace(False) if name.endswith(("t", "t.txt", "u.txt")) else files.contents["shown.pd"])
-    for name, file in NAMED.items():
+    lying = {name: "shown.pd" for name in IDLE_MODELS} | {name: "shown.trace" for name in IDLE_TRACES} | NAMED
+    for name, file in lying.items():
         bench.put(name, files.contents[file])
     answer = bench.call(words)
     is_so = answer.status == 2 and not answer.printed and is_right(answer.told.decode())
