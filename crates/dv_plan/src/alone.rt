@@ -1,49 +1,51 @@
 //! A world of the one process of a plan, with the record that it tells what happens.
 
 ghost use Rattle.std.specs.Prelude.{◌≡◌, ◌∷◌, [], List, IfOk, length, map};
-ghost use Rattle.std.specs.List.{AllByRecursion};
 ghost use Rattle.dv_bag.specs.Bag.{Counts};
 ghost use Rattle.dv_bag.specs.Part.{nothing};
 ghost use Rattle.dv_conservative.specs.World.{new_world};
 ghost use Rattle.dv_core.specs.Conservative.{state_by};
-ghost use Rattle.dv_core.specs.Worlds.{shown};
-ghost use Rattle.dv_local.specs.Shares.{share_by};
-ghost use Rattle.dv_local.specs.States.{settled_by, view_by};
-ghost use Rattle.dv_plan.specs.Beginning.{AllBegun, CanBegin, CanRun};
+ghost use Rattle.dv_core.specs.Worlds.{AreMadeFor, shown};
+ghost use Rattle.dv_local.specs.States.{view_by};
+ghost use Rattle.dv_plan.specs.Beginning.{CanRun};
 
 use crate::plan::Plan;
-use dv_core::{PlannedJob, World};
-use dv_local::{LocalRun, Share, begin};
-use dv_proc::Process;
+use dv_core::{LogicalProcess, PlannedJob, World};
+use dv_local::{LocalRun, begin};
+use dv_proc::{Channel, Process};
 use dv_react::Atomic;
 use dv_record::Record;
 use std::alloc::{AllocError, Global};
 
-// The process of a share, as its run begins.
-fn begin_alone<A: Atomic + Drop, R: Record>(
-    alloc: Global,
-    shares: Vec<Share<A>>,
-    to: R,
-) -> Result<Vec<Process<LocalRun<A, R>>>, AllocError>
-    requires comes { (a : A) (bags : List Counts) → A.comes a bags }
-    requires begin { AllByRecursion (CanBegin A.behaviour A.fits) shares.items }
-    requires alone { length shares.items ≡ 1 }
-    requires told { R.told to ≡ nothing }
-    requires at_rest { R.settled to ≡ R.told to }
-    ensures begun { IfOk result (λ processes. AllBegun (view_by A.behaviour R.told)
-        (settled_by A.behaviour R.settled)
-        (map (share_by A.behaviour) shares.items) processes.items) }
-    ensures handed { IfOk result (λ processes. map (λ p. R.handed p.local.record) processes.items
-        ≡ R.handed to ∷ []) }
+// The one item of a list.
+fn only<T: Drop>(items: Vec<T>) -> T
+    requires { length items.items ≡ 1 }
+    ensures { items.items ≡ result ∷ [] }
 {
-    let mut shares = shares;
-    let Some(share) = shares.pop() else {
+    let mut items = items;
+    let Some(item) = items.pop() else {
         unreachable!()
     };
-    let process = begin(alloc, share, to)?;
+    item
+}
+
+// A new world of one process.
+fn world_of_one<J: PlannedJob, P: LogicalProcess>(
+    alloc: Global,
+    job: J,
+    links: Vec<Channel>,
+    process: P,
+    capacity: usize,
+) -> Result<World<J, P>, AllocError>
+    requires { AreMadeFor J.means P.state P.valid job links.items (process ∷ []) }
+    ensures fresh { IfOk result (λ w. shown J.means P.state w ≡ new_world capacity) }
+    ensures job { IfOk result (λ w. w.job ≡ job) }
+    ensures processes { IfOk result (λ w. w.processes.items ≡ process ∷ []) }
+{
     let mut processes = Vec::new(alloc);
     processes.push(process)?;
-    Ok(processes)
+    let world = World::new(alloc, job, links, processes, capacity)?;
+    Ok(world)
 }
 
 /// A new world of the one process of a plan, which tells what happens to a record that was told nothing. So many packets may be
@@ -71,7 +73,7 @@ pub fn world_alone<J: PlannedJob, A: Atomic + Drop, R: Record>(
         ≡ R.handed to ∷ []) }
 {
     let Plan { links, shares } = plan;
-    let processes = begin_alone(alloc, shares, to)?;
-    let world = World::new(alloc, job, links, processes, capacity)?;
+    let process = begin(alloc, only(shares), to)?;
+    let world = world_of_one(alloc, job, links, process, capacity)?;
     Ok(world)
 }

@@ -7,8 +7,11 @@ ghost use Rattle.dv_share.specs.Indices.{AreRising};
 ghost use Rattle.dv_share.specs.Share.{numbers_of};
 ghost use Rattle.dv_share.specs.declared.tables.Member.{Member as MemberOfCode};
 ghost use Rattle.dv_local.specs.Shares.{outgoing_of};
-ghost use Rattle.dv_plan.specs.Cuts.{between};
+ghost use Rattle.dv_conservative.specs.World.{Job, outgoing_from};
+ghost use Rattle.dv_plan.specs.Cuts.{between, entrances_to, exits_from};
+ghost use Rattle.dv_partition.specs.Groups.{owner_of};
 ghost use Rattle.dv_partition.specs.Limits.{greatest_processes};
+ghost use Rattle.dv_proc.specs.Channels.{meant_channel};
 ghost use Rattle.dv_plan.specs.Steps.{AreMade, IsMadeOf, Rises, way_of};
 
 use crate::channels::{Away, incoming, outgoing};
@@ -92,39 +95,69 @@ fn share_of_process<A: Drop>(
     requires rise { AreRising (numbers_of members.items) }
     ensures { IfOk result (λ s. IsMadeOf common.now process members.items models.items s) }
 {
-    let index = process as usize;
-    let entrances = common.cut.entrances(index);
     let inputs = led_inputs(
         alloc,
         common.limit,
         common.ports,
         &members,
-        entrances,
+        common.cut.entrances(process as usize),
         common.inputs,
     )?;
-    let tables = Tables {
+    let sources = incoming(alloc, common.links, process)?;
+    let ways = ways_of_process(alloc, common, process)?;
+    let tables = tables_of_process(alloc, common, process, members, models)?;
+    Ok(Share {
+        tables,
+        horizon: common.horizon,
+        response: common.responses[process as usize],
+        sources,
+        ways,
+        ports: common.ports,
+        inputs,
+    })
+}
+
+// The tables of a process, of its components with their models.
+fn tables_of_process<A: Drop>(
+    alloc: Global,
+    common: &Common<'_>,
+    process: u32,
+    members: Vec<Member>,
+    models: Vec<A>,
+) -> Result<Tables<A>, AllocError>
+    requires there { process < common.now.cut.now.grouping.processes }
+    requires rises { Rises common.now.cut.now }
+    ensures limit { IfOk result (λ t. t.limit ≡ common.now.limit) }
+    ensures members { IfOk result (λ t. t.members.items ≡ members.items) }
+    ensures models { IfOk result (λ t. t.models.items ≡ models.items) }
+    ensures links { IfOk result (λ t. t.links ≡ between common.now.cut.now process process) }
+    ensures entrances { IfOk result (λ t. t.entrances ≡ entrances_to common.now.cut.now process) }
+    ensures exits { IfOk result (λ t. t.exits ≡ exits_from common.now.cut.now process) }
+    ensures outputs { IfOk result (λ t. t.outputs ≡ common.now.outputs) }
+{
+    let index = process as usize;
+    Ok(Tables {
         limit: common.limit,
         members,
         models,
         links: routes(alloc, common.cut.between(index, index))?,
-        entrances: Entrances::new(copies(alloc, entrances)?),
+        entrances: Entrances::new(copies(alloc, common.cut.entrances(index))?),
         exits: routes(alloc, common.cut.exits(index))?,
         outputs: common.outputs,
-    };
-    Ok(Share {
-        tables,
-        horizon: common.horizon,
-        response: common.responses[index],
-        sources: incoming(alloc, common.links, process)?,
-        ways: ways(
-            alloc,
-            common.cut,
-            process,
-            &outgoing(alloc, common.links, process)?,
-        )?,
-        ports: common.ports,
-        inputs,
     })
+}
+
+// The links that lead away from a process of a plan.
+fn ways_of_process(alloc: Global, common: &Common<'_>, process: u32) -> Result<Vec<Way>, AllocError>
+    requires there { process < common.now.cut.now.grouping.processes }
+    requires few { length common.now.links.now ≤ 2 ^ 32 }
+    requires rises { Rises common.now.cut.now }
+    ensures { IfOk result (λ found. (job : Job) → job.owner ≡ owner_of common.now.cut.now.grouping
+        → job.flat.links ≡ common.now.cut.now.direct → map outgoing_of found.items
+        ≡ outgoing_from job process 0 (map meant_channel common.now.links.now)) }
+{
+    let away = outgoing(alloc, common.links, process)?;
+    Ok(ways(alloc, common.cut, process, &away)?)
 }
 
 // The links that lead away from a process, with what each is made of.

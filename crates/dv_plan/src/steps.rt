@@ -1,14 +1,16 @@
 //! The processes of a plan, run by a list of steps.
 
-ghost use Rattle.std.specs.Prelude.{List, IfOk};
+ghost use Rattle.std.specs.Prelude.{◌≡◌, ℕ, List, IfOk};
 ghost use Rattle.dv_bag.specs.Bag.{Counts};
+ghost use Rattle.dv_conservative.specs.World.{new_world};
+ghost use Rattle.dv_core.specs.Worlds.{shown};
 ghost use Rattle.dv_plan.specs.Beginning.{CanRun};
 ghost use Rattle.dv_plan.specs.Runs.{HasStepped};
 
 use crate::plan::Plan;
 use crate::ran::Stepped;
 use crate::worlds::world_of;
-use dv_core::{PlannedJob, Step, into_parts};
+use dv_core::{LogicalProcess, PlannedJob, Step, World, into_parts};
 use dv_react::Atomic;
 use dv_record::PartRecord;
 use dv_written::Blanks;
@@ -33,7 +35,20 @@ pub fn step_plan<J: PlannedJob, A: Atomic + Drop>(
     requires run { CanRun J.means A.behaviour A.fits job plan }
     ensures { IfOk result (HasStepped (J.means job) capacity steps.now) }
 {
-    let mut world = world_of::<J, A, PartRecord, Blanks>(alloc, job, plan, &Blanks, capacity)?;
+    let world = world_of::<J, A, PartRecord, Blanks>(alloc, job, plan, &Blanks, capacity)?;
+    step_world(alloc, world, work, steps)
+}
+
+// Makes the steps of a list in a world, and takes it apart.
+fn step_world<J: PlannedJob, P: LogicalProcess<Record = PartRecord>>(
+    alloc: Global,
+    mut world: World<J, P>,
+    work: &mut P::Work,
+    steps: &[Step],
+) -> Result<Stepped, AllocError>
+    ensures { (capacity : ℕ) → shown J.means P.state world ≡ new_world capacity
+        → IfOk result (HasStepped (J.means world.job) capacity steps.now) }
+{
     let replies = world.run(alloc, work, steps)?;
     let (parts, clocks) = into_parts(alloc, world)?;
     Ok(Stepped {
