@@ -1,28 +1,50 @@
 //! What arrives at the input ports of the root.
 
-use dv_bag::Input;
+use dv_bag::{Input, Inputs};
+use dv_inputs::{InputsError, read_inputs};
+use dv_time::GREATEST_LIMIT;
+use dv_tree::Tree;
 use std::alloc::{AllocError, Global};
 
-/// The values that arrive at one port of the root at one time, ascending, with commas between them as in a trace.
+/// The input ports of the root that are shown, by their names, and the inputs of the run. Where no inputs are given, none are shown.
 #[derive(Drop)]
-pub(crate) struct Arrival {
-    pub(crate) port: u32,
-    pub(crate) values: String,
+pub(crate) struct RootInputs {
+    pub(crate) ports: Vec<String>,
+    pub(crate) inputs: Inputs,
 }
 
-/// What arrives by inputs of one time, port by port.
-pub(crate) fn arrivals_of(alloc: Global, together: &[Input]) -> Result<Vec<Arrival>, AllocError> {
+impl RootInputs {
+    /// What a text of inputs says, where there is one. With which limit the run was made is not known: the greatest takes them all.
+    pub(crate) fn of(
+        alloc: Global,
+        tree: &Tree<'_>,
+        text: Option<&[u8]>,
+    ) -> Result<Self, InputsError> {
+        let Some(text) = text else {
+            return Ok(RootInputs {
+                ports: Vec::new(alloc),
+                inputs: Inputs::new(alloc),
+            });
+        };
+        let ports = tree.input_names(alloc)?;
+        let inputs = read_inputs(alloc, text, &ports, GREATEST_LIMIT)?;
+        Ok(RootInputs { ports, inputs })
+    }
+}
+
+/// Inputs of one time, by their ports, and those of one port ascending.
+pub(crate) fn by_port(alloc: Global, together: &[Input]) -> Result<Vec<Input>, AllocError> {
     let mut sorted = Vec::from_slice(alloc, together)?;
     sorted.sort_unstable_by_key(|input| (input.port, input.value));
-    let mut arrivals: Vec<Arrival> = Vec::new(alloc);
-    for input in &sorted {
-        match arrivals.last_mut() {
-            Some(last) if last.port == input.port => write!(last.values, ",{}", input.value)?,
-            Some(_) | None => arrivals.push(Arrival {
-                port: input.port,
-                values: format!(in alloc; "{}", input.value)?,
-            })?,
-        }
+    Ok(sorted)
+}
+
+/// The values of inputs, with commas between them as in a trace.
+pub(crate) fn values_of(alloc: Global, inputs: &[Input]) -> Result<String, AllocError> {
+    let mut values = String::new(alloc);
+    for input in inputs {
+        let comma = if values.is_empty() { "" } else { "," };
+        write!(values, "{comma}{}", input.value)?;
     }
-    Ok(arrivals)
+    Ok(values)
 }

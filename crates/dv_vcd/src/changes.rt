@@ -1,18 +1,15 @@
 //! The changes of values, line after line of a trace.
 
-use crate::arrivals::arrivals_of;
+use crate::arrivals::{RootInputs, by_port, values_of};
 use crate::forms::Form;
 use crate::marks::Marks;
 use crate::ports::Ports;
-use crate::shown::{AllShown, Shown, ShownDatum, Standing};
+use crate::shown::{AllShown, Codes, Shown, ShownDatum, Standing, all_shown, shown_by};
 use crate::survey::tick_behind;
-use crate::values::{
-    push_count, push_datum, push_nothing, push_number, push_standing, push_string, push_unknown,
-};
+use crate::values::{push_held, push_nothing, push_number, push_standing, push_string};
 use dv_bag::Input;
-use dv_eval::Domain;
-use dv_text::{WriteError, hand_over_if_long};
-use dv_trace::{Datum, EntryHead, Event, LineLists, Reach, Sending};
+use dv_text::{WriteError, hand_over, hand_over_if_long};
+use dv_trace::{Datum, EntryHead, Event, LineHead, LineLists, Reach, Sending};
 use dv_tree::Tree;
 use std::alloc::{AllocError, Global};
 use std::io::Write;
@@ -21,12 +18,12 @@ use std::io::Write;
 #[derive(Drop)]
 pub(crate) struct Changes<'a> {
     pub(crate) text: String,
-    alloc: Global,
-    tree: &'a Tree<'a>,
-    shown: AllShown<'a>,
-    ports: Ports,
-    // The inputs, where they are shown, and how many of them have arrived.
-    inputs: Option<&'a [Input]>,
+    pub(crate) alloc: Global,
+    pub(crate) tree: &'a Tree<'a>,
+    pub(crate) shown: AllShown<'a>,
+    pub(crate) ports: Ports,
+    pub(crate) root: &'a RootInputs,
+    // How many of the inputs have arrived.
     arrived: usize,
     // The tick at which the text is.
     tick: u64,
@@ -39,82 +36,92 @@ impl<'a> Changes<'a> {
     pub(crate) fn new(
         alloc: Global,
         tree: &'a Tree<'a>,
-        text: String,
-        shown: AllShown<'a>,
-        ports: Ports,
-        inputs: Option<&'a [Input]>,
-    ) -> Self {
-        Changes {
-            text,
+        root: &'a RootInputs,
+        holds_ports: bool,
+    ) -> Result<Self, AllocError> {
+        let shown = all_shown(alloc, tree)?;
+        Ok(Changes {
+            text: String::new(alloc),
             alloc,
             tree,
+            ports: Ports::new(alloc, holds_ports, shown.behind)?,
             shown,
-            ports,
-            inputs,
+            root,
             arrived: 0,
             tick: 0,
             marks: Marks::new(alloc),
-        }
+        })
     }
 
     /// What everything shows at the start. The writer has some of it then.
     pub(crate) fn start<W: Write>(&mut self, writer: &mut W) -> Result<(), WriteError> {
-        self.text.push_str("#0\n$dumpvars\n")?;
-        if self.inputs.is_some() {
-            let count = self.tree.input_count();
-            push_ports(&mut self.text, &self.ports, self.shown.inputs, count)?;
-        }
+        let text = &mut self.text;
+        text.push_str("#0\n$dumpvars\n")?;
+        push_ports(text, &self.ports, self.shown.inputs, self.root.ports.len())?;
         let count = self.tree.output_count();
-        push_ports(&mut self.text, &self.ports, self.shown.outputs, count)?;
-        for (component, shown) in self.shown.components.iter().enumerate() {
-            push_start(&mut self.text, shown, domains_of(self.tree, component))?;
-            let count = output_count(self.tree, component);
-            push_ports(&mut self.text, &self.ports, shown.port(0), count)?;
-            hand_over_if_long(&mut self.text, writer)?;
+        push_ports(text, &self.ports, self.shown.outputs, count)?;
+        for shown in &self.shown.components {
+            push_start(text, &self.ports, shown)?;
+            hand_over_if_long(text, writer)?;
         }
-        self.text.push_str("$end\n")?;
+        text.push_str("$end\n")?;
         Ok(())
     }
 
-    /// Goes on to a tick, by the inputs that arrive up to it.
-    pub(crate) fn advance(&mut self, tick: u64) -> Result<(), AllocError> {
+    // Goes on to a tick, by the inputs that arrive up to it.
+    fn advance(&mut self, tick: u64) -> Result<(), AllocError> {
         self.take_inputs(tick)?;
         self.go_to(tick)
     }
 
-    /// Goes on behind a trace that reaches so far, by the inputs that arrive before its end.
-    pub(crate) fn finish(&mut self, reach: Reach) -> Result<(), AllocError> {
+    /// Goes on behind a trace that reaches so far, by the inputs that arrive before its end. The writer has all of the text then.
+    pub(crate) fn finish<W: Write>(
+        &mut self,
+        reach: Reach,
+        writer: &mut W,
+    ) -> Result<(), WriteError> {
         let behind = tick_behind(reach, self.tick);
         self.take_inputs(behind.saturating_sub(1))?;
-        self.go_to(behind)
-    }
-
-    // The inputs that arrive up to a tick.
-    fn take_inputs(&mut self, tick: u64) -> Result<(), AllocError> {
-        let Some(inputs) = self.inputs else {
-            return Ok(());
-        };
-        let rest = inputs.get(self.arrived..).unwrap_or(&[]);
-        match rest.first() {
-            Some(next) if next.time.tick <= tick => self.arrive(rest, tick),
-            Some(_) | None => Ok(()),
-        }
+        self.go_to(behind)?;
+        hand_over(writer, self.text.as_bytes())
     }
 
     // The inputs that arrive up to a tick, of those that have not arrived yet.
-    fn arrive(&mut self, rest: &[Input], tick: u64) -> Result<(), AllocError> {
-        for together in rest.chunk_by(|input, next| input.time == next.time) {
-            match together.first() {
-                Some(first) if first.time.tick <= tick => self.go_to(first.time.tick)?,
-                Some(_) | None => break,
-            }
-            self.arrived = self.arrived.saturating_add(together.len());
-            for arrival in arrivals_of(self.alloc, together)? {
-                let code = self.shown.inputs.saturating_add(u64::from(arrival.port));
-                self.pass(code, arrival.values.as_str())?;
-            }
+    fn take_inputs(&mut self, tick: u64) -> Result<(), AllocError> {
+        let inputs = self.root.inputs.as_slice();
+        let rest = inputs.get(self.arrived..).unwrap_or(&[]);
+        let count = rest
+            .iter()
+            .take_while(|input| input.time.tick <= tick)
+            .count();
+        let due = rest.get(..count).unwrap_or(&[]);
+        for together in due.chunk_by(|input, next| input.time == next.time) {
+            self.arrive(together)?;
+        }
+        self.arrived = self.arrived.saturating_add(count);
+        Ok(())
+    }
+
+    // Inputs that arrive at one time.
+    fn arrive(&mut self, together: &[Input]) -> Result<(), AllocError> {
+        if let Some(first) = together.first() {
+            self.go_to(first.time.tick)?;
+        }
+        let sorted = by_port(self.alloc, together)?;
+        for inputs in sorted.chunk_by(|input, next| input.port == next.port) {
+            self.arrive_at_port(inputs)?;
         }
         Ok(())
+    }
+
+    // Inputs that arrive at one time by one port.
+    fn arrive_at_port(&mut self, inputs: &[Input]) -> Result<(), AllocError> {
+        let Some(first) = inputs.first() else {
+            return Ok(());
+        };
+        let code = self.shown.inputs.saturating_add(u64::from(first.port));
+        let values = values_of(self.alloc, inputs)?;
+        self.pass(code, values.as_str())
     }
 
     // Goes on to a tick. What passed by ports before that are marked is shown no longer than its tick.
@@ -126,50 +133,62 @@ impl<'a> Changes<'a> {
             self.clear_marks()?;
         }
         if tick > self.tick {
-            self.tick = tick;
-            writeln!(self.text, "#{tick}")?;
+            self.push_tick(tick)?;
         }
         Ok(())
     }
 
+    fn push_tick(&mut self, tick: u64) -> Result<(), AllocError> {
+        self.tick = tick;
+        writeln!(self.text, "#{tick}")
+    }
+
     fn clear_marks(&mut self) -> Result<(), AllocError> {
         if !self.ports.are_held() {
-            self.tick = self.tick.saturating_add(1);
-            writeln!(self.text, "#{}", self.tick)?;
+            self.push_tick(self.tick.saturating_add(1))?;
             for code in self.marks.codes() {
-                push_nothing(&mut self.text, *code)?;
+                push_nothing(&mut self.text, Form::Text, *code)?;
             }
         }
         self.marks.clear();
         Ok(())
     }
 
-    /// What the line of a component changes.
-    pub(crate) fn entry(
+    /// What a line changes. The writer has the text of it once that is long.
+    pub(crate) fn follow<W: Write>(
         &mut self,
-        entry: EntryHead,
+        head: LineHead,
         lists: &LineLists<'_>,
-    ) -> Result<(), AllocError> {
+        writer: &mut W,
+    ) -> Result<(), WriteError> {
+        match head {
+            LineHead::Entry(entry) => self.entry(entry, lists)?,
+            LineHead::Outside(time) => self.outside(time.tick, &lists.sent)?,
+            LineHead::Empty | LineHead::Whole(_) | LineHead::Clock(_) | LineHead::Partial => {}
+        }
+        hand_over_if_long(&mut self.text, writer)
+    }
+
+    // What the line of a component changes. The line of a fault tells of no variable.
+    fn entry(&mut self, entry: EntryHead, lists: &LineLists<'_>) -> Result<(), AllocError> {
         self.advance(entry.time.tick)?;
-        let component = entry.component as usize;
-        let Some(shown) = self.shown.components.get_mut(component) else {
+        let Some(shown) = self.shown.components.get_mut(entry.component as usize) else {
             return Ok(());
         };
-        match entry.event {
+        let standing = match entry.event {
             Event::Transition { kind: _, phase } => {
-                let phase = phase_name(self.tree, component, phase);
-                move_to(&mut self.text, shown, Standing::Phase(phase))?;
-                let domains = domains_of(self.tree, component);
-                follow_state(&mut self.text, shown, domains, &lists.state)?;
+                Standing::Phase(phase_name(self.tree, shown, phase))
             }
-            Event::Fault(fault) => move_to(&mut self.text, shown, Standing::Fault(fault))?,
-        }
-        let first = shown.port(0);
+            Event::Fault(fault) => Standing::Fault(fault),
+        };
+        move_to(&mut self.text, shown, standing)?;
+        follow_state(&mut self.text, shown, &lists.state)?;
+        let first = shown.codes.port(0);
         self.sent(first, &lists.sent)
     }
 
-    /// What leaves the model at a tick.
-    pub(crate) fn outside(&mut self, tick: u64, sent: &[Sending<'_>]) -> Result<(), AllocError> {
+    // What leaves the model at a tick.
+    fn outside(&mut self, tick: u64, sent: &[Sending<'_>]) -> Result<(), AllocError> {
         self.advance(tick)?;
         self.sent(self.shown.outputs, sent)
     }
@@ -190,7 +209,7 @@ impl<'a> Changes<'a> {
             Form::Text => self.mark(code, values),
             Form::Wire | Form::Integer => match values.parse::<i64>() {
                 Ok(value) => push_number(&mut self.text, form, value, code),
-                Err(_) => push_unknown(&mut self.text, form, code),
+                Err(_) => push_nothing(&mut self.text, form, code),
             },
         }
     }
@@ -199,23 +218,6 @@ impl<'a> Changes<'a> {
     fn mark(&mut self, code: u64, values: &str) -> Result<(), AllocError> {
         let all = self.marks.add(self.alloc, code, values)?;
         push_string(&mut self.text, all, code)
-    }
-}
-
-// The domains of what a component holds: of its variables, flags, bags and queues.
-fn domains_of<'t>(tree: &'t Tree<'t>, component: usize) -> &'t [Domain] {
-    if component < tree.component_count() {
-        tree.scope(component).domains()
-    } else {
-        &[]
-    }
-}
-
-fn output_count(tree: &Tree, component: usize) -> usize {
-    if component < tree.component_count() {
-        tree.scope(component).output_count()
-    } else {
-        0
     }
 }
 
@@ -228,32 +230,23 @@ fn push_ports(
 ) -> Result<(), AllocError> {
     for port in 0..count {
         let code = first.saturating_add(port as u64);
-        match ports.form(code) {
-            Form::Text => push_nothing(text, code)?,
-            form => push_unknown(text, form, code)?,
-        }
+        push_nothing(text, ports.form(code), code)?;
     }
     Ok(())
 }
 
-// What a component shows at the start, but for its ports.
-fn push_start(text: &mut String, shown: &Shown<'_>, domains: &[Domain]) -> Result<(), AllocError> {
-    push_standing(text, shown.standing, shown.first)?;
+// What a component shows at the start.
+fn push_start(text: &mut String, ports: &Ports, shown: &Shown<'_>) -> Result<(), AllocError> {
+    let codes = shown.codes;
+    push_standing(text, shown.standing, codes.first)?;
     for (index, datum) in shown.state.iter().enumerate() {
-        let datum = datum.datum();
-        push_datum(text, Form::at(domains, index), datum, shown.variable(index))?;
-        if let Datum::Held(values) = datum {
-            push_count(text, values.count, shown.size(index))?;
-        }
+        push_datum(text, datum, codes, index, true)?;
     }
-    Ok(())
+    push_ports(text, ports, codes.port(0), shown.scope.output_count())
 }
 
-fn phase_name<'t>(tree: &'t Tree<'t>, component: usize, phase: u32) -> &'t str {
-    if component >= tree.component_count() {
-        return "";
-    }
-    match tree.scope(component).phase_name(phase) {
+fn phase_name<'t>(tree: &'t Tree<'t>, shown: &Shown<'_>, phase: u32) -> &'t str {
+    match shown.scope.phase_name(phase) {
         Some(name) => tree.name(name),
         None => "",
     }
@@ -269,62 +262,58 @@ fn move_to<'a>(
         return Ok(());
     }
     shown.standing = standing;
-    push_standing(text, standing, shown.first)
+    push_standing(text, standing, shown.codes.first)
 }
 
 // Writes the variables whose values have changed.
 fn follow_state(
     text: &mut String,
     shown: &mut Shown<'_>,
-    domains: &[Domain],
     state: &[Datum<'_>],
 ) -> Result<(), AllocError> {
-    for (index, datum) in state.iter().enumerate() {
-        follow_datum(text, shown, Form::at(domains, index), index, *datum)?;
+    let codes = shown.codes;
+    for (index, (shown, datum)) in shown.state.iter_mut().zip(state).enumerate() {
+        follow_datum(text, shown, *datum, codes, index)?;
     }
     Ok(())
 }
 
-// Writes the value of a variable, if it has changed.
+// Writes the value of a variable, if it has changed. The memory of a text is used again.
 fn follow_datum(
     text: &mut String,
-    shown: &mut Shown<'_>,
-    form: Form,
-    index: usize,
+    shown: &mut ShownDatum,
     datum: Datum<'_>,
+    codes: Codes,
+    index: usize,
 ) -> Result<(), AllocError> {
-    let Some(before) = shown.state.get(index) else {
-        return Ok(());
-    };
-    let before = before.datum();
-    if before == datum {
+    let (number, values) = shown_by(datum);
+    let is_other_number = shown.number != number;
+    if !is_other_number && shown.values.as_str() == values {
         return Ok(());
     }
-    push_change(text, shown, form, index, before, datum)?;
-    set_datum(&mut shown.state, index, datum)
+    shown.number = number;
+    shown.values.clear();
+    shown.values.push_str(values)?;
+    push_datum(text, shown, codes, index, is_other_number)
 }
 
-fn set_datum(state: &mut [ShownDatum], index: usize, datum: Datum<'_>) -> Result<(), AllocError> {
-    match state.get_mut(index) {
-        Some(shown) => shown.set(datum),
-        None => Ok(()),
-    }
-}
-
-// Writes the value of a variable, which has changed, and its size, if that has changed.
-fn push_change(
+// Writes what the variable, flag, bag or queue at an index shows, the last two with their sizes or without.
+fn push_datum(
     text: &mut String,
-    shown: &Shown<'_>,
-    form: Form,
+    shown: &ShownDatum,
+    codes: Codes,
     index: usize,
-    before: Datum<'_>,
-    datum: Datum<'_>,
+    has_size: bool,
 ) -> Result<(), AllocError> {
-    push_datum(text, form, datum, shown.variable(index))?;
-    match (before, datum) {
-        (Datum::Held(before), Datum::Held(values)) if before.count != values.count => {
-            push_count(text, values.count, shown.size(index))
+    let code = codes.variable(index);
+    match shown.form {
+        Form::Wire | Form::Integer => push_number(text, shown.form, shown.number, code),
+        Form::Text => {
+            push_held(text, shown.values.as_str(), code)?;
+            if has_size {
+                push_number(text, Form::Integer, shown.number, codes.size(index))?;
+            }
+            Ok(())
         }
-        (Datum::Held(_) | Datum::Number(_) | Datum::Flag(_), _) => Ok(()),
     }
 }

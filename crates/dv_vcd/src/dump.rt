@@ -1,19 +1,15 @@
 //! The dump of a trace.
 
+use crate::arrivals::RootInputs;
 use crate::changes::Changes;
 use crate::error::VcdError;
-use crate::header::{Declared, write_header};
+use crate::header::write_header;
 use crate::options::WaveOptions;
-use crate::ports::Ports;
-use crate::shown::all_shown;
-use crate::survey::{Surveyed, survey};
-use dv_bag::Inputs;
-use dv_inputs::{InputsError, read_inputs};
-use dv_text::{hand_over, hand_over_if_long};
-use dv_time::GREATEST_LIMIT;
-use dv_trace::{End, LineCutter, LineHead, LineLists, PieceReader, Reach, TakeLine, TraceReader};
+use crate::reading::read_lines;
+use crate::survey::survey;
+use dv_trace::{End, LineLists, PieceReader, Reach, TakeLine, TraceReader};
 use dv_tree::Tree;
-use std::alloc::{AllocError, Global};
+use std::alloc::Global;
 use std::io::{Read, Seek, Write};
 
 /// Writes a trace of the model of a tree as a value change dump, one time unit a tick, and tells how far the trace reaches. A
@@ -43,83 +39,68 @@ pub fn write_vcd<T: Read + Seek, W: Write>(
     options: &WaveOptions<'_>,
     writer: &mut W,
 ) -> Result<Reach, VcdError> {
-    let inputs = inputs_of(alloc, tree, options.inputs)?;
-    let inputs = inputs.as_ref().map(|inputs| inputs.as_slice());
-    let shown = all_shown(alloc, &*tree)?;
-    let ports = if options.holds_ports {
-        Ports::held(alloc, shown.behind)?
-    } else {
-        Ports::Marked
-    };
-    let mut pieces = PieceReader::begin(alloc, trace)?;
-    let surveyed = Surveyed {
-        tree: &*tree,
-        shown: &shown,
-        inputs: inputs.unwrap_or(&[]),
-        end: options.end,
-    };
-    let ports = survey(alloc, surveyed, &mut pieces, ports)?;
-    pieces.restart()?;
-    let declared = Declared {
-        tree: &*tree,
-        shown: &shown,
-        ports: &ports,
-        has_inputs: inputs.is_some(),
-        timescale: options.timescale,
-    };
-    let mut text = String::new(alloc);
-    write_header(alloc, &declared, &mut text, writer)?;
-    let mut changes = Changes::new(alloc, &*tree, text, shown, ports, inputs);
-    changes.start(writer)?;
-    write_changes(alloc, &*tree, &mut pieces, options.end, changes, writer)
+    let root = RootInputs::of(alloc, tree, options.inputs)?;
+    write_with_inputs(alloc, &*tree, &root, trace, options, writer)
 }
 
-// The inputs, where there is a text of them. With which limit the run was made is not known: the greatest takes them all.
-fn inputs_of(
+fn write_with_inputs<'a, T: Read + Seek, W: Write>(
     alloc: Global,
-    tree: &Tree<'_>,
-    text: Option<&[u8]>,
-) -> Result<Option<Inputs>, InputsError> {
-    let Some(text) = text else {
-        return Ok(None);
-    };
-    let names = tree.input_names(alloc)?;
-    Ok(Some(read_inputs(alloc, text, &names, GREATEST_LIMIT)?))
+    tree: &'a Tree<'a>,
+    root: &'a RootInputs,
+    trace: &mut T,
+    options: &WaveOptions<'_>,
+    writer: &mut W,
+) -> Result<Reach, VcdError> {
+    let mut changes = Changes::new(alloc, tree, root, options.holds_ports)?;
+    let mut pieces = PieceReader::begin(alloc, trace)?;
+    write_dump(&mut changes, &mut pieces, options, writer)
+}
+
+// Reads a trace twice: to see how its ports are shown, and to write the dump.
+fn write_dump<T: Read + Seek, W: Write>(
+    changes: &mut Changes<'_>,
+    pieces: &mut PieceReader<'_, T>,
+    options: &WaveOptions<'_>,
+    writer: &mut W,
+) -> Result<Reach, VcdError> {
+    survey(changes, pieces, options.end)?;
+    pieces.restart()?;
+    write_header(changes, options.timescale, writer)?;
+    changes.start(writer)?;
+    write_changes(changes, pieces, options.end, writer)
 }
 
 // Writes what the lines of a trace change, behind what everything shows at the start, and tells how far the trace reaches.
-fn write_changes<'a, T: Read, W: Write>(
-    alloc: Global,
-    tree: &'a Tree<'a>,
+fn write_changes<T: Read, W: Write>(
+    changes: &mut Changes<'_>,
     pieces: &mut PieceReader<'_, T>,
     end: End,
-    changes: Changes<'a>,
     writer: &mut W,
 ) -> Result<Reach, VcdError> {
+    let alloc = changes.alloc;
     let dump = Dump {
-        reader: TraceReader::new(alloc, tree)?,
+        reader: TraceReader::new(alloc, changes.tree)?,
         changes,
         writer,
     };
-    let mut lines = LineCutter::new(alloc, dump);
-    pieces.give_all(&mut lines)?;
-    let Dump {
-        reader,
-        mut changes,
-        writer,
-    } = lines.finish(end)?;
-    let reach = reader.end(end)?;
-    changes.finish(reach)?;
-    hand_over(writer, changes.text.as_bytes())?;
-    Ok(reach)
+    read_lines(alloc, pieces, end, dump)?.end(end)
 }
 
 /// What reads the lines of a trace, and writes what they change.
 #[derive(Drop)]
 struct Dump<'a, 'w, W> {
     reader: TraceReader<'a>,
-    changes: Changes<'a>,
+    changes: &'w mut Changes<'a>,
     writer: &'w mut W,
+}
+
+impl<W: Write> Dump<'_, '_, W> {
+    // Writes what is left behind the last line, and tells how far the trace reaches.
+    fn end(&mut self, end: End) -> Result<Reach, VcdError> {
+        let reach = self.reader.end(end)?;
+        self.changes.finish(reach, self.writer)?;
+        Ok(reach)
+    }
 }
 
 impl<W: Write> TakeLine for Dump<'_, '_, W> {
@@ -127,21 +108,7 @@ impl<W: Write> TakeLine for Dump<'_, '_, W> {
 
     fn take_line<'a>(&mut self, line: &'a [u8], lists: &mut LineLists<'a>) -> Result<(), VcdError> {
         let head = self.reader.read_into(line, lists)?;
-        follow(&mut self.changes, head, lists)?;
-        hand_over_if_long(&mut self.changes.text, self.writer)?;
+        self.changes.follow(head, lists, self.writer)?;
         Ok(())
-    }
-}
-
-// What a line changes.
-fn follow(
-    changes: &mut Changes<'_>,
-    head: LineHead,
-    lists: &LineLists<'_>,
-) -> Result<(), AllocError> {
-    match head {
-        LineHead::Entry(entry) => changes.entry(entry, lists),
-        LineHead::Outside(time) => changes.outside(time.tick, &lists.sent),
-        LineHead::Empty | LineHead::Whole(_) | LineHead::Clock(_) | LineHead::Partial => Ok(()),
     }
 }

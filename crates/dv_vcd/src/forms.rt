@@ -1,10 +1,9 @@
 //! The forms in which what is shown changes.
 
 use dv_eval::Domain;
-use std::fmt;
 
-/// The form of a variable of the dump. It is displayed as in the declaration.
-#[derive(Clone, Copy, PartialEq, Eq)]
+/// The form of a variable of the dump.
+#[derive(Clone, Copy)]
 pub(crate) enum Form {
     /// A bit.
     Wire,
@@ -24,21 +23,12 @@ impl Form {
         }
     }
 
-    /// The form of what holds values of the domain at an index.
-    pub(crate) fn at(domains: &[Domain], index: usize) -> Form {
-        match domains.get(index) {
-            Some(domain) => Form::of(*domain),
-            None => Form::Text,
-        }
-    }
-}
-
-impl fmt::Display for Form {
-    fn fmt<W: fmt::Write>(&self, f: &mut fmt::Formatter<W>) -> fmt::Result {
-        f.write_str(match self {
+    /// The type and the size that a declaration has for it.
+    pub(crate) fn words(self) -> &'static str {
+        match self {
             Form::Wire => "wire 1",
             Form::Integer => "integer 64",
             Form::Text => "string 1",
-        })
+        }
     }
 }

@@ -27,6 +27,8 @@ mod marks;
 pub mod options;
 /// How ports are shown.
 mod ports;
+/// The lines of a trace, from its pieces.
+mod reading;
 /// What is shown of each component.
 mod shown;
 /// The first reading of a trace.

@@ -1,5 +1,6 @@
 //! What passed in a tick by ports that are texts.
 
+use crate::values::push_all;
 use indexmap::IndexSet;
 use std::alloc::{AllocError, Global};
 
@@ -48,10 +49,9 @@ impl Marks {
         };
         if is_first {
             text.clear();
-        } else {
-            text.push(';')?;
         }
-        text.push_str(values)?;
+        let separator = if is_first { "" } else { ";" };
+        push_all(text, &[separator, values])?;
         Ok(text.as_str())
     }
 

@@ -4,7 +4,7 @@ use crate::forms::Form;
 use std::alloc::{AllocError, Global};
 
 /// What has passed by a port so far.
-#[derive(Clone, Copy, PartialEq, Eq)]
+#[derive(Clone, Copy)]
 pub(crate) enum Passed {
     Nothing,
     /// At most one value in each tick, all of them 0 or 1, and the last one in this tick.
@@ -16,7 +16,7 @@ pub(crate) enum Passed {
 }
 
 /// What passes by a port at one time.
-#[derive(Clone, Copy, PartialEq, Eq)]
+#[derive(Clone, Copy)]
 pub(crate) enum Passing {
     /// 0 or 1.
     Bit,
@@ -66,13 +66,14 @@ pub(crate) enum Ports {
 }
 
 impl Ports {
-    /// Ports that show their last values, with codes below a number, by which nothing has passed yet.
-    pub(crate) fn held(alloc: Global, behind: u64) -> Result<Self, AllocError> {
-        let mut passed = Vec::new(alloc);
-        for _code in 0..behind {
-            passed.push(Passed::Nothing)?;
+    /// Ports with codes below a number, by which nothing has passed yet.
+    pub(crate) fn new(alloc: Global, are_held: bool, behind: u64) -> Result<Self, AllocError> {
+        if are_held {
+            let passed = vec![in alloc; Passed::Nothing; behind as usize]?;
+            Ok(Ports::Held(passed))
+        } else {
+            Ok(Ports::Marked)
         }
-        Ok(Ports::Held(passed))
     }
 
     /// Something passes in a tick by the port with a code.

@@ -1,8 +1,9 @@
 //! What is shown of each component, and under which codes.
 
+use crate::forms::Form;
 use dv_bag::Fault;
-use dv_eval::Domain;
-use dv_trace::{Datum, Values};
+use dv_eval::{Domain, Scope};
+use dv_trace::Datum;
 use dv_tree::Tree;
 use std::alloc::{AllocError, Global};
 
@@ -13,83 +14,76 @@ pub(crate) enum Standing<'a> {
     Fault(Fault),
 }
 
-/// What a variable, a flag, a bag or a queue shows: as `Datum`, with a text of its own.
+/// What a variable, a flag, a bag or a queue shows.
 #[derive(Drop)]
-pub(crate) enum ShownDatum {
-    Number(i64),
-    Flag(bool),
-    /// The values of a bag or a queue as text, and how many there are.
-    Held { text: String, count: u64 },
+pub(crate) struct ShownDatum {
+    pub(crate) form: Form,
+    /// The number of a variable, 1 or 0 for a flag, and how many values a bag or a queue holds.
+    pub(crate) number: i64,
+    /// The values of a bag or a queue; else it is empty.
+    pub(crate) values: String,
 }
 
 impl ShownDatum {
     // What is shown at the start.
     fn at_start(alloc: Global, domain: Domain) -> Self {
-        match domain {
-            Domain::Number(range) => ShownDatum::Number(range.start),
-            Domain::Flag { start } => ShownDatum::Flag(start),
-            Domain::Held { .. } => ShownDatum::Held {
-                text: String::new(alloc),
-                count: 0,
+        ShownDatum {
+            form: Form::of(domain),
+            number: match domain {
+                Domain::Number(range) => range.start,
+                Domain::Flag { start } => i64::from(start),
+                Domain::Held { .. } => 0,
             },
+            values: String::new(alloc),
         }
-    }
-
-    /// What is shown.
-    pub(crate) fn datum(&self) -> Datum<'_> {
-        match self {
-            ShownDatum::Number(number) => Datum::Number(*number),
-            ShownDatum::Flag(flag) => Datum::Flag(*flag),
-            ShownDatum::Held { text, count } => Datum::Held(Values {
-                text: text.as_str(),
-                count: *count,
-            }),
-        }
-    }
-
-    /// Shows something else. The memory of a text is used again.
-    pub(crate) fn set(&mut self, datum: Datum<'_>) -> Result<(), AllocError> {
-        match (self, datum) {
-            (ShownDatum::Number(shown), Datum::Number(number)) => *shown = number,
-            (ShownDatum::Flag(shown), Datum::Flag(flag)) => *shown = flag,
-            (ShownDatum::Held { text, count }, Datum::Held(values)) => {
-                text.clear();
-                text.push_str(values.text)?;
-                *count = values.count;
-            }
-            // A trace tells of each variable what is of its domain.
-            (ShownDatum::Number(_) | ShownDatum::Flag(_) | ShownDatum::Held { .. }, _) => {}
-        }
-        Ok(())
     }
 }
 
-/// What a component shows now. Its codes follow each other: its phase, its variables, flags, bags and queues, the sizes of
-/// these, where only those of bags and queues are used, and its output ports.
-#[derive(Drop)]
-pub(crate) struct Shown<'a> {
+/// The number and the values that a datum shows.
+pub(crate) fn shown_by(datum: Datum<'_>) -> (i64, &str) {
+    match datum {
+        Datum::Number(number) => (number, ""),
+        Datum::Flag(flag) => (i64::from(flag), ""),
+        Datum::Held(values) => (values.count.cast_signed(), values.text),
+    }
+}
+
+/// The codes of what is shown of a component. They follow each other: its phase, its variables, flags, bags and queues, the sizes
+/// of these, where only those of bags and queues are used, and its output ports.
+#[derive(Clone, Copy)]
+pub(crate) struct Codes {
     /// The code of the phase.
     pub(crate) first: u64,
-    pub(crate) standing: Standing<'a>,
-    /// What the variables, flags, bags and queues hold.
-    pub(crate) state: Vec<ShownDatum>,
+    // How many variables, flags, bags and queues there are.
+    count: usize,
 }
 
-impl Shown<'_> {
+impl Codes {
     /// The code of the variable at an index.
-    pub(crate) fn variable(&self, index: usize) -> u64 {
+    pub(crate) fn variable(self, index: usize) -> u64 {
         self.first.saturating_add(1).saturating_add(index as u64)
     }
 
     /// The code of the size of the bag or the queue at an index.
-    pub(crate) fn size(&self, index: usize) -> u64 {
-        self.variable(self.state.len()).saturating_add(index as u64)
+    pub(crate) fn size(self, index: usize) -> u64 {
+        self.variable(self.count).saturating_add(index as u64)
     }
 
     /// The code of the output port at an index.
-    pub(crate) fn port(&self, index: usize) -> u64 {
-        self.size(self.state.len()).saturating_add(index as u64)
+    pub(crate) fn port(self, index: usize) -> u64 {
+        self.size(self.count).saturating_add(index as u64)
     }
+}
+
+/// What a component shows now.
+#[derive(Drop)]
+pub(crate) struct Shown<'a> {
+    /// What the component declares.
+    pub(crate) scope: &'a Scope,
+    pub(crate) codes: Codes,
+    pub(crate) standing: Standing<'a>,
+    /// What the variables, flags, bags and queues hold.
+    pub(crate) state: Vec<ShownDatum>,
 }
 
 /// What all components show at the start, the first codes of the root's output ports and of its input ports, and the first code
@@ -108,13 +102,17 @@ pub(crate) fn all_shown<'a>(alloc: Global, tree: &'a Tree<'a>) -> Result<AllShow
     let mut outputs: u64 = 0;
     for component in 0..tree.component_count() {
         let scope = tree.scope(component);
-        let shown = Shown {
+        let codes = Codes {
             first: outputs,
+            count: scope.domains().len(),
+        };
+        components.push(Shown {
+            scope,
+            codes,
             standing: Standing::Phase(start_phase(tree, component)),
             state: start_state(alloc, scope.domains())?,
-        };
-        outputs = shown.port(scope.output_count());
-        components.push(shown)?;
+        })?;
+        outputs = codes.port(scope.output_count());
     }
     let inputs = outputs.saturating_add(tree.output_count() as u64);
     Ok(AllShown {

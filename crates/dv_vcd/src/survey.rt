@@ -1,73 +1,44 @@
 //! The first reading of a trace, by which it is tested, and which tells how its ports are shown.
 
+use crate::changes::Changes;
 use crate::error::VcdError;
 use crate::ports::{Passing, Ports};
+use crate::reading::read_lines;
 use crate::shown::AllShown;
 use dv_bag::Input;
 use dv_trace::{
-    End, LineCutter, LineHead, LineLists, PieceReader, Reach, Sending, TakeLine, TraceError,
-    TraceReader, Values,
+    End, LineHead, LineLists, PieceReader, Reach, Sending, TakeLine, TraceReader, Values,
 };
-use dv_tree::Tree;
-use std::alloc::Global;
 use std::io::Read;
 
-/// What is looked at in a first reading.
-#[derive(Clone, Copy)]
-pub(crate) struct Surveyed<'a> {
-    pub(crate) tree: &'a Tree<'a>,
-    pub(crate) shown: &'a AllShown<'a>,
-    /// The inputs that are shown.
-    pub(crate) inputs: &'a [Input],
-    /// Whether the trace has to have an end.
-    pub(crate) end: End,
-}
-
-/// Reads a trace to its end. Ports by which nothing has passed are returned with what passed by them.
+/// Reads a trace to its end. The ports keep what passed by them.
 pub(crate) fn survey<T: Read>(
-    alloc: Global,
-    surveyed: Surveyed<'_>,
+    changes: &mut Changes<'_>,
     pieces: &mut PieceReader<'_, T>,
-    ports: Ports,
-) -> Result<Ports, VcdError> {
+    end: End,
+) -> Result<(), VcdError> {
+    let alloc = changes.alloc;
+    let inputs = changes.root.inputs.as_slice();
     let watch = Watch {
-        reader: TraceReader::new(alloc, surveyed.tree)?,
-        shown: surveyed.shown,
-        ports,
+        reader: TraceReader::new(alloc, changes.tree)?,
+        shown: &changes.shown,
+        ports: &mut changes.ports,
         last: 0,
     };
-    let mut lines = LineCutter::new(alloc, watch);
-    pieces.give_all(&mut lines)?;
-    let Watch {
-        reader,
-        shown,
-        mut ports,
-        last,
-    } = lines.finish(surveyed.end)?;
-    let reach = reader.end(surveyed.end)?;
-    let behind = tick_behind(reach, last);
-    for input in surveyed
-        .inputs
-        .iter()
-        .take_while(|input| input.time.tick < behind)
-    {
-        let code = shown.inputs.saturating_add(u64::from(input.port));
-        ports.pass(input.time.tick, code, Passing::of(input.value));
-    }
-    Ok(ports)
+    read_lines(alloc, pieces, end, watch)?.end(end, inputs)
 }
 
 /// What reads the lines of a trace, and looks at what passes by ports.
 #[derive(Drop)]
-struct Watch<'a> {
+struct Watch<'a, 'w> {
     reader: TraceReader<'a>,
-    shown: &'a AllShown<'a>,
-    ports: Ports,
+    shown: &'w AllShown<'a>,
+    ports: &'w mut Ports,
     // The tick of the last line by which something may have passed.
     last: u64,
 }
 
-impl Watch<'_> {
+impl Watch<'_, '_> {
     // Looks at what passes by ports at a line, and keeps its tick.
     fn look_at(&mut self, head: LineHead, sent: &[Sending<'_>]) {
         let shown = self.shown;
@@ -75,26 +46,33 @@ impl Watch<'_> {
             LineHead::Entry(entry) => {
                 self.last = entry.time.tick;
                 if let Some(component) = shown.components.get(entry.component as usize) {
-                    pass_all(&mut self.ports, self.last, component.port(0), sent);
+                    pass_all(self.ports, self.last, component.codes.port(0), sent);
                 }
             }
             LineHead::Outside(time) => {
                 self.last = time.tick;
-                pass_all(&mut self.ports, self.last, shown.outputs, sent);
+                pass_all(self.ports, self.last, shown.outputs, sent);
             }
             LineHead::Empty | LineHead::Whole(_) | LineHead::Clock(_) | LineHead::Partial => {}
         }
     }
+
+    // Looks at the inputs, which pass by ports where they arrive before the end of the trace.
+    fn end(&mut self, end: End, inputs: &[Input]) -> Result<(), VcdError> {
+        let behind = tick_behind(self.reader.end(end)?, self.last);
+        for input in inputs.iter().take_while(|input| input.time.tick < behind) {
+            let code = self.shown.inputs.saturating_add(u64::from(input.port));
+            self.ports
+                .pass(input.time.tick, code, Passing::of(input.value));
+        }
+        Ok(())
+    }
 }
 
-impl TakeLine for Watch<'_> {
-    type Error = TraceError;
+impl TakeLine for Watch<'_, '_> {
+    type Error = VcdError;
 
-    fn take_line<'a>(
-        &mut self,
-        line: &'a [u8],
-        lists: &mut LineLists<'a>,
-    ) -> Result<(), TraceError> {
+    fn take_line<'a>(&mut self, line: &'a [u8], lists: &mut LineLists<'a>) -> Result<(), VcdError> {
         let head = self.reader.read_into(line, lists)?;
         if self.ports.are_held() {
             self.look_at(head, &lists.sent);

@@ -4,7 +4,7 @@ use std::fmt;
 use std::str::FromStr;
 
 /// Of how many units a tick is. A dump knows no other counts.
-#[derive(Clone, Copy, PartialEq, Eq)]
+#[derive(Clone, Copy)]
 pub enum UnitCount {
     /// 1 unit.
     One,
@@ -25,7 +25,7 @@ impl UnitCount {
 }
 
 /// A unit of time, from a second down to a femtosecond.
-#[derive(Clone, Copy, PartialEq, Eq)]
+#[derive(Clone, Copy)]
 pub enum TimeUnit {
     /// A second, `s`.
     Second,
@@ -65,7 +65,7 @@ impl TimeUnit {
 }
 
 /// How long a tick is: so many units of time. It is displayed as `10 us`.
-#[derive(Clone, Copy, PartialEq, Eq)]
+#[derive(Clone, Copy)]
 pub struct Timescale {
     /// How many units a tick is.
     pub count: UnitCount,
@@ -88,7 +88,7 @@ impl fmt::Display for Timescale {
 }
 
 /// A text that names no time scale.
-#[derive(Clone, Copy, PartialEq, Eq)]
+#[derive(Clone, Copy)]
 pub struct NoTimescale;
 
 impl FromStr for Timescale {

@@ -2,11 +2,15 @@
 
 use crate::forms::Form;
 use crate::shown::Standing;
-use dv_trace::Datum;
 use std::alloc::AllocError;
 
-/// What stands for a port at which nothing passes. No values are written so.
-const NOTHING: &str = "-";
+/// Texts one after the other.
+pub(crate) fn push_all(text: &mut String, parts: &[&str]) -> Result<(), AllocError> {
+    for part in parts {
+        text.push_str(part)?;
+    }
+    Ok(())
+}
 
 /// A code of printable characters for the number of a variable. Different numbers have different codes.
 pub(crate) fn push_code(text: &mut String, number: u64) -> Result<(), AllocError> {
@@ -33,10 +37,10 @@ const NEXT_BITS: [&str; 16] = [
     "1100", "1101", "1110", "1111",
 ];
 
-// A number in binary digits, without leading zeros. Digits to base 16 are written at once, since a dump has very many numbers.
+// A `b` and a number in binary digits, without leading zeros. Digits to base 16 are written at once, since a dump has very many numbers.
 fn push_bits(text: &mut String, number: u64) -> Result<(), AllocError> {
     let digits = number.checked_ilog2().unwrap_or(0) / 4;
-    text.push_str(bits_at(&FIRST_BITS, number, digits))?;
+    push_all(text, &["b", bits_at(&FIRST_BITS, number, digits)])?;
     for index in (0..digits).rev() {
         text.push_str(bits_at(&NEXT_BITS, number, index))?;
     }
@@ -49,13 +53,14 @@ fn bits_at(table: &[&'static str; 16], number: u64, index: u32) -> &'static str 
     table.get(digit as usize).copied().unwrap_or("")
 }
 
-// A code behind a value, and the end of the line.
-fn end_line(text: &mut String, code: u64) -> Result<(), AllocError> {
+// The parts of a value, its code behind them, and the end of the line.
+fn push_line(text: &mut String, parts: &[&str], code: u64) -> Result<(), AllocError> {
+    push_all(text, parts)?;
     push_code(text, code)?;
     text.push('\n')
 }
 
-/// A number as a bit, or in two's complement of 64 bits.
+/// A number as a bit, or in two's complement of 64 bits without leading zeros.
 pub(crate) fn push_number(
     text: &mut String,
     form: Form,
@@ -63,49 +68,41 @@ pub(crate) fn push_number(
     code: u64,
 ) -> Result<(), AllocError> {
     match form {
-        Form::Wire => push_bit(text, number, code),
-        Form::Integer | Form::Text => push_count(text, number.cast_unsigned(), code),
+        Form::Wire => push_line(text, &[bit_of(number)], code),
+        Form::Integer | Form::Text => {
+            push_bits(text, number.cast_unsigned())?;
+            push_line(text, &[" "], code)
+        }
     }
 }
 
-/// How many there are of something, as a number without leading zeros.
-pub(crate) fn push_count(text: &mut String, count: u64, code: u64) -> Result<(), AllocError> {
-    text.push('b')?;
-    push_bits(text, count)?;
-    text.push(' ')?;
-    end_line(text, code)
-}
-
 // A number on a wire. One that is no bit is unknown there; no run has it.
-fn push_bit(text: &mut String, number: i64, code: u64) -> Result<(), AllocError> {
-    text.push(match number {
-        0 => '0',
-        1 => '1',
-        _ => 'x',
-    })?;
-    end_line(text, code)
+fn bit_of(number: i64) -> &'static str {
+    match number {
+        0 => "0",
+        1 => "1",
+        _ => "x",
+    }
 }
 
 /// A string, which holds no blank.
 pub(crate) fn push_string(text: &mut String, string: &str, code: u64) -> Result<(), AllocError> {
-    text.push('s')?;
-    text.push_str(string)?;
-    text.push(' ')?;
-    end_line(text, code)
+    push_line(text, &["s", string, " "], code)
 }
 
-/// A text of a port by which nothing passes.
-pub(crate) fn push_nothing(text: &mut String, code: u64) -> Result<(), AllocError> {
-    push_string(text, NOTHING, code)
+/// The values of a bag or a queue.
+pub(crate) fn push_held(text: &mut String, values: &str, code: u64) -> Result<(), AllocError> {
+    push_line(text, &["s[", values, "] "], code)
 }
 
-/// A number or a bit that is not known.
-pub(crate) fn push_unknown(text: &mut String, form: Form, code: u64) -> Result<(), AllocError> {
-    match form {
-        Form::Wire => text.push('x')?,
-        Form::Integer | Form::Text => text.push_str("bx ")?,
-    }
-    end_line(text, code)
+/// That a number or a bit is not known, or that nothing passes by a port that is a text: a dash, as which no values are written.
+pub(crate) fn push_nothing(text: &mut String, form: Form, code: u64) -> Result<(), AllocError> {
+    let value = match form {
+        Form::Wire => "x",
+        Form::Integer => "bx ",
+        Form::Text => "s- ",
+    };
+    push_line(text, &[value], code)
 }
 
 /// Where a component stands. A colon stands in no name of a phase.
@@ -116,30 +113,6 @@ pub(crate) fn push_standing(
 ) -> Result<(), AllocError> {
     match standing {
         Standing::Phase(name) => push_string(text, name, code),
-        Standing::Fault(fault) => {
-            text.push_str("sfault:")?;
-            text.push_str(fault.word())?;
-            text.push(' ')?;
-            end_line(text, code)
-        }
-    }
-}
-
-/// What a variable, a flag, a bag or a queue holds.
-pub(crate) fn push_datum(
-    text: &mut String,
-    form: Form,
-    datum: Datum<'_>,
-    code: u64,
-) -> Result<(), AllocError> {
-    match datum {
-        Datum::Number(number) => push_number(text, form, number, code),
-        Datum::Flag(flag) => push_bit(text, i64::from(flag), code),
-        Datum::Held(values) => {
-            text.push_str("s[")?;
-            text.push_str(values.text)?;
-            text.push_str("] ")?;
-            end_line(text, code)
-        }
+        Standing::Fault(fault) => push_line(text, &["sfault:", fault.word(), " "], code),
     }
 }

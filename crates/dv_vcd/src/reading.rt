@@ -1,0 +1,18 @@
+//! The lines of a trace, from its pieces.
+
+use crate::error::VcdError;
+use dv_trace::{End, LineCutter, PieceReader, TakeLine};
+use std::alloc::Global;
+use std::io::Read;
+
+/// Has all lines of a trace taken, from the piece that was read last on. What took them is returned.
+pub(crate) fn read_lines<T: Read, L: TakeLine<Error = VcdError> + Drop>(
+    alloc: Global,
+    pieces: &mut PieceReader<'_, T>,
+    end: End,
+    taker: L,
+) -> Result<L, VcdError> {
+    let mut lines = LineCutter::new(alloc, taker);
+    pieces.give_all(&mut lines)?;
+    lines.finish(end)
+}
