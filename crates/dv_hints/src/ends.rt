@@ -1,16 +1,21 @@
 //! Ends of links.
 
-use crate::lists::wanted_sentence;
-use crate::models::{model_around, model_named, name_of as name_of_model, port_sort};
-use crate::near::unknown_name;
+use crate::lists::{Choice, WantedSentence};
+use crate::models::{
+    link_at, model_around, model_named, name_of as name_of_model, part_named, part_of_model_at,
+    port_sort,
+};
+use crate::near::told_unknown;
 use crate::reading::ReadText;
 use crate::sorts::{NameSort, name_of, sort_of};
+use crate::told::{nothing_told, told};
 use dv_explain::{Cause, Quoted};
 use dv_syntax::{Atomic, Coupled, End, Link, Model, Name};
 use std::alloc::{AllocError, Global};
+use std::fmt;
 
 /// Which end of a link.
-#[derive(Clone, Copy, PartialEq, Eq)]
+#[derive(Clone, Copy)]
 enum Side {
     From,
     To,
@@ -109,22 +114,18 @@ pub fn unknown_in(
     read: &ReadText,
     model: &Coupled,
     offset: u32,
-) -> Result<Option<Cause>, AllocError> {
-    if let Some(part) = model.parts.iter().find(|part| part.model.offset == offset) {
-        let names = model_names(alloc, read)?;
-        let cause = unknown(alloc, read, part.model, "a model", "the text", &names)?;
-        return Ok(Some(cause));
+) -> Result<Cause, AllocError> {
+    if let Some(part) = part_of_model_at(model, offset) {
+        return unknown_model(alloc, read, part.model);
     }
     let Some(located) = end_at(model, offset) else {
-        return Ok(None);
+        return nothing_told(alloc);
     };
     match located.end.part {
         Some(part) if part.offset == offset => {
-            let mut cause = unknown_part(alloc, read, model, part)?;
-            tell_own_port(&mut cause, read, model, &located)?;
-            Ok(Some(cause))
+            unknown_part(alloc, read, model, part, located.end.port)
         }
-        _ => Ok(Some(unknown_port(alloc, read, model, &located)?)),
+        _ => unknown_port(alloc, read, model, &located),
     }
 }
 
@@ -138,62 +139,54 @@ pub fn unknown(
     read: &ReadText,
     name: Name,
     wanted: &str,
-    owner: &str,
     names: &[&str],
 ) -> Result<Cause, AllocError> {
-    Ok(Cause {
-        summary: unknown_name(alloc, read.name(name.number), names)?,
-        sentences: wanted_sentence(alloc, wanted, owner, names)?,
-    })
+    let owner = "the text";
+    let sentence = WantedSentence {
+        wanted,
+        owner,
+        names,
+    };
+    told_unknown(alloc, read.name(name.number), names, sentence)
 }
 
-/// The names of the models of a text.
-fn model_names<'a>(alloc: Global, read: &'a ReadText) -> Result<Vec<&'a str>, AllocError> {
+/// The words on an unknown model of a part.
+fn unknown_model(alloc: Global, read: &ReadText, name: Name) -> Result<Cause, AllocError> {
     let mut names = Vec::new(alloc);
     for model in &read.file.models {
         names.push(read.name(name_of_model(model).number))?;
     }
-    Ok(names)
+    unknown(alloc, read, name, "a model", &names)
 }
 
-/// The words on an unknown part.
+/// The words on an unknown part, before this port.
 fn unknown_part(
     alloc: Global,
     read: &ReadText,
     model: &Coupled,
     part: Name,
+    port: Name,
 ) -> Result<Cause, AllocError> {
     let mut names = Vec::new(alloc);
     for other in &model.parts {
         names.push(read.name(other.name.number))?;
     }
-    unknown(alloc, read, part, "a part or `self`", "the model", &names)
-}
-
-/// Tells of an unknown part that is the name of a model, or of a port of the model itself.
-fn tell_own_port(
-    cause: &mut Cause,
-    read: &ReadText,
-    model: &Coupled,
-    located: &LocatedEnd,
-) -> Result<(), AllocError> {
-    let Some(part) = located.end.part else {
-        return Ok(());
+    let sentence = WantedSentence {
+        wanted: "a part or `self`",
+        owner: "the model",
+        names: &names,
     };
-    let port = read.name(located.end.port.number);
+    let text = read.name(part.number);
+    let port = read.name(port.number);
     if part.number == model.name.number {
-        write!(
-            cause.sentences,
-            "A port of the model itself is written `self.{port}`.\n"
-        )
+        let own = format_args!("{sentence}A port of the model itself is written `self.{port}`.\n");
+        told_unknown(alloc, text, &names, own)
     } else if model_named(&read.file, part.number).is_some() {
-        write!(
-            cause.sentences,
-            "{} is a model: a link names a part of it.\n",
-            Quoted(read.name(part.number))
-        )
+        let quoted = Quoted(text);
+        let other = format_args!("{sentence}{quoted} is a model: a link names a part of it.\n");
+        told_unknown(alloc, text, &names, other)
     } else {
-        Ok(())
+        told_unknown(alloc, text, &names, sentence)
     }
 }
 
@@ -205,38 +198,59 @@ fn unknown_port(
     located: &LocatedEnd,
 ) -> Result<Cause, AllocError> {
     let ports = ports_of(alloc, read, model, located)?;
-    Ok(Cause {
-        summary: unknown_name(alloc, read.name(located.end.port.number), &ports)?,
-        sentences: ports_sentence(alloc, read, model, located, &ports)?,
-    })
+    let sentence = ports_sentence(read, model, located, &ports);
+    told_unknown(alloc, read.name(located.end.port.number), &ports, sentence)
 }
 
 /// A sentence with a line feed on the ports that an end may name.
-fn ports_sentence(
-    alloc: Global,
-    read: &ReadText,
-    model: &Coupled,
-    located: &LocatedEnd,
-    ports: &[&str],
-) -> Result<String, AllocError> {
-    let owner = owner_of(alloc, read, model, located)?;
-    if ports.is_empty() {
-        return wanted_sentence(alloc, located.wanted(), owner.as_str(), ports);
-    }
-    let wanted = format!(in alloc; "{} of {owner}", located.wanted())?;
-    wanted_sentence(alloc, wanted.as_str(), owner.as_str(), ports)
+#[derive(Clone, Copy)]
+struct PortsSentence<'a> {
+    wanted: NameSort,
+    owner: Owner<'a>,
+    ports: &'a [&'a str],
 }
 
-/// The model that has the port of an end, as words.
-fn owner_of(
-    alloc: Global,
-    read: &ReadText,
+fn ports_sentence<'a>(
+    read: &'a ReadText,
     model: &Coupled,
     located: &LocatedEnd,
-) -> Result<String, AllocError> {
-    match face(read, model, located) {
-        Some(model) => format!(in alloc; "{}", Quoted(read.name(name_of_model(model).number))),
-        None => String::from_str(alloc, "it"),
+    ports: &'a [&'a str],
+) -> PortsSentence<'a> {
+    PortsSentence {
+        wanted: located.wanted(),
+        owner: match face(read, model, located) {
+            Some(model) => Owner(Some(read.name(name_of_model(model).number))),
+            None => Owner(None),
+        },
+        ports,
+    }
+}
+
+impl fmt::Display for PortsSentence<'_> {
+    fn fmt<W: fmt::Write>(&self, f: &mut fmt::Formatter<W>) -> fmt::Result {
+        let PortsSentence {
+            wanted,
+            owner,
+            ports,
+        } = self;
+        if ports.is_empty() {
+            write!(f, "Wanted is {wanted}, and {owner} has none.\n")
+        } else {
+            write!(f, "Wanted is {wanted} of {owner}: {}.\n", Choice(ports))
+        }
+    }
+}
+
+/// The model that has the port of an end, by its name, where it is known.
+#[derive(Clone, Copy)]
+struct Owner<'a>(Option<&'a str>);
+
+impl fmt::Display for Owner<'_> {
+    fn fmt<W: fmt::Write>(&self, f: &mut fmt::Formatter<W>) -> fmt::Result {
+        match self.0 {
+            Some(name) => write!(f, "{}", Quoted(name)),
+            None => f.write_str("it"),
+        }
     }
 }
 
@@ -244,13 +258,7 @@ fn owner_of(
 fn face<'a>(read: &'a ReadText, model: &Coupled, located: &LocatedEnd) -> Option<&'a Model> {
     match located.end.part {
         None => model_around(&read.file, model.name.offset),
-        Some(name) => {
-            let part = model
-                .parts
-                .iter()
-                .find(|part| part.name.number == name.number)?;
-            model_named(&read.file, part.model.number)
-        }
+        Some(name) => model_named(&read.file, part_named(model, name.number)?.model.number),
     }
 }
 
@@ -301,7 +309,8 @@ fn texts_of<'a>(
     Ok(texts)
 }
 
-/// The words on an end of a link that leads the wrong way, whose port is at an offset.
+/// The words on an end of a link that leads the wrong way, whose port is at an offset: the other way round the link may stand, or
+/// another port.
 ///
 /// # Errors
 ///
@@ -311,40 +320,40 @@ pub fn wrong_way_in(
     read: &ReadText,
     model: &Coupled,
     offset: u32,
-) -> Result<Option<Cause>, AllocError> {
+) -> Result<Cause, AllocError> {
     let Some(located) = end_at(model, offset) else {
-        return Ok(None);
+        return nothing_told(alloc);
     };
+    if is_turned(read, model, &located.other()) {
+        let turned = ends_text(read, &located.link.to, &located.link.from);
+        let instead = format_args!("The other way round it may stand: `{turned}`.\n");
+        wrong_way(alloc, read, &located, instead)
+    } else {
+        let ports = ports_of(alloc, read, model, &located)?;
+        let instead = ports_sentence(read, model, &located, &ports);
+        wrong_way(alloc, read, &located, instead)
+    }
+}
+
+/// The words on an end that leads the wrong way, with a sentence on what may stand in its place.
+fn wrong_way<D: fmt::Display + Drop>(
+    alloc: Global,
+    read: &ReadText,
+    located: &LocatedEnd,
+    instead: D,
+) -> Result<Cause, AllocError> {
     let found = match located.wanted() {
         NameSort::Input => NameSort::Output,
         _ => NameSort::Input,
     };
-    let instead = instead_of(alloc, read, model, &located)?;
-    Ok(Some(Cause {
-        summary: format!(in alloc;
-            "a link can't {} at `{}.{}`, which is {found}",
-            located.side.verb(),
-            part_name(read, &located.end),
-            read.name(located.end.port.number)
-        )?,
-        sentences: format!(in alloc; "{}{instead}", located.side.rule())?,
-    }))
-}
-
-/// A sentence with a line feed on what may stand in place of an end that leads the wrong way.
-fn instead_of(
-    alloc: Global,
-    read: &ReadText,
-    model: &Coupled,
-    located: &LocatedEnd,
-) -> Result<String, AllocError> {
-    if is_turned(read, model, &located.other()) {
-        let turned = ends_text(alloc, read, &located.link.to, &located.link.from)?;
-        format!(in alloc; "The other way round it may stand: `{turned}`.\n")
-    } else {
-        let ports = ports_of(alloc, read, model, located)?;
-        ports_sentence(alloc, read, model, located, &ports)
-    }
+    let verb = located.side.verb();
+    let part = part_name(read, &located.end);
+    let port = read.name(located.end.port.number);
+    told(
+        alloc,
+        format_args!("a link can't {verb} at `{part}.{port}`, which is {found}"),
+        format_args!("{}{instead}", located.side.rule()),
+    )
 }
 
 /// Whether the port of an end has the direction that is not wanted there.
@@ -366,23 +375,31 @@ fn part_name<'a>(read: &'a ReadText, end: &End) -> &'a str {
     }
 }
 
-/// A link as it is written.
-///
-/// # Errors
-///
-/// No memory for the text.
-pub fn link_text(alloc: Global, read: &ReadText, link: &Link) -> Result<String, AllocError> {
-    ends_text(alloc, read, &link.from, &link.to)
+/// A link as it is written: the names of the parts and the ports of its ends.
+#[derive(Clone, Copy)]
+pub struct LinkText<'a> {
+    from: (&'a str, &'a str),
+    to: (&'a str, &'a str),
 }
 
-fn ends_text(alloc: Global, read: &ReadText, from: &End, to: &End) -> Result<String, AllocError> {
-    format!(in alloc;
-        "link {}.{} -> {}.{};",
-        part_name(read, from),
-        read.name(from.port.number),
-        part_name(read, to),
-        read.name(to.port.number)
-    )
+impl fmt::Display for LinkText<'_> {
+    fn fmt<W: fmt::Write>(&self, f: &mut fmt::Formatter<W>) -> fmt::Result {
+        let (from, out) = self.from;
+        let (to, input) = self.to;
+        write!(f, "link {from}.{out} -> {to}.{input};")
+    }
+}
+
+/// A link as it is written.
+pub fn link_text<'a>(read: &'a ReadText, link: &Link) -> LinkText<'a> {
+    ends_text(read, &link.from, &link.to)
+}
+
+fn ends_text<'a>(read: &'a ReadText, from: &End, to: &End) -> LinkText<'a> {
+    LinkText {
+        from: (part_name(read, from), read.name(from.port.number)),
+        to: (part_name(read, to), read.name(to.port.number)),
+    }
 }
 
 /// The words on a link that leads from a part to itself, or from an input port of the model to an output port of it.
@@ -395,32 +412,33 @@ pub fn leads_back(
     read: &ReadText,
     model: &Coupled,
     offset: u32,
-) -> Result<Option<Cause>, AllocError> {
-    let Some(link) = model.links.iter().find(|link| link.offset == offset) else {
-        return Ok(None);
+) -> Result<Cause, AllocError> {
+    let Some(link) = link_at(model, offset) else {
+        return nothing_told(alloc);
     };
-    let from = part_name(read, &link.from);
-    let to = part_name(read, &link.to);
-    let out = read.name(link.from.port.number);
-    let back = read.name(link.to.port.number);
-    let between = format!(in alloc;
+    let LinkText {
+        from: (from, out),
+        to: (to, back),
+    } = link_text(read, link);
+    let between = format_args!(
         "`link {from}.{out} -> PART.IN;` and `link PART.OUT -> {to}.{back};`"
-    )?;
-    let cause = match link.from.part {
-        Some(_) => Cause {
-            summary: format!(in alloc; "the part {} is coupled to itself", Quoted(from))?,
-            sentences: format!(in alloc;
+    );
+    match link.from.part {
+        Some(_) => told(
+            alloc,
+            format_args!("the part {} is coupled to itself", Quoted(from)),
+            format_args!(
                 "Keep in its variables what it has to know of itself, or put a part between: {between}.\n"
-            )?,
-        },
-        None => Cause {
-            summary: format!(in alloc;
+            ),
+        ),
+        None => told(
+            alloc,
+            format_args!(
                 "the input port {} of the model is coupled to its output port {}",
                 Quoted(out),
                 Quoted(back)
-            )?,
-            sentences: format!(in alloc; "Put a part between: {between}.\n")?,
-        },
-    };
-    Ok(Some(cause))
+            ),
+            format_args!("Put a part between: {between}.\n"),
+        ),
+    }
 }

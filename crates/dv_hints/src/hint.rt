@@ -10,6 +10,7 @@ use crate::repeats::{repeat_at, repeated_link};
 use crate::roots::{atomic_root, limit_at, own_part, too_long, unknown_root};
 use crate::starts::start_at;
 use crate::statements::look_through_model;
+use crate::told::nothing_told;
 use crate::words::cause_of;
 use dv_explain::{Cause, nesting_at, stray_at, unexpected_at};
 use dv_lex::{GREATEST_LENGTH, RefusalNumber, TextError};
@@ -32,7 +33,7 @@ pub fn hint_on(alloc: Global, text: &[u8], refusal: &TextError) -> Result<Cause,
         RefusalNumber::E17 if text.len() > GREATEST_LENGTH => too_long(alloc, text.len()),
         _ => match read(alloc, text)? {
             Some(read) => hint_in_tree(alloc, text, &read, refusal),
-            None => Cause::of(alloc, "", ""),
+            None => nothing_told(alloc),
         },
     }
 }
@@ -60,19 +61,8 @@ fn hint_in_tree(
     }
     match model_around(&read.file, offset) {
         Some(Model::Atomic(atomic)) => hint_in_atomic(alloc, text, read, atomic, refusal),
-        Some(Model::Coupled(coupled)) => {
-            let cause = hint_in_coupled(alloc, text, read, coupled, refusal)?;
-            or_nothing(alloc, cause)
-        }
-        None => Cause::of(alloc, "", ""),
-    }
-}
-
-/// A cause, or one without words.
-fn or_nothing(alloc: Global, cause: Option<Cause>) -> Result<Cause, AllocError> {
-    match cause {
-        Some(cause) => Ok(cause),
-        None => Cause::of(alloc, "", ""),
+        Some(Model::Coupled(coupled)) => hint_in_coupled(alloc, text, read, coupled, refusal),
+        None => nothing_told(alloc),
     }
 }
 
@@ -104,7 +94,7 @@ fn hint_in_atomic(
             look_through_model(&known, model, &mut search);
             match search.found {
                 Some(reason) => cause_of(alloc, text, read, model, &known, &reason),
-                None => Cause::of(alloc, "", ""),
+                None => nothing_told(alloc),
             }
         }
     }
@@ -116,12 +106,12 @@ fn hint_in_coupled(
     read: &ReadText,
     model: &Coupled,
     refusal: &TextError,
-) -> Result<Option<Cause>, AllocError> {
+) -> Result<Cause, AllocError> {
     match refusal.number {
         RefusalNumber::E7 => unknown_in(alloc, read, model, refusal.offset),
         RefusalNumber::E12 => wrong_way_in(alloc, read, model, refusal.offset),
         RefusalNumber::E13 => leads_back(alloc, read, model, refusal.offset),
         RefusalNumber::E14 => repeated_link(alloc, text, read, model, refusal.offset),
-        _ => Ok(None),
+        _ => nothing_told(alloc),
     }
 }

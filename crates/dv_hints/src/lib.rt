@@ -60,6 +60,9 @@ mod statements;
 /// What takes the value of an expression.
 mod taker;
 
+/// Causes out of what is displayed.
+mod told;
+
 /// What a name has to stand for.
 mod wanted;
 

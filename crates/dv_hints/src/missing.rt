@@ -1,10 +1,12 @@
 //! Items of an atomic model that are missing, or stand twice.
 
 use crate::reading::{ReadText, position};
+use crate::told::{nothing_told, told};
 use dv_explain::{Cause, Quoted};
 use dv_syntax::{Atomic, Name};
 use std::alloc::{AllocError, Global};
 use std::collections::HashSet;
+use std::fmt;
 
 /// The most items that are told to be missing.
 const MOST_TOLD: usize = 8;
@@ -28,67 +30,104 @@ pub fn item_at(
     }
 }
 
-/// The items that a model lacks.
-fn missing(alloc: Global, read: &ReadText, model: &Atomic) -> Result<Cause, AllocError> {
-    let mut lacks = Vec::new(alloc);
-    let mut sentences = String::new(alloc);
-    if model.phases.is_empty() {
-        lacks.push(String::from_str(alloc, "`phases`")?)?;
-        sentences.push_str("The phases are declared by `phases z, w;`.\n")?;
-    }
-    if model.starts.is_empty() {
-        lacks.push(String::from_str(alloc, "`start`")?)?;
-        sentences.push_str("The phase at the start is chosen by `start z;`.\n")?;
-    }
-    if push_unheld(alloc, &mut lacks, read, model)? {
-        sentences.push_str(
-            "Each phase has a hold: `hold z: 5;`, or `hold z: forever;` until something comes.\n",
-        )?;
-    }
-    Ok(Cause {
-        summary: lacking(alloc, read, model, &lacks)?,
-        sentences,
-    })
+/// An item of a model, a hold with the name of its phase.
+#[derive(Clone, Copy)]
+enum Item<'a> {
+    Phases,
+    Start,
+    Hold(&'a str),
 }
 
-/// That a model lacks these items.
-fn lacking(
-    alloc: Global,
-    read: &ReadText,
-    model: &Atomic,
-    lacks: &[String],
-) -> Result<String, AllocError> {
-    let mut summary = format!(in alloc; "{} lacks", Quoted(read.name(model.name.number)))?;
-    for (index, item) in lacks.iter().take(MOST_TOLD).enumerate() {
-        let separator = if index == 0 { " " } else { ", " };
-        write!(summary, "{separator}{item}")?;
-    }
-    let more = lacks.len().saturating_sub(MOST_TOLD);
-    if more > 0 {
-        write!(summary, " and {more} more")?;
-    }
-    Ok(summary)
-}
-
-/// Adds the hold of each phase that has none, and answers whether there is one.
-fn push_unheld(
-    alloc: Global,
-    lacks: &mut Vec<String>,
-    read: &ReadText,
-    model: &Atomic,
-) -> Result<bool, AllocError> {
-    let held = held_phases(alloc, model)?;
-    let mut is_one = false;
-    for item in &model.phases {
-        for phase in &item.names {
-            if !held.contains(&phase.number) {
-                let name = Quoted(read.name(phase.number));
-                lacks.push(format!(in alloc; "the hold of {name}")?)?;
-                is_one = true;
-            }
+impl fmt::Display for Item<'_> {
+    fn fmt<W: fmt::Write>(&self, f: &mut fmt::Formatter<W>) -> fmt::Result {
+        match self {
+            Item::Phases => f.write_str("`phases`"),
+            Item::Start => f.write_str("`start`"),
+            Item::Hold(phase) => write!(f, "the hold of {}", Quoted(phase)),
         }
     }
-    Ok(is_one)
+}
+
+/// The words on the items that a model lacks.
+fn missing(alloc: Global, read: &ReadText, model: &Atomic) -> Result<Cause, AllocError> {
+    let items = lacking_items(alloc, read, model)?;
+    let summary = Lacking {
+        model: read.name(model.name.number),
+        items: &items,
+    };
+    let phases = if model.phases.is_empty() {
+        "The phases are declared by `phases z, w;`.\n"
+    } else {
+        ""
+    };
+    let start = if model.starts.is_empty() {
+        "The phase at the start is chosen by `start z;`.\n"
+    } else {
+        ""
+    };
+    let hold = match items.last() {
+        Some(Item::Hold(_)) => {
+            "Each phase has a hold: `hold z: 5;`, or `hold z: forever;` until something comes.\n"
+        }
+        _ => "",
+    };
+    told(alloc, summary, format_args!("{phases}{start}{hold}"))
+}
+
+/// That a model lacks items.
+#[derive(Clone, Copy)]
+struct Lacking<'a> {
+    model: &'a str,
+    items: &'a [Item<'a>],
+}
+
+impl fmt::Display for Lacking<'_> {
+    fn fmt<W: fmt::Write>(&self, f: &mut fmt::Formatter<W>) -> fmt::Result {
+        write!(f, "{} lacks", Quoted(self.model))?;
+        for (index, item) in self.items.iter().take(MOST_TOLD).enumerate() {
+            let separator = if index == 0 { " " } else { ", " };
+            write!(f, "{separator}{item}")?;
+        }
+        match self.items.len().saturating_sub(MOST_TOLD) {
+            0 => Ok(()),
+            more => write!(f, " and {more} more"),
+        }
+    }
+}
+
+/// The items that a model lacks, the holds last.
+fn lacking_items<'a>(
+    alloc: Global,
+    read: &'a ReadText,
+    model: &Atomic,
+) -> Result<Vec<Item<'a>>, AllocError> {
+    let mut items = Vec::new(alloc);
+    if model.phases.is_empty() {
+        items.push(Item::Phases)?;
+    }
+    if model.starts.is_empty() {
+        items.push(Item::Start)?;
+    }
+    let held = held_phases(alloc, model)?;
+    for phases in &model.phases {
+        push_unheld(&mut items, read, &held, &phases.names)?;
+    }
+    Ok(items)
+}
+
+/// Adds the holds of these phases, but of those that have one.
+fn push_unheld<'a>(
+    items: &mut Vec<Item<'a>>,
+    read: &'a ReadText,
+    held: &HashSet<u32>,
+    phases: &[Name],
+) -> Result<(), AllocError> {
+    for phase in phases {
+        if !held.contains(&phase.number) {
+            items.push(Item::Hold(read.name(phase.number)))?;
+        }
+    }
+    Ok(())
 }
 
 /// The numbers of the names of the phases that have a hold.
@@ -100,7 +139,7 @@ fn held_phases(alloc: Global, model: &Atomic) -> Result<HashSet<u32>, AllocError
     Ok(held)
 }
 
-/// The item whose word is at an offset, which stands there twice.
+/// The words on the item whose word is at an offset, which stands there twice.
 fn twice(
     alloc: Global,
     text: &[u8],
@@ -108,49 +147,48 @@ fn twice(
     model: &Atomic,
     offset: u32,
 ) -> Result<Cause, AllocError> {
-    if model.phases.iter().any(|item| item.offset == offset) {
-        let first = model.phases.first().map(|item| item.offset);
-        return told_twice(
-            alloc,
-            text,
-            "`phases`",
-            first,
-            "`phases z, w;` names all phases.\n",
-        );
-    }
-    if model.starts.iter().any(|item| item.offset == offset) {
-        let first = model.starts.first().map(|item| item.offset);
-        return told_twice(alloc, text, "`start`", first, "");
-    }
-    match model.holds.iter().find(|item| item.offset == offset) {
-        Some(second) => {
-            let first = first_hold(model, second.phase);
-            let name = format!(in alloc; "the hold of {}", Quoted(read.name(second.phase.number)))?;
-            told_twice(alloc, text, name.as_str(), first, "")
+    let Some((item, first)) = item_and_first(read, model, offset) else {
+        return nothing_told(alloc);
+    };
+    let sentence = match item {
+        Item::Phases => "`phases z, w;` names all phases.\n",
+        Item::Start | Item::Hold(_) => "",
+    };
+    let first = position(text, first);
+    told(
+        alloc,
+        format_args!("{item} stands twice, first at {first}"),
+        sentence,
+    )
+}
+
+/// The item whose word is at an offset, and the offset of the first one like it.
+fn item_and_first<'a>(read: &'a ReadText, model: &Atomic, offset: u32) -> Option<(Item<'a>, u32)> {
+    for phases in &model.phases {
+        if phases.offset == offset {
+            return Some((Item::Phases, model.phases.first()?.offset));
         }
-        None => Cause::of(alloc, "", ""),
     }
+    for start in &model.starts {
+        if start.offset == offset {
+            return Some((Item::Start, model.starts.first()?.offset));
+        }
+    }
+    for hold in &model.holds {
+        if hold.offset == offset {
+            let phase = hold.phase.number;
+            return Some((Item::Hold(read.name(phase)), first_hold(model, phase)?));
+        }
+    }
+    None
 }
 
-/// The offset of the first hold of a phase.
-fn first_hold(model: &Atomic, phase: Name) -> Option<u32> {
-    let hold = model
-        .holds
-        .iter()
-        .find(|hold| hold.phase.number == phase.number)?;
-    Some(hold.offset)
-}
-
-fn told_twice(
-    alloc: Global,
-    text: &[u8],
-    item: &str,
-    first: Option<u32>,
-    sentence: &str,
-) -> Result<Cause, AllocError> {
-    let first = position(text, first.unwrap_or(0));
-    Ok(Cause {
-        summary: format!(in alloc; "{item} stands twice, first at {first}")?,
-        sentences: String::from_str(alloc, sentence)?,
-    })
+/// The offset of the first hold of the phase with a name of this number.
+fn first_hold(model: &Atomic, phase: u32) -> Option<u32> {
+    for hold in &model.holds {
+        if hold.phase.number == phase {
+            return Some(hold.offset);
+        }
+    }
+    None
 }

@@ -1,7 +1,10 @@
 //! Near names.
 
-use dv_explain::Quoted;
+use crate::lists::Listed;
+use crate::told::told;
+use dv_explain::{Cause, Quoted};
 use std::alloc::{AllocError, Global};
+use std::fmt;
 use strsim::osa_distance;
 
 /// The most characters of a name that is compared with others.
@@ -16,15 +19,62 @@ const MOST_TOLD: usize = 3;
 ///
 /// No memory for the comparisons or the words.
 pub fn unknown_name(alloc: Global, text: &str, names: &[&str]) -> Result<String, AllocError> {
-    let mut near = Near::to(alloc, text);
-    for name in names.iter() {
-        near.compare(alloc, text, name)?;
+    let near = near_names(alloc, text, names)?;
+    let unknown = UnknownName { text, near: &near };
+    format!(in alloc; "{unknown}")
+}
+
+/// The cause where a name is unknown, with these sentences.
+///
+/// # Errors
+///
+/// No memory for the comparisons or the words.
+pub fn told_unknown<D: fmt::Display + Drop>(
+    alloc: Global,
+    text: &str,
+    names: &[&str],
+    sentences: D,
+) -> Result<Cause, AllocError> {
+    let near = near_names(alloc, text, names)?;
+    told(alloc, UnknownName { text, near: &near }, sentences)
+}
+
+/// That a name is unknown, and that others are near.
+#[derive(Clone, Copy)]
+struct UnknownName<'t, 'n> {
+    text: &'t str,
+    near: &'n [&'n str],
+}
+
+impl fmt::Display for UnknownName<'_, '_> {
+    fn fmt<W: fmt::Write>(&self, f: &mut fmt::Formatter<W>) -> fmt::Result {
+        let text = Quoted(self.text);
+        let near = Listed {
+            names: self.near.get(..MOST_TOLD).unwrap_or(self.near),
+            before_last: " and ",
+        };
+        match self.near.len() {
+            0 => write!(f, "unknown name {text}"),
+            1 => write!(f, "unknown name {text}; {near} is near"),
+            _ => write!(f, "unknown name {text}; {near} are near"),
+        }
     }
-    let words = near.words(alloc)?;
-    format!(in alloc; "unknown name {}{words}", Quoted(text))
 }
 
 /// The names that are nearest to one, where they are near.
+fn near_names<'a>(
+    alloc: Global,
+    text: &str,
+    names: &[&'a str],
+) -> Result<Vec<&'a str>, AllocError> {
+    let mut near = Near::to(alloc, text);
+    for name in names {
+        near.compare(alloc, text, name)?;
+    }
+    Ok(near.names)
+}
+
+/// The names that are nearest to one so far.
 #[derive(Drop)]
 struct Near<'a> {
     names: Vec<&'a str>,
@@ -48,9 +98,7 @@ impl<'a> Near<'a> {
         if text.len() > GREATEST_LENGTH || name.len() > GREATEST_LENGTH {
             return Ok(());
         }
-        let text = text.to_ascii_lowercase(alloc)?;
-        let lower = name.to_ascii_lowercase(alloc)?;
-        let distance = osa_distance(alloc, text.as_str(), lower.as_str())?;
+        let distance = distance_of(alloc, text, name)?;
         if distance < self.distance {
             self.names.clear();
         }
@@ -60,20 +108,11 @@ impl<'a> Near<'a> {
         }
         Ok(())
     }
+}
 
-    /// Which names are near, as words behind others: "; `n` is near". Empty where none is.
-    fn words(&self, alloc: Global) -> Result<String, AllocError> {
-        let told = self.names.get(..MOST_TOLD).unwrap_or(&self.names);
-        match told {
-            [] => Ok(String::new(alloc)),
-            [one] => format!(in alloc; "; {} is near", Quoted(one)),
-            [one, other] => format!(in alloc; "; {} and {} are near", Quoted(one), Quoted(other)),
-            [one, other, third, ..] => format!(in alloc;
-                "; {}, {} and {} are near",
-                Quoted(one),
-                Quoted(other),
-                Quoted(third)
-            ),
-        }
-    }
+/// How many edits lead from one text to another, where capitals are small letters.
+fn distance_of(alloc: Global, one: &str, other: &str) -> Result<usize, AllocError> {
+    let one = one.to_ascii_lowercase(alloc)?;
+    let other = other.to_ascii_lowercase(alloc)?;
+    osa_distance(alloc, one.as_str(), other.as_str())
 }

@@ -9,7 +9,7 @@ use dv_lex::RefusalNumber;
 use dv_syntax::Name;
 
 /// What stands in a rule of a sort in which it is not allowed, or in a hold.
-#[derive(Clone, Copy, PartialEq, Eq)]
+#[derive(Clone, Copy)]
 pub enum Misplaced {
     /// What changes the state, with its word or its sign, in an output rule.
     Change(&'static str),

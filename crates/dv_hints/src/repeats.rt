@@ -1,9 +1,10 @@
 //! Names and links that stand twice.
 
 use crate::ends::link_text;
-use crate::models::{model_around, name_of};
+use crate::models::{link_at, model_around, name_of};
 use crate::reading::{ReadText, position};
 use crate::sorts::{Rule, name_of as name_of_declaration, sort_of};
+use crate::told::{nothing_told, told};
 use dv_explain::{Cause, Quoted};
 use dv_syntax::{Atomic, Coupled, End, Model, Name, RuleSort};
 use std::alloc::{AllocError, Global};
@@ -42,44 +43,62 @@ pub fn repeat_at(
     offset: u32,
 ) -> Result<Option<Cause>, AllocError> {
     let names = names_around(alloc, read, offset)?;
-    let Some(second) = names.iter().find(|located| located.name.offset == offset) else {
-        return Ok(None);
-    };
-    let first = names
-        .iter()
-        .filter(|located| is_same(located, second))
-        .min_by_key(|located| located.name.offset);
-    match first {
-        Some(first) if first.name.offset < offset => {
-            Ok(Some(told(alloc, text, read, first, second)?))
-        }
-        _ => Ok(None),
+    match first_of(&names, offset) {
+        Some(first) => Ok(Some(told_twice(alloc, text, read, first)?)),
+        None => Ok(None),
     }
+}
+
+/// The name that stands at an offset for the second time, as it stands first.
+fn first_of(names: &[Located], offset: u32) -> Option<&Located> {
+    let second = located_at(names, offset)?;
+    let mut first = second;
+    for located in names {
+        if is_same(located, second) && located.name.offset < first.name.offset {
+            first = located;
+        }
+    }
+    if first.name.offset < offset {
+        Some(first)
+    } else {
+        None
+    }
+}
+
+fn located_at(names: &[Located], offset: u32) -> Option<&Located> {
+    for located in names {
+        if located.name.offset == offset {
+            return Some(located);
+        }
+    }
+    None
 }
 
 fn is_same(one: &Located, other: &Located) -> bool {
     one.space == other.space && one.name.number == other.name.number
 }
 
-fn told(
+/// The words on a name that stands first as this one.
+fn told_twice(
     alloc: Global,
     text: &[u8],
     read: &ReadText,
     first: &Located,
-    second: &Located,
 ) -> Result<Cause, AllocError> {
-    let name = Quoted(read.name(second.name.number));
+    let name = Quoted(read.name(first.name.number));
     let position = position(text, first.name.offset);
     let kind = first.kind;
     match first.space {
-        Space::Rules(_) => Ok(Cause {
-            summary: format!(in alloc; "the phase {name} has {kind} twice, first at {position}")?,
-            sentences: String::from_str(alloc, "Put the statements of both into one rule.\n")?,
-        }),
-        _ => Ok(Cause {
-            summary: format!(in alloc; "{name} is declared twice, first as {kind} at {position}")?,
-            sentences: String::new(alloc),
-        }),
+        Space::Rules(_) => told(
+            alloc,
+            format_args!("the phase {name} has {kind} twice, first at {position}"),
+            "Put the statements of both into one rule.\n",
+        ),
+        _ => told(
+            alloc,
+            format_args!("{name} is declared twice, first as {kind} at {position}"),
+            "",
+        ),
     }
 }
 
@@ -162,26 +181,22 @@ pub fn repeated_link(
     read: &ReadText,
     model: &Coupled,
     offset: u32,
-) -> Result<Option<Cause>, AllocError> {
-    let Some(second) = model.links.iter().find(|link| link.offset == offset) else {
-        return Ok(None);
+) -> Result<Cause, AllocError> {
+    let Some(second) = link_at(model, offset) else {
+        return nothing_told(alloc);
     };
-    let written = link_text(alloc, read, second)?;
     for first in &model.links {
         if first.offset < offset
             && is_same_end(&first.from, &second.from)
             && is_same_end(&first.to, &second.to)
         {
-            return Ok(Some(Cause {
-                summary: format!(in alloc;
-                    "`{written}` stands twice, first at {}",
-                    position(text, first.offset)
-                )?,
-                sentences: String::new(alloc),
-            }));
+            let written = link_text(read, second);
+            let position = position(text, first.offset);
+            let summary = format_args!("`{written}` stands twice, first at {position}");
+            return told(alloc, summary, "");
         }
     }
-    Ok(None)
+    nothing_told(alloc)
 }
 
 fn is_same_end(one: &End, other: &End) -> bool {

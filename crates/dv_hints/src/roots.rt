@@ -2,9 +2,10 @@
 
 use crate::ends::unknown;
 use crate::lists::Choice;
-use crate::models::{model_around, model_named};
+use crate::models::{model_around, model_named, part_of_model_at};
 use crate::reading::ReadText;
 use crate::sorts::{NameSort, name_of as name_of_declaration, sort_of};
+use crate::told::{nothing_told, told};
 use dv_explain::{Cause, Quoted};
 use dv_lex::GREATEST_LENGTH;
 use dv_syntax::{Atomic, Declaration, Model, StateCollection};
@@ -17,14 +18,7 @@ use std::alloc::{AllocError, Global};
 /// No memory for the words.
 pub fn unknown_root(alloc: Global, read: &ReadText) -> Result<Cause, AllocError> {
     let names = coupled_names(alloc, read)?;
-    unknown(
-        alloc,
-        read,
-        read.file.root,
-        "a coupled model",
-        "the text",
-        &names,
-    )
+    unknown(alloc, read, read.file.root, "a coupled model", &names)
 }
 
 /// The names of the coupled models.
@@ -45,19 +39,17 @@ fn coupled_names<'a>(alloc: Global, read: &'a ReadText) -> Result<Vec<&'a str>, 
 /// No memory for the words.
 pub fn atomic_root(alloc: Global, read: &ReadText) -> Result<Cause, AllocError> {
     let root = read.file.root;
+    let summary = format_args!("{} is atomic", Quoted(read.name(root.number)));
     let names = coupled_names(alloc, read)?;
-    let sentences = if !names.is_empty() {
-        format!(in alloc; "The root is a coupled model: {}.\n", Choice(&names))?
-    } else {
-        match model_named(&read.file, root.number) {
-            Some(Model::Atomic(atomic)) => wrapping(alloc, read, atomic)?,
-            _ => String::new(alloc),
-        }
-    };
-    Ok(Cause {
-        summary: format!(in alloc; "{} is atomic", Quoted(read.name(root.number)))?,
-        sentences,
-    })
+    if !names.is_empty() {
+        let choice = Choice(&names);
+        let sentence = format_args!("The root is a coupled model: {choice}.\n");
+        return told(alloc, summary, sentence);
+    }
+    match model_named(&read.file, root.number) {
+        Some(Model::Atomic(atomic)) => told(alloc, summary, wrapping(alloc, read, atomic)?),
+        _ => told(alloc, summary, ""),
+    }
 }
 
 /// A sentence with a coupled model that has an atomic one as its part, and its ports.
@@ -68,17 +60,13 @@ fn wrapping(alloc: Global, read: &ReadText, model: &Atomic) -> Result<String, Al
     let mut links = String::new(alloc);
     for declaration in &model.declarations {
         let port = read.name(name_of_declaration(declaration).number);
-        match sort_of(declaration) {
-            NameSort::Input => {
-                write!(ports, "in {port}; ")?;
-                write!(links, "link self.{port} -> a.{port}; ")?;
-            }
-            NameSort::Output => {
-                write!(ports, "out {port}; ")?;
-                write!(links, "link a.{port} -> self.{port}; ")?;
-            }
-            _ => {}
-        }
+        let (word, from, to) = match sort_of(declaration) {
+            NameSort::Input => ("in", "self", "a"),
+            NameSort::Output => ("out", "a", "self"),
+            _ => continue,
+        };
+        write!(ports, "{word} {port}; ")?;
+        write!(links, "link {from}.{port} -> {to}.{port}; ")?;
     }
     format!(in alloc; "Write `coupled {top} {{ {ports}part a: {name}; {links}}} root {top};`.\n")
 }
@@ -90,30 +78,19 @@ fn wrapping(alloc: Global, read: &ReadText, model: &Atomic) -> Result<String, Al
 /// No memory for the words.
 pub fn own_part(alloc: Global, read: &ReadText, offset: u32) -> Result<Cause, AllocError> {
     let Some(Model::Coupled(coupled)) = model_around(&read.file, offset) else {
-        return Cause::of(alloc, "", "");
+        return nothing_told(alloc);
     };
-    let Some(part) = coupled
-        .parts
-        .iter()
-        .find(|part| part.model.offset == offset)
-    else {
-        return Cause::of(alloc, "", "");
+    let Some(part) = part_of_model_at(coupled, offset) else {
+        return nothing_told(alloc);
     };
-    let own = read.name(coupled.name.number);
-    let model = read.name(part.model.number);
-    let summary = if part.model.number == coupled.name.number {
-        format!(in alloc; "{} is a part of itself", Quoted(own))?
+    let own = Quoted(read.name(coupled.name.number));
+    let model = Quoted(read.name(part.model.number));
+    if part.model.number == coupled.name.number {
+        told(alloc, format_args!("{own} is a part of itself"), "")
     } else {
-        format!(in alloc;
-            "{} has {} among its parts, directly or further in",
-            Quoted(model),
-            Quoted(own)
-        )?
-    };
-    Ok(Cause {
-        summary,
-        sentences: String::new(alloc),
-    })
+        let summary = format_args!("{model} has {own} among its parts, directly or further in");
+        told(alloc, summary, "")
+    }
 }
 
 /// The words on a limit on size that is passed at an offset: of a capacity, of a list of names, or of the tree of the root.
@@ -125,16 +102,17 @@ pub fn limit_at(alloc: Global, read: &ReadText, offset: u32) -> Result<Cause, Al
     if read.file.root.offset == offset {
         return too_large(alloc, read);
     }
-    if let Some(collection) = collection_at(read, offset) {
-        return Ok(Cause {
-            summary: format!(in alloc;
-                "the capacity {} is outside of 1..4096",
-                collection.capacity.value.value()
-            )?,
-            sentences: String::new(alloc),
-        });
+    match collection_at(read, offset) {
+        Some(collection) => {
+            let capacity = collection.capacity.value.value();
+            told(
+                alloc,
+                format_args!("the capacity {capacity} is outside of 1..4096"),
+                "",
+            )
+        }
+        None => Cause::of(alloc, "more than 4,096 names of one kind", ""),
     }
-    Cause::of(alloc, "more than 4,096 names of one kind", "")
 }
 
 /// The cause where a text has so many bytes, which are too many.
@@ -143,25 +121,17 @@ pub fn limit_at(alloc: Global, read: &ReadText, offset: u32) -> Result<Cause, Al
 ///
 /// No memory for the words.
 pub fn too_long(alloc: Global, length: usize) -> Result<Cause, AllocError> {
-    Ok(Cause {
-        summary: format!(in alloc; "the text has {length} bytes, more than {GREATEST_LENGTH}")?,
-        sentences: String::new(alloc),
-    })
+    let summary = format_args!("the text has {length} bytes, more than {GREATEST_LENGTH}");
+    told(alloc, summary, "")
 }
 
 fn too_large(alloc: Global, read: &ReadText) -> Result<Cause, AllocError> {
     let root = Quoted(read.name(read.file.root.number));
-    let summary = if is_without_parts(read) {
-        format!(in alloc; "{root} has no part")?
-    } else {
-        format!(in alloc;
-            "the tree of {root} has no component, or too many components, instances, levels or links"
-        )?
-    };
-    Ok(Cause {
-        summary,
-        sentences: String::new(alloc),
-    })
+    if is_without_parts(read) {
+        return told(alloc, format_args!("{root} has no part"), "");
+    }
+    let limits = "has no component, or too many components, instances, levels or links";
+    told(alloc, format_args!("the tree of {root} {limits}"), "")
 }
 
 fn is_without_parts(read: &ReadText) -> bool {

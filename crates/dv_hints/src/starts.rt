@@ -1,5 +1,6 @@
 //! Ranges and start values, and the hold of the start phase.
 
+use crate::told::{nothing_told, told};
 use dv_bag::Fault;
 use dv_eval::{Scope, VariableRange, phase_hold, start_state};
 use dv_explain::{Cause, explanation_of};
@@ -33,29 +34,25 @@ fn range_at(model: &Atomic, offset: u32) -> Option<VariableRange> {
 
 fn out_of_range(alloc: Global, range: &VariableRange) -> Result<Cause, AllocError> {
     let VariableRange { low, high, start } = range;
-    let summary = if low > high {
-        format!(in alloc; "the range {low}..{high} is empty: {low} is above {high}")?
+    if low > high {
+        let summary = format_args!("the range {low}..{high} is empty: {low} is above {high}");
+        told(alloc, summary, "")
     } else {
-        format!(in alloc; "the start value {start} is outside of {low}..{high}")?
-    };
-    Ok(Cause {
-        summary,
-        sentences: String::new(alloc),
-    })
+        let summary = format_args!("the start value {start} is outside of {low}..{high}");
+        told(alloc, summary, "")
+    }
 }
 
 fn start_hold(alloc: Global, model: &Atomic, offset: u32) -> Result<Cause, AllocError> {
-    match model
-        .starts
-        .iter()
-        .find(|start| start.phase.offset == offset)
-    {
-        Some(start) => match start_fault(alloc, model, start.phase.number)? {
-            Some(fault) => faulting(alloc, fault),
-            None => Cause::of(alloc, "", ""),
-        },
-        None => Cause::of(alloc, "", ""),
+    for start in &model.starts {
+        if start.phase.offset == offset {
+            return match start_fault(alloc, model, start.phase.number)? {
+                Some(fault) => faulting(alloc, fault),
+                None => nothing_told(alloc),
+            };
+        }
     }
+    nothing_told(alloc)
 }
 
 /// The fault of the hold of a phase on the start values, if it has one.
@@ -71,10 +68,8 @@ fn faulting(alloc: Global, fault: Fault) -> Result<Cause, AllocError> {
         Some(explanation) => explanation.words,
         None => "",
     };
-    Ok(Cause {
-        summary: format!(in alloc;
-            "the hold of the start phase has the fault `{name}` on the start values"
-        )?,
-        sentences: format!(in alloc; "{words}\n")?,
-    })
+    let summary = format_args!(
+        "the hold of the start phase has the fault `{name}` on the start values"
+    );
+    told(alloc, summary, format_args!("{words}\n"))
 }

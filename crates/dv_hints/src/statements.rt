@@ -161,16 +161,18 @@ fn look_at_changed(
 
 /// Looks at the name of a loop's variable: of two equal names the second in the text is refused.
 fn look_at_loop_variable(known: &Known, around: &Around, variable: Name, search: &mut Search) {
-    let other = match around.loop_variable(variable.number) {
-        Some(outer) => Some(outer.offset),
-        None => known
-            .declared(variable.number)
-            .map(|declared| declared.offset),
-    };
-    if let Some(other) = other {
+    if let Some(other) = offset_of_other(known, around, variable) {
         let offset = other.max(variable.offset);
         let reason = Reason::LoopVariable { variable, other };
         search.note(RefusalNumber::E6, offset, reason);
+    }
+}
+
+/// The offset of what has the name of a loop's variable, too: a loop around it, or a declaration.
+fn offset_of_other(known: &Known, around: &Around, variable: Name) -> Option<u32> {
+    match around.loop_variable(variable.number) {
+        Some(outer) => Some(outer.offset),
+        None => Some(known.declared(variable.number)?.offset),
     }
 }
 

@@ -5,7 +5,7 @@ use dv_syntax::{Name, Operator, Prefix};
 use std::fmt;
 
 /// What takes the value of an expression.
-#[derive(Clone, Copy, PartialEq, Eq)]
+#[derive(Clone, Copy)]
 pub enum Taker {
     /// An operator before its operand
     Prefix(Prefix),

@@ -2,17 +2,19 @@
 
 use crate::around::Around;
 use crate::known::Known;
-use crate::lists::wanted_sentence;
-use crate::near::unknown_name;
+use crate::lists::WantedSentence;
+use crate::near::told_unknown;
 use crate::reading::{ReadText, position};
 use crate::reason::{Misplaced, Reason};
 use crate::sorts::{NameSort, Rule, name_of, sort_of};
 use crate::taker::{Taker, TypeWords};
+use crate::told::told;
 use crate::wanted::{Wanted, WantedWords};
 use dv_bag::{Discipline, ValueType};
 use dv_explain::{Cause, Quoted};
 use dv_syntax::{Atomic, Name};
 use std::alloc::{AllocError, Global};
+use std::fmt;
 
 /// The words on what is wrong in a model.
 ///
@@ -57,36 +59,44 @@ fn unknown(
 ) -> Result<Cause, AllocError> {
     let text = read.name(name.number);
     let names = names_in_reach(alloc, read, model, wanted, around)?;
-    let mut sentences = what_it_is(alloc, read, known, name, wanted, around)?;
+    let elsewhere = Elsewhere {
+        name: text,
+        sort: sort_elsewhere(known, name, wanted, around),
+    };
     let meant = foreign_value(text, wanted, around);
-    sentences.push_str(meant)?;
-    let wanted = wanted_here(alloc, read, wanted, around, &names)?;
-    sentences.push_str(wanted.as_str())?;
-    Ok(Cause {
-        summary: unknown_name(alloc, text, &names)?,
-        sentences,
-    })
+    let sentence = wanted_here(read, wanted, around, &names);
+    told_unknown(
+        alloc,
+        text,
+        &names,
+        format_args!("{elsewhere}{meant}{sentence}"),
+    )
 }
 
-/// A sentence on what an unknown name stands for elsewhere in its model, with a line feed, or nothing.
-fn what_it_is(
-    alloc: Global,
-    read: &ReadText,
-    known: &Known,
-    name: Name,
-    wanted: Wanted,
-    around: &Around,
-) -> Result<String, AllocError> {
-    let sort = if wanted == Wanted::Phase {
+/// What an unknown name stands for elsewhere in its model.
+fn sort_elsewhere(known: &Known, name: Name, wanted: Wanted, around: &Around) -> Option<NameSort> {
+    if wanted == Wanted::Phase {
         known.sort(around, name.number)
     } else if known.has_phase(name.number) {
         Some(NameSort::Phase)
     } else {
         None
-    };
-    match sort {
-        Some(sort) => format!(in alloc; "{} is {sort}.\n", Quoted(read.name(name.number))),
-        None => Ok(String::new(alloc)),
+    }
+}
+
+/// A sentence on what a name stands for elsewhere, with a line feed, or nothing.
+#[derive(Clone, Copy)]
+struct Elsewhere<'a> {
+    name: &'a str,
+    sort: Option<NameSort>,
+}
+
+impl fmt::Display for Elsewhere<'_> {
+    fn fmt<W: fmt::Write>(&self, f: &mut fmt::Formatter<W>) -> fmt::Result {
+        match self.sort {
+            Some(sort) => write!(f, "{} is {sort}.\n", Quoted(self.name)),
+            None => Ok(()),
+        }
     }
 }
 
@@ -122,73 +132,63 @@ fn other_sort(
     wanted: Wanted,
     around: &Around,
 ) -> Result<Cause, AllocError> {
-    let text = Quoted(read.name(name.number));
-    let wanted_words = words_of(read, wanted, around);
-    let mut sentences = meant_by(alloc, read.name(name.number), sort, wanted)?;
+    let text = read.name(name.number);
     let names = names_in_reach(alloc, read, model, wanted, around)?;
-    let wanted = wanted_here(alloc, read, wanted, around, &names)?;
-    sentences.push_str(wanted.as_str())?;
-    Ok(Cause {
-        summary: format!(in alloc; "{text} is {sort}, and not {wanted_words}")?,
-        sentences,
-    })
+    let meant = meant_by(sort, wanted).replace(alloc, "NAME", text)?;
+    let sentence = wanted_here(read, wanted, around, &names);
+    told(
+        alloc,
+        format_args!("{} is {sort}, and not {}", Quoted(text), sentence.wanted),
+        format_args!("{meant}{sentence}"),
+    )
 }
 
-/// A sentence on what to write with a name of this sort, with a line feed, or nothing.
-fn meant_by(
-    alloc: Global,
-    name: &str,
-    sort: NameSort,
-    wanted: Wanted,
-) -> Result<String, AllocError> {
+/// A sentence on what to write with a name of this sort, which is NAME in it, with a line feed, or nothing.
+fn meant_by(sort: NameSort, wanted: Wanted) -> &'static str {
     match (sort, wanted) {
-        (NameSort::Input, Wanted::Value) => format!(in alloc;
-            "What came to it is asked by `size({name})`, `sum({name})`, `least({name})`, `most({name})` or `times(1, {name})`.\n"
-        ),
-        (NameSort::Held(Discipline::Bag), Wanted::Value) => format!(in alloc;
-            "It is asked by `size({name})`, `sum({name})`, `least({name})`, `most({name})` or `times(1, {name})`.\n"
-        ),
-        (NameSort::Held(Discipline::Queue), Wanted::Value) => {
-            format!(in alloc; "It is asked by `size({name})` or `front({name})`.\n")
+        (NameSort::Input, Wanted::Value) => {
+            "What came to it is asked by `size(NAME)`, `sum(NAME)`, `least(NAME)`, `most(NAME)` or `times(1, NAME)`.\n"
         }
-        (NameSort::Output, Wanted::Value | Wanted::Assigned) => format!(in alloc;
-            "A value is sent by it with `send {name} 1;` in an output rule.\n"
-        ),
+        (NameSort::Held(Discipline::Bag), Wanted::Value) => {
+            "It is asked by `size(NAME)`, `sum(NAME)`, `least(NAME)`, `most(NAME)` or `times(1, NAME)`.\n"
+        }
+        (NameSort::Held(Discipline::Queue), Wanted::Value) => {
+            "It is asked by `size(NAME)` or `front(NAME)`.\n"
+        }
+        (NameSort::Output, Wanted::Value | Wanted::Assigned) => {
+            "A value is sent by it with `send NAME 1;` in an output rule.\n"
+        }
         (NameSort::Input, Wanted::Assigned) => {
-            String::from_str(
-                alloc,
-                "Nothing is assigned to it: values come to it by links.\n",
-            )
+            "Nothing is assigned to it: values come to it by links.\n"
         }
         (NameSort::Held(Discipline::Bag), Wanted::Assigned | Wanted::Changed(_)) => {
-            format!(in alloc; "It is changed by `add 1 to {name};` and `drop 1 from {name};`.\n")
+            "It is changed by `add 1 to NAME;` and `drop 1 from NAME;`.\n"
         }
         (NameSort::Held(Discipline::Queue), Wanted::Assigned | Wanted::Changed(_)) => {
-            format!(in alloc; "It is changed by `push 1 to {name};` and `pop {name};`.\n")
+            "It is changed by `push 1 to NAME;` and `pop NAME;`.\n"
         }
         (NameSort::Variable, Wanted::Changed(_)) => {
-            format!(in alloc; "A variable is changed by `{name} := {name} + 1;`.\n")
+            "A variable is changed by `NAME := NAME + 1;`.\n"
         }
-        _ => Ok(String::new(alloc)),
+        _ => "",
     }
 }
 
 /// The sentence on what is wanted of a name, with those in reach.
-fn wanted_here(
-    alloc: Global,
+fn wanted_here<'a>(
     read: &ReadText,
     wanted: Wanted,
     around: &Around,
-    names: &[&str],
-) -> Result<String, AllocError> {
-    wanted_sentence(alloc, words_of(read, wanted, around), "the model", names)
-}
-
-fn words_of(read: &ReadText, wanted: Wanted, around: &Around) -> WantedWords {
-    WantedWords {
-        wanted,
-        sees_inputs: around.sees_inputs(),
-        knows_queues: read.knows_queues,
+    names: &'a [&'a str],
+) -> WantedSentence<'a, WantedWords> {
+    WantedSentence {
+        wanted: WantedWords {
+            wanted,
+            sees_inputs: around.sees_inputs(),
+            knows_queues: read.knows_queues,
+        },
+        owner: "the model",
+        names,
     }
 }
 
@@ -251,18 +251,25 @@ fn other_type(
 ) -> Result<Cause, AllocError> {
     let wanted = TypeWords(taker.takes());
     let found = TypeWords(found);
-    let summary = match taker {
-        Taker::Variable(name) | Taker::Flag(name) => format!(in alloc;
-            "found {found}, and {} takes {wanted}",
-            Quoted(read.name(name.number))
-        )?,
-        Taker::Equality(_) => format!(in alloc; "found {found}, and before the sign {wanted}")?,
-        _ => format!(in alloc; "found {found}, wanted {wanted}")?,
-    };
-    Ok(Cause {
-        summary,
-        sentences: String::from_str(alloc, taker.words())?,
-    })
+    let rule = taker.words();
+    match taker {
+        Taker::Variable(name) | Taker::Flag(name) => {
+            let name = Quoted(read.name(name.number));
+            told(
+                alloc,
+                format_args!("found {found}, and {name} takes {wanted}"),
+                rule,
+            )
+        }
+        Taker::Equality(_) => {
+            told(
+                alloc,
+                format_args!("found {found}, and before the sign {wanted}"),
+                rule,
+            )
+        }
+        _ => told(alloc, format_args!("found {found}, wanted {wanted}"), rule),
+    }
 }
 
 /// The words on what is not allowed where it stands.
@@ -273,52 +280,43 @@ fn misplaced(
     around: &Around,
 ) -> Result<Cause, AllocError> {
     let rule = Rule(around.rule);
-    let summary = match what {
-        Misplaced::Change(word) => format!(in alloc; "`{word}` in {rule}")?,
-        Misplaced::Send(_) => format!(in alloc; "`send` in {rule}")?,
-        Misplaced::LoopVariable(name) => format!(in alloc;
-            "{} is the variable of a loop",
-            Quoted(read.name(name.number))
-        )?,
-        Misplaced::Elapsed => format!(in alloc; "`elapsed` in {rule}")?,
-        Misplaced::Input(port) => format!(in alloc;
-            "the input port {} in {rule}",
-            Quoted(read.name(port.number))
-        )?,
-    };
-    Ok(Cause {
-        summary,
-        sentences: right_offset(alloc, read, what, around)?,
-    })
-}
-
-/// A sentence with a line feed on where it may stand.
-fn right_offset(
-    alloc: Global,
-    read: &ReadText,
-    what: Misplaced,
-    around: &Around,
-) -> Result<String, AllocError> {
     let phase = read.name(around.phase.number);
     match what {
-        Misplaced::Change(_) => format!(in alloc;
-            "An output rule only sends. What changes stands in other rules, as in `internal {phase}`, which runs after it at the same time.\n"
-        ),
-        Misplaced::Send(port) => format!(in alloc;
-            "Sends stand in output rules: `output {phase} {{ send {} 1; }}` runs when the hold of {} ends. To send at once, go to a phase whose hold is 0.\n",
-            read.name(port.number),
-            Quoted(phase)
-        ),
-        Misplaced::LoopVariable(_) => String::from_str(
+        Misplaced::Change(word) => told(
             alloc,
+            format_args!("`{word}` in {rule}"),
+            format_args!(
+                "An output rule only sends. What changes stands in other rules, as in `internal {phase}`, which runs after it at the same time.\n"
+            ),
+        ),
+        Misplaced::Send(port) => told(
+            alloc,
+            format_args!("`send` in {rule}"),
+            format_args!(
+                "Sends stand in output rules: `output {phase} {{ send {} 1; }}` runs when the hold of {} ends. To send at once, go to a phase whose hold is 0.\n",
+                read.name(port.number),
+                Quoted(phase)
+            ),
+        ),
+        Misplaced::LoopVariable(name) => told(
+            alloc,
+            format_args!(
+                "{} is the variable of a loop",
+                Quoted(read.name(name.number))
+            ),
             "Nothing is assigned to it: declare a variable for what has to stay.\n",
         ),
-        Misplaced::Elapsed => String::from_str(
+        Misplaced::Elapsed => told(
             alloc,
+            format_args!("`elapsed` in {rule}"),
             "It is known in external rules alone: keep it there in a variable.\n",
         ),
-        Misplaced::Input(_) => String::from_str(
+        Misplaced::Input(port) => told(
             alloc,
+            format_args!(
+                "the input port {} in {rule}",
+                Quoted(read.name(port.number))
+            ),
             "What came is known in external and confluent rules: keep it there in a variable or a bag.\n",
         ),
     }
@@ -334,24 +332,17 @@ fn loop_variable(
     other: u32,
 ) -> Result<Cause, AllocError> {
     let name = Quoted(read.name(variable.number));
+    let first = other.min(variable.offset);
     let sort = match known.declared(variable.number) {
-        Some(declared) if declared.offset == other => declared.sort,
+        Some(declared) if declared.offset == first => declared.sort,
         _ => NameSort::LoopVariable,
     };
-    let first = other.min(variable.offset);
-    let first_sort = if first == other {
-        sort
-    } else {
-        NameSort::LoopVariable
-    };
-    Ok(Cause {
-        summary: format!(in alloc;
-            "{name} is declared twice, first as {first_sort} at {}",
+    told(
+        alloc,
+        format_args!(
+            "{name} is declared twice, first as {sort} at {}",
             position(text, first)
-        )?,
-        sentences: String::from_str(
-            alloc,
-            "The variable of a loop has a name of its own; loops side by side may have the same.\n",
-        )?,
-    })
+        ),
+        "The variable of a loop has a name of its own; loops side by side may have the same.\n",
+    )
 }
