@@ -2,16 +2,10 @@
 use Rattle.std.specs.Prelude.{◌≡◌, ℕ, ◌≤◌, List, [], ◌∷◌, ◌++◌, Option}
 use Rattle.std.specs.Io.KnownBytes.{Appends}
 use Rattle.dv_time.specs.Time.{IsOfRun, end_of, rank}
-use Rattle.dv_bag.specs.Part.{PartOf, nothing}
+use Rattle.dv_bag.specs.Part.{nothing}
 use Rattle.dv_conservative.specs.Flat.{whole}
 use Rattle.dv_conservative.specs.World.{Job}
-use Rattle.dv_core.specs.Conservative.{state_by}
-use Rattle.dv_core.specs.ProcessState.{ProcessState}
-use Rattle.dv_devs.specs.Behaviour.{Behaviour}
 use Rattle.dv_devs.specs.Network.{trace_before}
-use Rattle.dv_local.specs.States.{view_by}
-use Rattle.dv_local.specs.declared.state.LocalState.{LocalState}
-use Rattle.dv_proc.specs.declared.process.Process.{Process}
 use Rattle.dv_record.specs.Told.{Handed}
 use Rattle.dv_written.specs.Faults.{has_fault}
 use Rattle.dv_stream.specs.Written.{lines_before}
@@ -20,13 +14,6 @@ use Rattle.dv_text.specs.Names.{tree_names, tree_ports}
 use Rattle.dv_text.specs.Texts.{part_text}
 use Rattle.dv_text.specs.Writing.{AppendsBeginning}
 use Rattle.dv_tree.specs.Tables.{Source}
-
--- what a process is to the world, and what its record has handed over
-abbrev pub seen_by : {S X W R : Type 0} → (S → Behaviour) → (X → PartOf) → Process (LocalState S X) W R → ProcessState
-seen_by behaviour told p = state_by (view_by behaviour told) p
-
-abbrev pub handed_in : {S X W R : Type 0} → (X → Handed) → Process (LocalState S X) W R → Handed
-handed_in handed p = handed p.local.record
 
 -- of a record that writes parts with the names of a tree, a text was handed over
 abbrev pub by_tree : Source → List ℕ → Handed

@@ -1,37 +1,33 @@
 //! One process on one thread, whose record is its text: what it told is written between rounds, and let go.
 
-ghost use Rattle.std.specs.Prelude.{◌≡◌, ◌↔◌, ◌<◌, ◌∷◌, [], List, IfOk, IsTrue, OnErr, length, map};
+ghost use Rattle.std.specs.Prelude.{◌≡◌, ◌↔◌, ◌<◌, ◌∷◌, ℕ, [], List, IfOk, IsTrue, OnErr, length, map};
 ghost use Rattle.dv_bag.specs.Bag.{Counts};
 ghost use Rattle.dv_bag.specs.Part.{nothing};
 ghost use Rattle.dv_board.specs.Jobs.{IsMergeable};
+ghost use Rattle.dv_conservative.specs.World.{new_world};
 ghost use Rattle.dv_core.specs.declared.step.Ended.TheVariants.{Stalled};
 ghost use Rattle.dv_core.specs.Worlds.{EndsAs, IsTrueToModel, kept_by, shown};
 ghost use Rattle.dv_plan.specs.Beginning.{CanRun};
 ghost use Rattle.dv_plan.specs.Clocks.{least_time};
-ghost use Rattle.dv_stream.specs.Alone.{Breaks, Continues, HasHandedTo, by_tree, handed_in, seen_by};
+ghost use Rattle.dv_stream.specs.Alone.{Breaks, Continues, HasHandedTo, by_tree};
 ghost use Rattle.dv_stream.specs.Endings.{HasRunInRounds};
 ghost use Rattle.dv_stream.specs.Written.{IsBegun, IsWrittenTo};
 
-use crate::clocks::clocks_of;
-use crate::ran::{Ran, ran_in_rounds};
+use crate::ran::{Ran, ran_in_world};
 use crate::rounds::{Bounds, is_stalled};
 use crate::written::Written;
 use dv_bag::Bags;
 use dv_core::{Ended, LogicalProcess, PlannedJob, World};
 use dv_lines::KnowsFaults;
-use dv_local::LocalRun;
+use dv_plan::Plan;
 use dv_plan::alone::world_alone;
-use dv_plan::{Committed, Plan};
-use dv_proc::Process;
 use dv_react::Atomic;
 use dv_record::Record;
 use dv_text::laws::a_trace_is_its_instants;
 use dv_text::{WriteError, hand_over};
 use dv_tree::Tree;
+use std::alloc::Global;
 use std::io::Write;
-
-// A world of one process that tells its text.
-type TextWorld<J, A, R> = World<J, Process<LocalRun<A, R>>>;
 
 // What was told is written after each batch of this many rounds at most, so that a reader waits no longer than the rounds take.
 const ROUNDS_BETWEEN: u64 = 64;
@@ -40,30 +36,26 @@ const ROUNDS_BETWEEN: u64 = 64;
 const MANY_BYTES: usize = 65_536;
 
 // Writes what the one process of a job has told and is not written yet, and lets go of it.
-fn write_told<J: PlannedJob, A: Atomic + Drop, R: KnowsFaults, W: Write>(
-    world: &mut TextWorld<J, A, R>,
+fn write_told<J: PlannedJob, R: KnowsFaults, P: LogicalProcess<Record = R>, W: Write>(
+    world: &mut World<J, P>,
     tree: &Tree<'_>,
     before: Written,
     writer: &mut W,
 ) -> Result<Written, WriteError>
     requires merges { IsMergeable (J.means world.old.job) }
     requires alone { (J.means world.old.job).processes ≡ 1 }
-    requires true_to_model { IsTrueToModel (J.means world.old.job)
-        (kept_by (seen_by A.behaviour R.told) world.old) }
+    requires true_to_model { IsTrueToModel (J.means world.old.job) (kept_by P.state world.old) }
     requires handed { HasHandedTo (J.means world.old.job) tree.now before
-        (map (handed_in R.handed) world.old.processes.items) }
+        (map P.handed world.old.processes.items) }
     ensures job { world.new.job ≡ world.old.job }
-    ensures shown { shown J.means (seen_by A.behaviour R.told) world.new
-        ≡ shown J.means (seen_by A.behaviour R.told) world.old }
-    ensures true_to_model { IsTrueToModel (J.means world.new.job)
-        (kept_by (seen_by A.behaviour R.told) world.new) }
+    ensures shown { shown J.means P.state world.new ≡ shown J.means P.state world.old }
+    ensures true_to_model { IsTrueToModel (J.means world.new.job) (kept_by P.state world.new) }
     ensures ok { IfOk result (Continues (J.means world.old.job) tree.now
         (W.contents writer.old) (W.contents writer.new) before) }
     ensures handed { IfOk result (λ after. HasHandedTo (J.means world.old.job) tree.now after
-        (map (handed_in R.handed) world.new.processes.items)) }
+        (map P.handed world.new.processes.items)) }
     ensures least { IfOk result (λ after. after.mark
-        ≡ least_time (map (λ x. (seen_by A.behaviour R.told x).position.clock)
-        world.new.processes.items)) }
+        ≡ least_time (map (λ x. (P.state x).position.clock) world.new.processes.items)) }
     ensures err { OnErr result (Breaks (J.means world.old.job) tree.now
         (W.contents writer.old) (W.contents writer.new) before) }
 {
@@ -95,9 +87,9 @@ fn rounds_at_once<J: PlannedJob, P: LogicalProcess>(world: &World<J, P>, rounds:
 }
 
 // So many rounds, and then what is new of the text is written. Returns with it how many rounds the next batch has.
-fn advance_alone<J: PlannedJob, A: Atomic + Drop, R: KnowsFaults, W: Write>(
-    world: &mut TextWorld<J, A, R>,
-    work: &mut A::Work,
+fn advance_alone<J: PlannedJob, R: KnowsFaults, P: LogicalProcess<Record = R>, W: Write>(
+    world: &mut World<J, P>,
+    work: &mut P::Work,
     rounds: u64,
     tree: &Tree<'_>,
     before: Written,
@@ -106,21 +98,18 @@ fn advance_alone<J: PlannedJob, A: Atomic + Drop, R: KnowsFaults, W: Write>(
     requires merges { IsMergeable (J.means world.old.job) }
     requires alone { (J.means world.old.job).processes ≡ 1 }
     requires handed { HasHandedTo (J.means world.old.job) tree.now before
-        (map (handed_in R.handed) world.old.processes.items) }
+        (map P.handed world.old.processes.items) }
     ensures job { world.new.job ≡ world.old.job }
     ensures rounds { IfOk result (λ r. EndsAs (J.means world.old.job) rounds r.0
-        (shown J.means (seen_by A.behaviour R.told) world.old)
-        (shown J.means (seen_by A.behaviour R.told) world.new)) }
+        (shown J.means P.state world.old) (shown J.means P.state world.new)) }
     ensures some { IfOk result (λ r. 0 < r.2) }
-    ensures true_to_model { IsTrueToModel (J.means world.new.job)
-        (kept_by (seen_by A.behaviour R.told) world.new) }
+    ensures true_to_model { IsTrueToModel (J.means world.new.job) (kept_by P.state world.new) }
     ensures ok { IfOk result (λ r. Continues (J.means world.old.job) tree.now
         (W.contents writer.old) (W.contents writer.new) before r.1) }
     ensures handed { IfOk result (λ r. HasHandedTo (J.means world.old.job) tree.now r.1
-        (map (handed_in R.handed) world.new.processes.items)) }
+        (map P.handed world.new.processes.items)) }
     ensures least { IfOk result (λ r. r.1.mark
-        ≡ least_time (map (λ x. (seen_by A.behaviour R.told x).position.clock)
-        world.new.processes.items)) }
+        ≡ least_time (map (λ x. (P.state x).position.clock) world.new.processes.items)) }
     ensures err { OnErr result (Breaks (J.means world.old.job) tree.now
         (W.contents writer.old) (W.contents writer.new) before) }
 {
@@ -131,28 +120,24 @@ fn advance_alone<J: PlannedJob, A: Atomic + Drop, R: KnowsFaults, W: Write>(
 }
 
 // Rounds of the one process of a world, so many at most; what it tells is written meanwhile.
-fn stream_process<J: PlannedJob, A: Atomic + Drop, R: KnowsFaults, W: Write>(
-    world: &mut TextWorld<J, A, R>,
-    work: &mut A::Work,
+fn stream_process<J: PlannedJob, R: KnowsFaults, P: LogicalProcess<Record = R>, W: Write>(
+    world: &mut World<J, P>,
+    work: &mut P::Work,
     rounds: u64,
     tree: &Tree<'_>,
     writer: &mut W,
 ) -> Result<(Ended, Written), WriteError>
     requires merges { IsMergeable (J.means world.old.job) }
     requires alone { (J.means world.old.job).processes ≡ 1 }
-    requires handed { map (handed_in R.handed) world.old.processes.items
-        ≡ by_tree tree.now [] ∷ [] }
+    requires handed { map P.handed world.old.processes.items ≡ by_tree tree.now [] ∷ [] }
     ensures job { world.new.job ≡ world.old.job }
     ensures rounds { IfOk result (λ r. EndsAs (J.means world.old.job) rounds r.0
-        (shown J.means (seen_by A.behaviour R.told) world.old)
-        (shown J.means (seen_by A.behaviour R.told) world.new)) }
-    ensures true_to_model { IsTrueToModel (J.means world.new.job)
-        (kept_by (seen_by A.behaviour R.told) world.new) }
+        (shown J.means P.state world.old) (shown J.means P.state world.new)) }
+    ensures true_to_model { IsTrueToModel (J.means world.new.job) (kept_by P.state world.new) }
     ensures written { IfOk result (λ r. IsWrittenTo (J.means world.old.job) tree.now
         (W.contents writer.old) (W.contents writer.new) r.1) }
     ensures least { IfOk result (λ r. r.1.mark
-        ≡ least_time (map (λ x. (seen_by A.behaviour R.told x).position.clock)
-        world.new.processes.items)) }
+        ≡ least_time (map (λ x. (P.state x).position.clock) world.new.processes.items)) }
     ensures err { OnErr result (IsBegun (J.means world.old.job) tree.now
         (W.contents writer.old) (W.contents writer.new)) }
 {
@@ -171,6 +156,31 @@ fn stream_process<J: PlannedJob, A: Atomic + Drop, R: KnowsFaults, W: Write>(
         left -= batch;
     }
     Ok((ended, written))
+}
+
+// Runs the one process of a new world, in rounds, so many at most, and writes what it tells meanwhile.
+fn run_process<J: PlannedJob, R: KnowsFaults, P: LogicalProcess<Record = R>, W: Write>(
+    alloc: Global,
+    world: &mut World<J, P>,
+    work: &mut P::Work,
+    rounds: u64,
+    tree: &Tree<'_>,
+    writer: &mut W,
+) -> Result<Ran, WriteError>
+    requires merges { IsMergeable (J.means world.old.job) }
+    requires alone { (J.means world.old.job).processes ≡ 1 }
+    requires handed { map P.handed world.old.processes.items ≡ by_tree tree.now [] ∷ [] }
+    ensures run { (capacity : ℕ) → shown J.means P.state world.old ≡ new_world capacity
+        → IfOk result (HasRunInRounds (J.means world.old.job) capacity rounds) }
+    ensures written { IfOk result (λ r. IsWrittenTo (J.means world.old.job) tree.now
+        (W.contents writer.old) (W.contents writer.new) r.written) }
+    ensures least { IfOk result (λ r. r.written.mark ≡ least_time r.clocks.items) }
+    ensures err { OnErr result (IsBegun (J.means world.old.job) tree.now
+        (W.contents writer.old) (W.contents writer.new)) }
+{
+    let (ended, written) = stream_process(world, work, rounds, tree, writer)?;
+    let ran = ran_in_world(alloc, world, ended, written)?;
+    Ok(ran)
 }
 
 /// Runs the one process of a plan from its start, in rounds within these bounds, and writes the lines of the trace before its clock
@@ -206,8 +216,5 @@ pub fn stream_alone<J: PlannedJob, A: Atomic + Drop, R: KnowsFaults, W: Write>(
 {
     let alloc = *plan.shares.allocator();
     let mut world = world_alone(alloc, job, plan, to, bounds.capacity)?;
-    let (ended, written) = stream_process(&mut world, work, bounds.rounds, tree, writer)?;
-    let clocks = clocks_of(alloc, world.processes())?;
-    let committed = Committed { clocks, ended };
-    Ok(ran_in_rounds(committed, written))
+    run_process(alloc, &mut world, work, bounds.rounds, tree, writer)
 }

@@ -1,23 +1,27 @@
 //! The pieces of all processes, merged and written.
 
-ghost use Rattle.std.specs.Prelude.{◌≡◌, ◌≤◌, IfOk, OnErr};
+ghost use Rattle.std.specs.Prelude.{◌≡◌, ◌<◌, ◌≤◌, IfOk, OnErr, replicate};
+ghost use Rattle.dv_bag.specs.declared.entry.Entry.{Entry as MeantEntry};
 ghost use Rattle.dv_time.specs.Time.{IsOfRun, end_of, rank};
 ghost use Rattle.dv_board.specs.Clocks.{IsNoLater};
-ghost use Rattle.dv_board.specs.Jobs.{trace};
+ghost use Rattle.dv_board.specs.Jobs.{IsMergeable, trace};
+ghost use Rattle.dv_conservative.specs.Process.{first_time};
+ghost use Rattle.dv_lines.specs.Entries.{line_of};
 ghost use Rattle.dv_merge.specs.Whole.{ArePartsOf};
 ghost use Rattle.dv_stream.specs.Written.{Falters, GoesOn};
+ghost use Rattle.dv_text.specs.Names.{tree_names};
 
 use crate::written::{Written, write_piece};
 use dv_bag::Bags;
 use dv_board::Backlog;
 use dv_core::PlannedJob;
-use dv_lines::TraceWriter;
+use dv_lines::{TraceWriter, TreeWords};
 use dv_merge::{PartRefs, merge};
 use dv_text::WriteError;
 use dv_text::laws::a_trace_is_its_pieces;
 use dv_time::Time;
 use dv_written::OfJob;
-use std::alloc::Global;
+use std::alloc::{AllocError, Global};
 use std::io::Write;
 
 /// What merges the pieces of all processes and writes them.
@@ -29,6 +33,30 @@ pub struct Merger<'t, N: OfJob> {
     pub backlog: Backlog<N>,
     /// What makes the lines.
     pub lines: TraceWriter<'t, N>,
+}
+
+impl<'t, N: OfJob> Merger<'t, N> {
+    /// With nothing joined and nothing written yet, of so many processes, and the words of the tree that these words are of.
+    ///
+    /// # Errors
+    ///
+    /// No memory for the list of the processes, or for the words.
+    pub fn new(alloc: Global, processes: u32, words: &TreeWords<'t>) -> Result<Self, AllocError>
+        requires lines { (e : MeantEntry) → line_of (tree_names words.now) e ≡ N.line e }
+        requires processes { processes ≡ N.job.processes }
+        requires some { 0 < processes }
+        requires merges { IsMergeable N.job }
+        ensures tree { IfOk result (λ merger. merger.lines ≡ words.now) }
+        ensures mark { IfOk result (λ merger. merger.backlog.mark ≡ first_time) }
+        ensures clocks { IfOk result (λ merger.
+            merger.backlog.clocks ≡ replicate processes first_time) }
+    {
+        Ok(Merger {
+            alloc,
+            backlog: Backlog::new(alloc, processes)?,
+            lines: TraceWriter::new(alloc, words)?,
+        })
+    }
 }
 
 /// Writes what the trace of a job has from what was written on and before another mark. The pieces are what each process

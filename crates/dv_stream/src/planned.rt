@@ -121,27 +121,19 @@ where
     ensures err { OnErr result (IsBegun (J.means job.now) words.now
         (W.contents writer.old) (W.contents writer.new)) }
 {
-    let Workers {
-        works,
-        capacity,
-        watch,
-    } = workers;
     let records: WrittenRecords<'w, N> = words.records();
-    let crew = begin_crew::<N, J, A, WrittenRecord<'w, N>, WrittenRecords<'w, N>>(
-        alloc, job, plan, works, capacity, &records,
-    )?;
-    let gate = Watched { watch };
-    stream_begun::<N, J, A, WrittenRecord<'w, N>, G, R, W>(
-        rt, alloc, job, crew, &gate, words, writer,
+    stream_with_records::<N, J, A, WrittenRecord<'w, N>, WrittenRecords<'w, N>, G, R, W>(
+        rt, alloc, job, plan, workers, &records, words, writer,
     )
 }
 
-// Runs a crew of the processes of a plan, whose records are of any kind.
-fn stream_begun<
+// Runs the processes of a plan, each with a record that is made for it.
+fn stream_with_records<
     N: OfJob + Send + Sync,
     J: PlannedJob,
     A: Atomic + Drop + Send,
     K: HandsOver<N> + Send,
+    M: MakesRecord<K>,
     G: Watch,
     R: Threads + Wait + Sync,
     W: Write,
@@ -149,8 +141,9 @@ fn stream_begun<
     rt: &R,
     alloc: Global,
     job: &J,
-    crew: Crew<Process<LocalRun<A, K>>, A::Work>,
-    gate: &Watched<'_, G>,
+    plan: Plan<A>,
+    workers: Workers<'_, A::Work, G>,
+    records: &M,
     words: &TreeWords,
     writer: &mut W,
 ) -> Result<RanByWorkers<G::Cause>, WriteError>
@@ -158,19 +151,27 @@ where
     A::Work: Send + Drop,
     requires job { N.job ≡ J.means job.now }
     requires lines { (e : MeantEntry) → line_of (tree_names words.now) e ≡ N.line e }
-    requires crew { IsCrewFor (J.means job.now) (state_by (view_by A.behaviour K.told))
-        (λ p. K.handed p.local.record)
-        (IsConservative (view_by A.behaviour K.told) (settled_by A.behaviour K.settled)) crew }
+    requires comes { (a : A) (bags : List Counts) → A.comes a bags }
+    requires run { CanRun J.means A.behaviour A.fits job.now plan }
     requires merges { IsMergeable (J.means job.now) }
     requires some { 0 < (J.means job.now).processes }
+    requires workers { 0 < length workers.works.items }
+    requires capacity { 0 < workers.capacity }
     ensures run { IfOk result (HasRunByWorkers (J.means job.now)) }
     ensures written { IfOk result (λ w. IsWrittenTo (J.means job.now) words.now
         (W.contents writer.old) (W.contents writer.new) w.ran.written) }
     ensures err { OnErr result (IsBegun (J.means job.now) words.now
         (W.contents writer.old) (W.contents writer.new)) }
 {
+    let Workers {
+        works,
+        capacity,
+        watch,
+    } = workers;
+    let crew = begin_crew::<N, J, A, K, M>(alloc, job, plan, works, capacity, records)?;
+    let gate = Watched { watch };
     stream_watched::<N, J, Process<LocalRun<A, K>>, G, R, W>(
-        rt, alloc, job, crew, gate, words, writer,
+        rt, alloc, job, crew, &gate, words, writer,
     )
 }
 

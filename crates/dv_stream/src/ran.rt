@@ -1,12 +1,16 @@
 //! What ran, and how it ended.
 
-ghost use Rattle.std.specs.Prelude.{◌≡◌};
-ghost use Rattle.dv_stream.specs.Endings.{by_rounds};
+ghost use Rattle.std.specs.Prelude.{◌≡◌, ℕ, IfOk, map};
+ghost use Rattle.dv_conservative.specs.World.{new_world};
+ghost use Rattle.dv_core.specs.Worlds.{EndsAs, IsTrueToModel, kept_by, shown};
+ghost use Rattle.dv_stream.specs.Endings.{HasRunInRounds, by_rounds};
 
+use crate::clocks::clocks_of;
 use crate::written::Written;
-use dv_core::Ended;
+use dv_core::{Ended, LogicalProcess, PlannedJob, World};
 use dv_plan::Committed;
 use dv_time::Time;
+use std::alloc::{AllocError, Global};
 
 /// How a run ended.
 #[derive(Clone, Copy, PartialEq, Eq)]
@@ -66,4 +70,27 @@ pub fn ran_in_rounds(committed: Committed, written: Written) -> Ran
         ended,
         written,
     }
+}
+
+/// What ran in rounds in a world, by how they ended and what was written.
+///
+/// # Errors
+///
+/// No memory for the clocks.
+pub(crate) fn ran_in_world<J: PlannedJob, P: LogicalProcess>(
+    alloc: Global,
+    world: &World<J, P>,
+    ended: Ended,
+    written: Written,
+) -> Result<Ran, AllocError>
+    requires { IsTrueToModel (J.means world.now.job) (kept_by P.state world.now) }
+    ensures run { (capacity rounds : ℕ) → EndsAs (J.means world.now.job) rounds ended
+        (new_world capacity) (shown J.means P.state world.now)
+        → IfOk result (HasRunInRounds (J.means world.now.job) capacity rounds) }
+    ensures clocks { IfOk result (λ r. r.clocks.items
+        ≡ map (λ x. (P.state x).position.clock) world.now.processes.items) }
+    ensures written { IfOk result (λ r. r.written ≡ written) }
+{
+    let clocks = clocks_of(alloc, world.processes())?;
+    Ok(ran_in_rounds(Committed { clocks, ended }, written))
 }

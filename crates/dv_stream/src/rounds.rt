@@ -1,6 +1,6 @@
 //! Rounds on one thread; between them the trace is written.
 
-ghost use Rattle.std.specs.Prelude.{◌≡◌, ◌↔◌, ◌<◌, ◌≤◌, List, IfOk, IsTrue, OnErr, OnOk, map, replicate, set, slice_get, Some};
+ghost use Rattle.std.specs.Prelude.{◌≡◌, ◌↔◌, ◌<◌, ◌≤◌, ℕ, List, IfOk, IsTrue, OnErr, OnOk, map, replicate, set, slice_get, Some};
 ghost use Rattle.std.specs.List.{All};
 ghost use Rattle.dv_bag.specs.Bag.{Counts};
 ghost use Rattle.dv_bag.specs.Part.{nothing};
@@ -8,6 +8,7 @@ ghost use Rattle.dv_bag.specs.declared.entry.Entry.{Entry as MeantEntry};
 ghost use Rattle.dv_board.specs.Clocks.{IsLeast};
 ghost use Rattle.dv_board.specs.Jobs.{IsMergeable};
 ghost use Rattle.dv_conservative.specs.Process.{first_time};
+ghost use Rattle.dv_conservative.specs.World.{new_world};
 ghost use Rattle.dv_core.specs.declared.step.Ended.TheVariants.{Stalled};
 ghost use Rattle.dv_core.specs.Worlds.{EndsAs, IsTrueToModel, kept_by, shown};
 ghost use Rattle.dv_lines.specs.Entries.{line_of};
@@ -20,17 +21,16 @@ ghost use Rattle.dv_text.specs.Names.{tree_names};
 ghost use Rattle.dv_time.specs.Time.{end_of, rank};
 
 use crate::alone::stream_alone;
-use crate::clocks::clocks_of;
 use crate::merged::{Merger, write_merged};
-use crate::ran::{Ran, ran_in_rounds};
+use crate::ran::{Ran, ran_in_world};
 use crate::written::Written;
 use dv_bag::Bags;
 use dv_board::{Backlog, Piece};
 use dv_core::{Ended, LogicalProcess, PlannedJob, ProcessHandsOver, World};
-use dv_lines::{TextRecord, TraceWriter, TreeWords, WrittenRecord, WrittenRecords};
+use dv_lines::{TextRecord, TreeWords, WrittenRecord, WrittenRecords};
 use dv_local::LocalRun;
+use dv_plan::Plan;
 use dv_plan::worlds::world_of;
-use dv_plan::{Committed, Plan};
 use dv_proc::Process;
 use dv_react::Atomic;
 use dv_text::WriteError;
@@ -232,6 +232,36 @@ fn stream_rounds<N: OfJob, J: PlannedJob, P: ProcessHandsOver<N>, W: Write>(
     Ok((ended, written))
 }
 
+// Runs the processes of a new world, in rounds, so many at most, and writes the trace meanwhile.
+fn run_processes<N: OfJob, J: PlannedJob, P: ProcessHandsOver<N>, W: Write>(
+    alloc: Global,
+    world: &mut World<J, P>,
+    work: &mut P::Work,
+    processes: u32,
+    rounds: u64,
+    words: &TreeWords<'_>,
+    writer: &mut W,
+) -> Result<Ran, WriteError>
+    requires job { N.job ≡ J.means world.old.job }
+    requires lines { (e : MeantEntry) → line_of (tree_names words.now) e ≡ N.line e }
+    requires processes { processes ≡ N.job.processes }
+    requires some { 0 < processes }
+    requires merges { IsMergeable N.job }
+    requires kept { All (λ x. (P.handed x).past ≡ nothing) world.old.processes.items }
+    ensures run { (capacity : ℕ) → shown J.means P.state world.old ≡ new_world capacity
+        → IfOk result (HasRunInRounds (J.means world.old.job) capacity rounds) }
+    ensures written { IfOk result (λ r. IsWrittenTo (J.means world.old.job) words.now
+        (W.contents writer.old) (W.contents writer.new) r.written) }
+    ensures least { IfOk result (λ r. r.written.mark ≡ least_time r.clocks.items) }
+    ensures err { OnErr result (IsBegun (J.means world.old.job) words.now
+        (W.contents writer.old) (W.contents writer.new)) }
+{
+    let mut merger = Merger::new(alloc, processes, words)?;
+    let (ended, written) = stream_rounds(world, work, &mut merger, processes, rounds, writer)?;
+    let ran = ran_in_world(alloc, world, ended, written)?;
+    Ok(ran)
+}
+
 /// Runs the processes of a plan from their start, in rounds within these bounds, and writes the lines of the trace before the
 /// least clock while they run. Where memory is refused to a turn or to a packet the last round is cut; what was committed before
 /// is what ran, and is written. What was written is let go.
@@ -329,23 +359,14 @@ fn stream_several<
 {
     let alloc = *plan.shares.allocator();
     let processes = plan.shares.len() as u32;
-    let backlog: Backlog<N> = Backlog::new(alloc, processes)?;
-    let lines = TraceWriter::new(alloc, words)?;
-    let mut merger = Merger {
-        alloc,
-        backlog,
-        lines,
-    };
     let mut world = world_of::<J, A, K, M>(alloc, job, plan, records, bounds.capacity)?;
-    let (ended, written) = stream_rounds::<N, J, Process<LocalRun<A, K>>, W>(
+    run_processes::<N, J, Process<LocalRun<A, K>>, W>(
+        alloc,
         &mut world,
         work,
-        &mut merger,
         processes,
         bounds.rounds,
+        words,
         writer,
-    )?;
-    let clocks = clocks_of(alloc, world.processes())?;
-    let committed = Committed { clocks, ended };
-    Ok(ran_in_rounds(committed, written))
+    )
 }

@@ -9,7 +9,7 @@ ghost use Rattle.dv_stream.specs.Workers.{IsReportOf};
 ghost use Rattle.dv_stream.specs.Written.{IsBegun, IsWrittenTo};
 ghost use Rattle.dv_text.specs.Names.{tree_names};
 ghost use Rattle.dv_time.specs.Limits.{greatest_tick};
-ghost use Rattle.dv_time.specs.Time.{end_of, rank};
+ghost use Rattle.dv_time.specs.Time.{IsOfRun, end_of, rank};
 ghost use Rattle.dv_tree.specs.Tables.{Source};
 ghost use Rattle.dv_work.specs.Crews.{IsCrewFor};
 
@@ -20,13 +20,12 @@ use crate::rest::{Left, all_are, clocks_at, ended_as, write_rest};
 use crate::watch::{Watch, Watched};
 use crate::written::Written;
 use dv_bag::Bags;
-use dv_board::Backlog;
 use dv_core::{PlannedJob, ProcessHandsOver};
-use dv_lines::{TraceWriter, TreeWords};
+use dv_lines::TreeWords;
 use dv_text::WriteError;
 use dv_text::laws::a_trace_is_its_pieces;
 use dv_time::Time;
-use dv_work::{Crew, Gate, Report, run_streamed};
+use dv_work::{Crew, Ended, Gate, Report, run_streamed};
 use dv_written::OfJob;
 use std::alloc::{AllocError, Global};
 use std::io::Write;
@@ -267,32 +266,77 @@ where
     ensures err { OnErr result (IsBegun (J.means job.now) words.now
         (W.contents writer.old) (W.contents writer.new)) }
 {
-    // Lines are continued by those of the next piece.
-    a_trace_is_its_pieces::<Bags>();
     let processes = crew.processes.len() as u32;
-    let backlog: Backlog<N> = Backlog::new(alloc, processes)?;
+    let mut merger: Merger<'_, N> = Merger::new(alloc, processes, words)?;
     let signals: Signals<N> = Signals::new(
         alloc,
         processes,
         crew.works.len(),
         words.tree().component_count(),
     )?;
-    let lines = TraceWriter::new(alloc, words)?;
-    let mut merger = Merger {
-        alloc,
-        backlog,
-        lines,
-    };
+    run_and_write_rest(rt, job, crew, gate, &signals, &mut merger, writer)
+}
+
+// The same, with what its threads share and what writes the trace.
+fn run_and_write_rest<
+    N: OfJob + Send + Sync,
+    J: PlannedJob,
+    P: ProcessHandsOver<N> + Send,
+    G: Gate<P>,
+    R: Threads + Wait + Sync,
+    W: Write,
+>(
+    rt: &R,
+    job: &J,
+    crew: Crew<P, P::Work>,
+    gate: &G,
+    signals: &Signals<N>,
+    merger: &mut Merger<'_, N>,
+    writer: &mut W,
+) -> Result<RanByWorkers<G::Cause>, WriteError>
+where
+    P::Work: Send + Drop,
+    P::Record: Send,
+    requires job { N.job ≡ J.means job.now }
+    requires crew { IsCrewFor N.job P.state P.handed P.valid crew }
+    requires bells { length crew.works.items ≤ length signals.now.bells.items }
+    requires some { 0 < N.job.processes }
+    ensures run { IfOk result (HasRunByWorkers N.job) }
+    ensures written { IfOk result (λ w. IsWrittenTo N.job merger.old.lines
+        (W.contents writer.old) (W.contents writer.new) w.ran.written) }
+    ensures err { OnErr result (IsBegun N.job merger.old.lines
+        (W.contents writer.old) (W.contents writer.new)) }
+{
+    // Lines are continued by those of the next piece.
+    a_trace_is_its_pieces::<Bags>();
     let until: Until<N> = Until {
         tick: job.horizon(),
         of: PhantomData,
     };
     let crewed = CrewedJob { job: until, crew };
-    let (written, report) = run_and_write(rt, alloc, crewed, gate, &signals, &mut merger, writer);
+    let (written, report) = run_and_write(rt, merger.alloc, crewed, gate, signals, merger, writer);
     let written = written?;
     let Left { rest, ended } = report?;
-    let written = write_rest(rt, &signals.board, &mut merger, rest, written, writer)?;
-    let kept = merger.backlog.clocks(alloc)?;
+    let written = write_rest(rt, &signals.board, merger, rest, written, writer)?;
+    let ran = ran_by_workers(job, merger, ended, written)?;
+    Ok(ran)
+}
+
+// What ran by workers, by how their run ended, what is joined of it and what was written.
+fn ran_by_workers<N: OfJob, J: PlannedJob, C: Drop>(
+    job: &J,
+    merger: &Merger<'_, N>,
+    ended: Ended<C>,
+    written: Written,
+) -> Result<RanByWorkers<C>, AllocError>
+    requires job { N.job ≡ J.means job.now }
+    requires some { 0 < N.job.processes }
+    requires of_run { IsOfRun N.job.limit written.mark }
+    requires within { rank N.job.limit written.mark ≤ end_of N.job.limit N.job.horizon }
+    ensures run { IfOk result (HasRunByWorkers N.job) }
+    ensures written { IfOk result (λ r. r.ran.written ≡ written) }
+{
+    let kept = merger.backlog.clocks(merger.alloc)?;
     let clocks = clocks_at(kept, written.mark);
     let end = Time {
         tick: job.horizon() + 1,

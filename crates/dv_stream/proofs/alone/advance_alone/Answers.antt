@@ -3,7 +3,7 @@ use Rattle.dv_board.specs.Jobs.{IsMergeable}
 use Rattle.dv_conservative.specs.World.{World}
 use Rattle.dv_core.specs.Worlds.{EndsAs, shown}
 use Rattle.dv_text.proofs.Taking.{OnErr-always}
-use Rattle.dv_stream.specs.Alone.{Breaks, Continues, HasHandedTo, handed_in, seen_by}
+use Rattle.dv_stream.specs.Alone.{Breaks, Continues, HasHandedTo}
 use Rattle.dv_stream.proofs.alone.advance_alone.Goals as goal
 
 pub write_told-requires-clause-merges : goal.write_told-requires-clause-merges
@@ -14,7 +14,7 @@ pub write_told-requires-clause-handed : goal.write_told-requires-clause-handed
 write_told-requires-clause-handed g c =
     let means = g.J.PlannedJob.means in
     subst (λ j. HasHandedTo (means j) c.args.tree.now c.args.before
-    (map (handed_in g.R.Record.handed) c.serial-ended.new.self.processes.items)) (sym c.serial-ended.ensures.job)
+    (map g.P.LogicalProcess.handed c.serial-ended.new.self.processes.items)) (sym c.serial-ended.ensures.job)
     (c.serial-ended.ensures.handed ∙ c.requires.handed)
 
 pub returns-in_err-written-clause-err : goal.returns-in_err-written-clause-err
@@ -25,7 +25,7 @@ returns-in_err-written-clause-err g c =
 pub returns-clause-rounds : goal.returns-clause-rounds
 returns-clause-rounds g c =
     let means = g.J.PlannedJob.means in
-    let state = seen_by g.A.Atomic.behaviour g.R.Record.told in
+    let state = g.P.LogicalProcess.state in
     subst (λ (v : World). EndsAs (means c.args.world.now.job) c.args.rounds c.serial-ended.result (shown means state c.args.world.now) v)
     (sym c.write_told.ensures.shown) c.serial-ended.ensures.rounds
 
@@ -38,4 +38,4 @@ returns-clause-ok g c =
 pub returns-clause-handed : goal.returns-clause-handed
 returns-clause-handed g c =
     subst (λ j. HasHandedTo (g.J.PlannedJob.means j) c.args.tree.now c.in_ok-written.written
-    (map (handed_in g.R.Record.handed) c.write_told.new.world.processes.items)) c.serial-ended.ensures.job c.in_ok-written.ensures.handed
+    (map g.P.LogicalProcess.handed c.write_told.new.world.processes.items)) c.serial-ended.ensures.job c.in_ok-written.ensures.handed

@@ -4,7 +4,7 @@ use Rattle.dv_core.specs.Worlds.{EndsAs, shown}
 use Rattle.dv_core.specs.declared.step.Ended.{Ended}
 use Rattle.dv_core.specs.declared.step.Ended.TheVariants as ended
 use Rattle.dv_text.proofs.Taking.{OnErr-always}
-use Rattle.dv_stream.specs.Alone.{Breaks, Continues, HasHandedTo, by_tree, handed_in, seen_by}
+use Rattle.dv_stream.specs.Alone.{Breaks, Continues, HasHandedTo, by_tree}
 use Rattle.dv_stream.specs.Written.{lines_before}
 use Rattle.dv_stream.specs.declared.written.Written.{Written}
 use Rattle.dv_stream.proofs.Telling.{broken_off, first_rank, nothing_yet, written_on}
@@ -32,7 +32,7 @@ returns-in_err-ended-clause-err g c =
 pub loop-left-init : goal.loop-left-init
 loop-left-init g c =
     let means = g.J.PlannedJob.means in
-    let state = seen_by g.A.Atomic.behaviour g.R.Record.told in
+    let state = g.P.LogicalProcess.state in
     let contents = g.W.Write.contents in
     let job = means c.args.world.now.job in
     let tree = c.args.tree.now in
@@ -71,7 +71,7 @@ returns-in_err-ended-2-clause-err g c =
 pub loop-left-preserved : goal.loop-left-preserved
 loop-left-preserved g c =
     let means = g.J.PlannedJob.means in
-    let state = seen_by g.A.Atomic.behaviour g.R.Record.told in
+    let state = g.P.LogicalProcess.state in
     let contents = g.W.Write.contents in
     let job = means c.args.world.now.job in
     let tree = c.args.tree.now in
@@ -103,7 +103,7 @@ loop-left-preserved g c =
       true_to_model = next.ensures.true_to_model;
       handed =
           subst (λ j. HasHandedTo (means j) tree next.field-0-1
-          (map (handed_in g.R.Record.handed) c.advance_alone-in-loop-left.new.world.processes.items)) at.same next.ensures.handed;
+          (map g.P.LogicalProcess.handed c.advance_alone-in-loop-left.new.world.processes.items)) at.same next.ensures.handed;
       written =
           written_on job tree {a = start} {b = was} {c = now} c.loop-left.written at.written next.field-0-1
           (subst (λ j. Continues (means j) tree was now c.loop-left.written next.field-0-1) at.same next.ensures.ok);

@@ -4,7 +4,7 @@ use Rattle.dv_time.specs.Time.{IsOfRun, rank}
 use Rattle.dv_record.specs.Told.{Handed}
 use Rattle.dv_plan.specs.Clocks.{least_time}
 use Rattle.dv_text.proofs.Taking.{AppendsBeginning-short, OnErr-always}
-use Rattle.dv_stream.specs.Alone.{Breaks, by_tree, handed_in, seen_by}
+use Rattle.dv_stream.specs.Alone.{Breaks, by_tree}
 use Rattle.dv_written.specs.Faults.{has_fault}
 use Rattle.dv_stream.specs.Written.{lines_before}
 use Rattle.dv_stream.proofs.Telling.{fault_told, its_handed, its_of_run, its_within, lines_handed, lines_told, only_one, same_clocks}
@@ -15,7 +15,7 @@ use Rattle.dv_stream.proofs.alone.write_told.Goals as goal
 pub returns-in_err-hand_over-clause-err : goal.returns-in_err-hand_over-clause-err
 returns-in_err-hand_over-clause-err g c =
     let means = g.J.PlannedJob.means in
-    let state = seen_by g.A.Atomic.behaviour g.R.Record.told in
+    let state = g.P.LogicalProcess.state in
     let w = c.args.world.now in
     let job = means w.job in
     let tree = c.args.tree.now in
@@ -26,7 +26,7 @@ returns-in_err-hand_over-clause-err g c =
     let n = rank job.limit (state x).position.clock in
     let r = c.record-told.result.now in
     let part = c.record-told.ensures.told ∙ told_part means state w x at true c.requires.merges c.requires.alone in
-    let h = c.record-told.ensures.handed ∙ its_handed means state w x at true (handed_in g.R.Record.handed) (by_tree tree text)
+    let h = c.record-told.ensures.handed ∙ its_handed means state w x at true g.P.LogicalProcess.handed (by_tree tree text)
     c.requires.handed in
     let broken : Breaks job tree (g.W.Write.contents c.args.writer.now) (g.W.Write.contents c.hand_over.new.writer) c.args.before
     = record {
@@ -41,19 +41,19 @@ returns-in_err-hand_over-clause-err g c =
 
 pub returns-clause-shown : goal.returns-clause-shown
 returns-clause-shown g c =
-    same_shown g.J.PlannedJob.means (seen_by g.A.Atomic.behaviour g.R.Record.told) c.args.world.now c.let_go.new.self
+    same_shown g.J.PlannedJob.means g.P.LogicalProcess.state c.args.world.now c.let_go.new.self
     c.let_go.ensures.job c.let_go.ensures.kept
 
 pub returns-clause-true_to_model : goal.returns-clause-true_to_model
 returns-clause-true_to_model g c =
-    still_true g.J.PlannedJob.means (seen_by g.A.Atomic.behaviour g.R.Record.told) c.args.world.now c.let_go.new.self
+    still_true g.J.PlannedJob.means g.P.LogicalProcess.state c.args.world.now c.let_go.new.self
     c.let_go.ensures.job c.let_go.ensures.kept
     c.requires.true_to_model
 
 pub returns-clause-ok : goal.returns-clause-ok
 returns-clause-ok g c =
     let means = g.J.PlannedJob.means in
-    let state = seen_by g.A.Atomic.behaviour g.R.Record.told in
+    let state = g.P.LogicalProcess.state in
     let w = c.args.world.now in
     let job = means w.job in
     let tree = c.args.tree.now in
@@ -66,7 +66,7 @@ returns-clause-ok g c =
     let same : n ≡ rank job.limit mark = ap (rank job.limit) (sym c.clock-mark.ensures) in
     let r = c.record-told.result.now in
     let part = c.record-told.ensures.told ∙ told_part means state w x at true c.requires.merges c.requires.alone in
-    let h = c.record-told.ensures.handed ∙ its_handed means state w x at true (handed_in g.R.Record.handed) (by_tree tree text)
+    let h = c.record-told.ensures.handed ∙ its_handed means state w x at true g.P.LogicalProcess.handed (by_tree tree text)
     c.requires.handed in
     record {
       of_run = subst (IsOfRun job.limit) (sym c.clock-mark.ensures) (its_of_run means state w x at true);
@@ -85,7 +85,7 @@ returns-clause-ok g c =
 pub returns-clause-handed : goal.returns-clause-handed
 returns-clause-handed g c =
     let means = g.J.PlannedJob.means in
-    let state = seen_by g.A.Atomic.behaviour g.R.Record.told in
+    let state = g.P.LogicalProcess.state in
     let w = c.args.world.now in
     let job = means w.job in
     let tree = c.args.tree.now in
@@ -94,20 +94,20 @@ returns-clause-handed g c =
     let true = c.requires.true_to_model in
     let text = lines_before job tree (rank job.limit c.args.before.mark) in
     let n = rank job.limit (state x).position.clock in
-    let h = g.R.Record.handed x.local.record in
+    let h = g.P.LogicalProcess.handed x in
     let part = told_part means state w x at true c.requires.merges c.requires.alone in
     let now : Handed = record h { text = h.text_of (state x).part } in
     c.let_go.ensures.handed x at
     ∙ ap (λ (hs : List Handed). set hs 0 now) c.requires.handed
     ∙ ap (λ (k : Handed). k ∷ [])
     (lines_handed c.a_trace_is_its_instants.ensures.lines job tree h text (state x).part n
-    (its_handed means state w x at true (handed_in g.R.Record.handed) (by_tree tree text) c.requires.handed) part
+    (its_handed means state w x at true g.P.LogicalProcess.handed (by_tree tree text) c.requires.handed) part
     ∙ ap (λ m. by_tree tree (lines_before job tree m)) (ap (rank job.limit) (sym c.clock-mark.ensures)))
 
 pub returns-clause-least : goal.returns-clause-least
 returns-clause-least g c =
     let means = g.J.PlannedJob.means in
-    let state = seen_by g.A.Atomic.behaviour g.R.Record.told in
+    let state = g.P.LogicalProcess.state in
     let w = c.args.world.now in
     let x = c.process-process.result.now in
     let at = c.process-process.ensures.process in

@@ -1,6 +1,6 @@
 use Rattle.dv_text.proofs.Taking.{OnErr-always}
 use Rattle.dv_stream.proofs.Writing.{not_begun}
-use Rattle.dv_stream.proofs.planned.stream_with_words.Goals as goal
+use Rattle.dv_stream.proofs.planned.stream_with_records.Goals as goal
 
 pub returns-in_err-crew-clause-err : goal.returns-in_err-crew-clause-err
 returns-in_err-crew-clause-err g c =
