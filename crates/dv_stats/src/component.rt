@@ -8,7 +8,7 @@ use crate::span::{Side, Span};
 use crate::tally::{PortTallies, tallies_of};
 use crate::variable::VariableCount;
 use dv_bag::{Fault, Kind};
-use dv_eval::Scope;
+use dv_eval::{Domain, Scope};
 use dv_time::Time;
 use dv_trace::{Datum, EntryHead, Event, LineLists, Sending};
 use std::alloc::{AllocError, Global};
@@ -84,16 +84,12 @@ impl ComponentCount {
         span: Span,
         has_tallies: bool,
     ) -> Result<Self, AllocError> {
-        let mut variables = Vec::with_capacity(alloc, scope.domains().len())?;
-        for domain in scope.domains() {
-            variables.push(VariableCount::new(*domain, span.from))?;
-        }
         let mut count = ComponentCount {
             transitions: Transitions::NONE,
             fault: None,
             phases: vec![in alloc; PhaseCount::NOTHING; scope.phases().len()]?,
             faulted: 0,
-            variables,
+            variables: variables_of(alloc, scope.domains(), span.from)?,
             ports: vec![in alloc; PortCount::NOTHING; scope.output_count()]?,
             tallies: tallies_of(alloc, scope.output_count(), has_tallies)?,
             phase: phase as usize,
@@ -196,6 +192,18 @@ impl ComponentCount {
             count.visits = visits;
         }
     }
+}
+
+// Variables at the start of the model. The span begins at a tick.
+fn variables_of(
+    alloc: Global,
+    domains: &[Domain],
+    from: u64,
+) -> Result<Vec<VariableCount>, AllocError> {
+    domains
+        .iter()
+        .map(|domain| VariableCount::new(*domain, from))
+        .collect(alloc)
 }
 
 fn stand_all(variables: &mut [VariableCount], state: &[Datum<'_>], from: u64) {

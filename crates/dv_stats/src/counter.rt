@@ -2,10 +2,12 @@
 
 use crate::counts::Counts;
 use crate::error::StatsError;
+use crate::listing::write_counts;
 use crate::options::StatsOptions;
-use dv_trace::{End, LineLists, Reach, TakeLine, TraceReader};
+use dv_trace::{LineLists, Reach, TakeLine, TraceReader};
 use dv_tree::Tree;
 use std::alloc::{AllocError, Global};
+use std::io::Write;
 
 /// Reads the lines of a trace and counts what they say. Without quantiles it takes the same memory for any number of lines.
 #[derive(Drop)]
@@ -30,12 +32,18 @@ impl<'t> Counter<'t> {
         }))
     }
 
-    /// What was counted, and how far the trace reaches that ends behind the last line.
-    pub(crate) fn end(self, end: End) -> Result<(Counts, Reach), StatsError> {
-        let Counter { reader, mut counts } = self;
-        let reach = reader.end(end)?;
-        counts.finish();
-        Ok((counts, reach))
+    /// Writes what was counted, and tells how far the trace reaches that ends behind the last line.
+    pub(crate) fn end<W: Write>(
+        &mut self,
+        alloc: Global,
+        tree: &'t Tree<'t>,
+        options: &StatsOptions<'_>,
+        writer: &mut W,
+    ) -> Result<Reach, StatsError> {
+        let reach = self.reader.end(options.end)?;
+        self.counts.finish();
+        write_counts(alloc, tree, &self.counts, options, writer)?;
+        Ok(reach)
     }
 }
 

@@ -10,6 +10,8 @@
 //! fault of the program.
 #![tactic(auto)]
 
+/// The values of rows.
+mod cell;
 /// What is counted of a component.
 mod component;
 /// Counts a trace line by line.
@@ -30,10 +32,6 @@ pub mod options;
 mod output;
 /// What is counted of the values that a port sends.
 mod port;
-/// The rows of quantiles and of histograms.
-mod quantiles;
-/// Means, rates and shares as text.
-mod ratio;
 /// The rows of what was counted.
 mod rows;
 /// Sections of rows.

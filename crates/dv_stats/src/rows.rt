@@ -1,276 +1,223 @@
 //! The rows of what was counted.
 
+use crate::cell::Cell;
 use crate::component::ComponentCount;
-use crate::names::{output_name, path_of, phase_name, port_name, variable_name};
+use crate::counts::Counts;
+use crate::histogram::bins_of;
+use crate::names::{name_at, output_name};
 use crate::output::{Instants, OutputCount};
 use crate::port::PortCount;
-use crate::ratio::ratio_text;
-use crate::section::{Kind, Row, Section};
+use crate::section::{Kind, Named, Sample, Section};
 use crate::summary::{Extremes, Summary};
+use crate::tally::{PortTallies, Tally};
+use dv_eval::Scope;
 use dv_tree::Tree;
 use std::alloc::{AllocError, Global};
-use std::fmt::Display;
 
-/// One more value of a row.
-pub(crate) fn push_text(
-    alloc: Global,
-    values: &mut Vec<String>,
-    value: impl Display + Drop,
-) -> Result<(), AllocError> {
-    values.push(format!(in alloc; "{value}")?)?;
-    Ok(())
+/// A component whose rows are made.
+#[derive(Clone, Copy)]
+struct Subject<'t, 'c> {
+    path: &'t [u32],
+    scope: &'t Scope,
+    count: &'c ComponentCount,
 }
 
-/// One more value of a row, which is empty where it is not there.
-pub(crate) fn push_where_there(
-    alloc: Global,
-    values: &mut Vec<String>,
-    value: Option<i64>,
-) -> Result<(), AllocError> {
-    match value {
-        Some(value) => push_text(alloc, values, value),
-        None => push_text(alloc, values, ""),
-    }
-}
-
-fn push_extremes(
-    alloc: Global,
-    values: &mut Vec<String>,
-    extremes: Option<Extremes>,
-) -> Result<(), AllocError> {
-    push_where_there(alloc, values, extremes.map(|extremes| extremes.least))?;
-    push_where_there(alloc, values, extremes.map(|extremes| extremes.greatest))
-}
-
-/// The transitions and the fault of each component.
-pub(crate) fn component_rows<'t>(
+/// The section of a kind. Where no quantiles are wanted, the sections of samples have no rows.
+pub(crate) fn section_of<'t>(
     alloc: Global,
     tree: &'t Tree<'t>,
-    counts: &[Option<ComponentCount>],
+    counts: &Counts,
+    kind: Kind,
 ) -> Result<Section<'t>, AllocError> {
-    let mut rows = Vec::new(alloc);
-    for (component, count) in counts.iter().enumerate() {
-        if let Some(count) = count {
-            rows.push(Row {
-                component: path_of(tree, component),
-                name: "",
-                values: transition_values(alloc, count)?,
-            })?;
+    let mut section = Section {
+        alloc,
+        tree,
+        kind,
+        rows: Vec::new(alloc),
+    };
+    match kind.named() {
+        Named::ByName => section.add_outputs(counts)?,
+        Named::ByComponent | Named::ByBoth => section.add_components(counts)?,
+    }
+    Ok(section)
+}
+
+impl<'t> Section<'t> {
+    fn add_components(&mut self, counts: &Counts) -> Result<(), AllocError> {
+        let tree = self.tree;
+        for (component, count) in counts.components.iter().enumerate() {
+            if let Some(count) = count
+                && component < tree.component_count()
+            {
+                let subject = Subject {
+                    path: tree.path(component),
+                    scope: tree.scope(component),
+                    count,
+                };
+                self.add_component(subject, counts.span.ticks())?;
+            }
+        }
+        Ok(())
+    }
+
+    fn add_component(&mut self, of: Subject<'t, '_>, ticks: u64) -> Result<(), AllocError> {
+        match self.kind {
+            Kind::Component => self.push(of.path, "", &transition_cells(of.count)),
+            Kind::Phase => self.add_phases(of, ticks),
+            Kind::Variable => self.add_variables(of, ticks),
+            Kind::Port | Kind::Output => self.add_ports(of),
+            Kind::Quantiles(sample) | Kind::Bins(sample) => self.add_tallies(of, sample),
         }
     }
-    Ok(Section {
-        tree,
-        kind: Kind::Component,
-        rows,
-    })
-}
 
-fn transition_values(alloc: Global, count: &ComponentCount) -> Result<Vec<String>, AllocError> {
-    let mut values = Vec::new(alloc);
-    push_text(alloc, &mut values, count.transitions.internal)?;
-    push_text(alloc, &mut values, count.transitions.external)?;
-    push_text(alloc, &mut values, count.transitions.confluent)?;
-    if let Some((fault, time)) = count.fault {
-        push_text(alloc, &mut values, fault)?;
-        push_text(alloc, &mut values, time)?;
-    } else {
-        push_text(alloc, &mut values, "")?;
-        push_text(alloc, &mut values, "")?;
-    }
-    Ok(values)
-}
-
-/// The visits of each component to each phase, and its ticks in it, of so many ticks.
-pub(crate) fn phase_rows<'t>(
-    alloc: Global,
-    tree: &'t Tree<'t>,
-    counts: &[Option<ComponentCount>],
-    ticks: u64,
-) -> Result<Section<'t>, AllocError> {
-    let mut rows = Vec::new(alloc);
-    for (component, count) in counts.iter().enumerate() {
-        if let Some(count) = count {
-            add_phases(alloc, tree, component, count, ticks, &mut rows)?;
+    // The phases of a component, and what comes behind a fault. A colon stands in no name of a phase.
+    fn add_phases(&mut self, of: Subject<'t, '_>, all: u64) -> Result<(), AllocError> {
+        for (index, phase) in of.count.phases.iter().enumerate() {
+            let name = name_at(self.tree, of.scope.phases(), index);
+            self.push(of.path, name, &phase_cells(phase.visits, phase.ticks, all))?;
         }
-    }
-    Ok(Section {
-        tree,
-        kind: Kind::Phase,
-        rows,
-    })
-}
-
-// The phases of a component, and what comes behind a fault. A colon stands in no name of a phase.
-fn add_phases<'t>(
-    alloc: Global,
-    tree: &'t Tree<'t>,
-    component: usize,
-    count: &ComponentCount,
-    ticks: u64,
-    rows: &mut Vec<Row<'t>>,
-) -> Result<(), AllocError> {
-    for (index, phase) in count.phases.iter().enumerate() {
-        rows.push(Row {
-            component: path_of(tree, component),
-            name: phase_name(tree, component, index),
-            values: phase_values(alloc, phase.visits, phase.ticks, ticks)?,
-        })?;
-    }
-    if count.fault.is_some() {
-        rows.push(Row {
-            component: path_of(tree, component),
-            name: "fault:",
-            values: phase_values(alloc, 1, count.faulted, ticks)?,
-        })?;
-    }
-    Ok(())
-}
-
-fn phase_values(
-    alloc: Global,
-    visits: u64,
-    ticks: u64,
-    all: u64,
-) -> Result<Vec<String>, AllocError> {
-    let mut values = Vec::new(alloc);
-    push_text(alloc, &mut values, visits)?;
-    push_text(alloc, &mut values, ticks)?;
-    values.push(ratio_text(alloc, Some(i128::from(ticks)), all)?)?;
-    Ok(values)
-}
-
-/// What the variables of each component held in so many ticks, or up to the component's fault.
-pub(crate) fn variable_rows<'t>(
-    alloc: Global,
-    tree: &'t Tree<'t>,
-    counts: &[Option<ComponentCount>],
-    ticks: u64,
-) -> Result<Section<'t>, AllocError> {
-    let mut rows = Vec::new(alloc);
-    for (component, count) in counts.iter().enumerate() {
-        if let Some(count) = count {
-            let ticks = ticks.saturating_sub(count.faulted);
-            add_variables(alloc, tree, component, count, ticks, &mut rows)?;
+        if of.count.fault.is_some() {
+            self.push(of.path, "fault:", &phase_cells(1, of.count.faulted, all))?;
         }
+        Ok(())
     }
-    Ok(Section {
-        tree,
-        kind: Kind::Variable,
-        rows,
-    })
-}
 
-fn add_variables<'t>(
-    alloc: Global,
-    tree: &'t Tree<'t>,
-    component: usize,
-    count: &ComponentCount,
-    ticks: u64,
-    rows: &mut Vec<Row<'t>>,
-) -> Result<(), AllocError> {
-    for (index, variable) in count.variables.iter().enumerate() {
-        rows.push(Row {
-            component: path_of(tree, component),
-            name: variable_name(tree, component, index),
-            values: held_values(alloc, variable.held, ticks)?,
-        })?;
-    }
-    Ok(())
-}
-
-fn held_values(alloc: Global, held: Summary, ticks: u64) -> Result<Vec<String>, AllocError> {
-    let mut values = Vec::new(alloc);
-    push_extremes(alloc, &mut values, held.extremes)?;
-    values.push(ratio_text(alloc, held.sum, ticks)?)?;
-    Ok(values)
-}
-
-/// What the ports of each component sent.
-pub(crate) fn port_rows<'t>(
-    alloc: Global,
-    tree: &'t Tree<'t>,
-    counts: &[Option<ComponentCount>],
-) -> Result<Section<'t>, AllocError> {
-    let mut rows = Vec::new(alloc);
-    for (component, count) in counts.iter().enumerate() {
-        if let Some(count) = count {
-            add_ports(alloc, tree, component, count, &mut rows)?;
+    // What the variables of a component held in so many ticks, or up to the component's fault.
+    fn add_variables(&mut self, of: Subject<'t, '_>, all: u64) -> Result<(), AllocError> {
+        let ticks = all.saturating_sub(of.count.faulted);
+        for (index, variable) in of.count.variables.iter().enumerate() {
+            let name = name_at(self.tree, of.scope.variables(), index);
+            self.push(of.path, name, &held_cells(variable.held, ticks))?;
         }
+        Ok(())
     }
-    Ok(Section {
-        tree,
-        kind: Kind::Port,
-        rows,
-    })
+
+    fn add_ports(&mut self, of: Subject<'t, '_>) -> Result<(), AllocError> {
+        for (index, port) in of.count.ports.iter().enumerate() {
+            let name = name_at(self.tree, of.scope.outputs(), index);
+            self.push(of.path, name, &port_cells(*port))?;
+        }
+        Ok(())
+    }
+
+    fn add_tallies(&mut self, of: Subject<'t, '_>, sample: Sample) -> Result<(), AllocError> {
+        for (index, tallies) in of.count.tallies.iter().enumerate() {
+            let name = name_at(self.tree, of.scope.outputs(), index);
+            self.add_sample(of.path, name, sample, tallies)?;
+        }
+        Ok(())
+    }
+
+    fn add_outputs(&mut self, counts: &Counts) -> Result<(), AllocError> {
+        match self.kind {
+            Kind::Quantiles(sample) | Kind::Bins(sample) => {
+                for (port, tallies) in counts.tallies.iter().enumerate() {
+                    self.add_sample(&[], output_name(self.tree, port), sample, tallies)?;
+                }
+            }
+            Kind::Component | Kind::Phase | Kind::Variable | Kind::Port | Kind::Output => {
+                for (port, count) in counts.outputs.iter().enumerate() {
+                    let cells = output_cells(*count, counts.span.ticks());
+                    self.push(&[], output_name(self.tree, port), &cells)?;
+                }
+            }
+        }
+        Ok(())
+    }
+
+    // The quantiles of a sample of a port, or its bins.
+    fn add_sample(
+        &mut self,
+        component: &'t [u32],
+        name: &'t str,
+        sample: Sample,
+        tallies: &PortTallies,
+    ) -> Result<(), AllocError> {
+        let tally = sample.tally_of(tallies);
+        if let Kind::Quantiles(_) = self.kind {
+            return self.push(component, name, &quantile_cells(tally));
+        }
+        for bin in &bins_of(self.alloc, tally)? {
+            let cells = [
+                Cell::Number(bin.least),
+                Cell::Number(bin.greatest),
+                Cell::count(bin.count),
+            ];
+            self.push(component, name, &cells)?;
+        }
+        Ok(())
+    }
 }
 
-fn add_ports<'t>(
-    alloc: Global,
-    tree: &'t Tree<'t>,
-    component: usize,
-    count: &ComponentCount,
-    rows: &mut Vec<Row<'t>>,
-) -> Result<(), AllocError> {
-    for (index, port) in count.ports.iter().enumerate() {
-        rows.push(Row {
-            component: path_of(tree, component),
-            name: port_name(tree, component, index),
-            values: port_values(alloc, *port)?,
-        })?;
-    }
-    Ok(())
+fn transition_cells(count: &ComponentCount) -> [Cell; 5] {
+    let (fault, time) = match count.fault {
+        Some((fault, time)) => (Cell::Fault(fault), Cell::Time(time)),
+        None => (Cell::Nothing, Cell::Nothing),
+    };
+    [
+        Cell::count(count.transitions.internal),
+        Cell::count(count.transitions.external),
+        Cell::count(count.transitions.confluent),
+        fault,
+        time,
+    ]
 }
 
-fn port_values(alloc: Global, port: PortCount) -> Result<Vec<String>, AllocError> {
-    let mut values = Vec::new(alloc);
-    push_text(alloc, &mut values, port.instants)?;
-    push_text(alloc, &mut values, port.values)?;
-    push_extremes(alloc, &mut values, port.sent.extremes)?;
-    match port.sent.sum {
-        Some(sum) => push_text(alloc, &mut values, sum)?,
-        None => push_text(alloc, &mut values, "overflow")?,
-    }
-    values.push(ratio_text(alloc, port.sent.sum, port.values)?)?;
-    Ok(values)
+fn phase_cells(visits: u64, ticks: u64, all: u64) -> [Cell; 3] {
+    [
+        Cell::count(visits),
+        Cell::count(ticks),
+        Cell::ratio(Some(i128::from(ticks)), all),
+    ]
 }
 
-/// What left by the root's outputs in so many ticks.
-pub(crate) fn output_rows<'t>(
-    alloc: Global,
-    tree: &'t Tree<'t>,
-    counts: &[OutputCount],
-    ticks: u64,
-) -> Result<Section<'t>, AllocError> {
-    let mut rows = Vec::new(alloc);
-    for (port, count) in counts.iter().enumerate() {
-        rows.push(Row {
-            component: &[],
-            name: output_name(tree, port),
-            values: output_values(alloc, *count, ticks)?,
-        })?;
+fn extreme_cells(extremes: Option<Extremes>) -> (Cell, Cell) {
+    match extremes {
+        Some(Extremes { least, greatest }) => {
+            (Cell::number(Some(least)), Cell::number(Some(greatest)))
+        }
+        None => (Cell::Nothing, Cell::Nothing),
     }
-    Ok(Section {
-        tree,
-        kind: Kind::Output,
-        rows,
-    })
 }
 
-fn output_values(alloc: Global, count: OutputCount, ticks: u64) -> Result<Vec<String>, AllocError> {
-    let mut values = port_values(alloc, count.port)?;
-    values.push(ratio_text(alloc, Some(i128::from(count.port.values)), ticks)?)?;
-    add_gaps(alloc, count.instants, count.port.instants, &mut values)?;
-    Ok(values)
+fn held_cells(held: Summary, ticks: u64) -> [Cell; 3] {
+    let (least, greatest) = extreme_cells(held.extremes);
+    [least, greatest, Cell::ratio(held.sum, ticks)]
+}
+
+fn port_cells(port: PortCount) -> [Cell; 6] {
+    let (least, greatest) = extreme_cells(port.sent.extremes);
+    [
+        Cell::count(port.instants),
+        Cell::count(port.values),
+        least,
+        greatest,
+        Cell::sum(port.sent.sum),
+        Cell::ratio(port.sent.sum, port.values),
+    ]
+}
+
+// What left by an output of the root in so many ticks.
+fn output_cells(count: OutputCount, ticks: u64) -> [Cell; 10] {
+    let [instants, values, least, greatest, sum, mean] = port_cells(count.port);
+    let [gap_least, gap_mean, gap_greatest] = gap_cells(count.instants, count.port.instants);
+    [
+        instants,
+        values,
+        least,
+        greatest,
+        sum,
+        mean,
+        Cell::ratio(Some(i128::from(count.port.values)), ticks),
+        gap_least,
+        gap_mean,
+        gap_greatest,
+    ]
 }
 
 // The least, the mean and the greatest number of ticks between one instant and the next. All of them together are the ticks from
 // the first instant to the last one.
-fn add_gaps(
-    alloc: Global,
-    instants: Option<Instants>,
-    count: u64,
-    values: &mut Vec<String>,
-) -> Result<(), AllocError> {
+fn gap_cells(instants: Option<Instants>, count: u64) -> [Cell; 3] {
     match instants {
         Some(
             Instants {
@@ -280,15 +227,26 @@ fn add_gaps(
             },
         ) => {
             let sum = i128::from(last.saturating_sub(first));
-            push_text(alloc, values, least)?;
-            values.push(ratio_text(alloc, Some(sum), count.saturating_sub(1))?)?;
-            push_text(alloc, values, greatest)
+            [
+                Cell::count(least),
+                Cell::ratio(Some(sum), count.saturating_sub(1)),
+                Cell::count(greatest),
+            ]
         }
-        Some(_) | None => {
-            for _gap in 0..3 {
-                push_text(alloc, values, "")?;
-            }
-            Ok(())
-        }
+        Some(_) | None => [Cell::Nothing; 3],
     }
+}
+
+// How many values there are, the least, the quantiles, and the greatest.
+fn quantile_cells(tally: &Tally) -> [Cell; 8] {
+    [
+        Cell::count(tally.count),
+        Cell::number(tally.least()),
+        Cell::number(tally.quantile(25)),
+        Cell::number(tally.quantile(50)),
+        Cell::number(tally.quantile(75)),
+        Cell::number(tally.quantile(90)),
+        Cell::number(tally.quantile(99)),
+        Cell::number(tally.greatest()),
+    ]
 }

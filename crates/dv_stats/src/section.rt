@@ -1,7 +1,9 @@
 //! Sections of rows.
 
+use crate::cell::Cell;
 use crate::tally::{PortTallies, Tally};
 use dv_tree::Tree;
+use std::alloc::{AllocError, Global};
 
 /// What the rows of a section are about.
 #[derive(Clone, Copy)]
@@ -24,9 +26,6 @@ pub(crate) enum Sample {
     OutputGaps,
 }
 
-/// The quantiles that are written, in hundredths.
-pub(crate) const PERCENTS: [u8; 5] = [25, 50, 75, 90, 99];
-
 /// The names that rows of a kind have.
 #[derive(Clone, Copy)]
 pub(crate) enum Named {
@@ -36,14 +35,6 @@ pub(crate) enum Named {
 }
 
 impl Sample {
-    /// The samples, in the order of their sections.
-    pub(crate) const ALL: [Sample; 4] = [
-        Sample::PortValues,
-        Sample::PortGaps,
-        Sample::OutputValues,
-        Sample::OutputGaps,
-    ];
-
     fn word(self) -> &'static str {
         match self {
             Sample::PortValues => "port values",
@@ -70,6 +61,23 @@ impl Sample {
 }
 
 impl Kind {
+    /// The kinds, in the order of their sections.
+    pub(crate) const ALL: [Kind; 13] = [
+        Kind::Component,
+        Kind::Phase,
+        Kind::Variable,
+        Kind::Port,
+        Kind::Output,
+        Kind::Quantiles(Sample::PortValues),
+        Kind::Bins(Sample::PortValues),
+        Kind::Quantiles(Sample::PortGaps),
+        Kind::Bins(Sample::PortGaps),
+        Kind::Quantiles(Sample::OutputValues),
+        Kind::Bins(Sample::OutputValues),
+        Kind::Quantiles(Sample::OutputGaps),
+        Kind::Bins(Sample::OutputGaps),
+    ];
+
     /// The word of a kind.
     pub(crate) fn word(self) -> &'static str {
         match self {
@@ -93,45 +101,105 @@ impl Kind {
     }
 
     /// What is measured.
-    pub(crate) fn measures(self) -> &'static [&'static str] {
+    pub(crate) fn measures(self) -> &'static [Cell] {
         match self {
-            Kind::Component => &["internal", "external", "confluent", "fault", "fault_time"],
-            Kind::Phase => &["visits", "ticks", "share"],
-            Kind::Variable => &["least", "greatest", "mean"],
-            Kind::Port => &["instants", "values", "least", "greatest", "sum", "mean"],
-            Kind::Output => &[
-                "instants",
-                "values",
-                "least",
-                "greatest",
-                "sum",
-                "mean",
-                "rate",
-                "gap_least",
-                "gap_mean",
-                "gap_greatest",
-            ],
-            Kind::Quantiles(_) => &[
-                "count", "least", "0.25", "0.5", "0.75", "0.9", "0.99", "greatest",
-            ],
-            Kind::Bins(_) => &["from", "to", "count"],
+            Kind::Component => &COMPONENT,
+            Kind::Phase => &PHASE,
+            Kind::Variable => &VARIABLE,
+            Kind::Port => &PORT,
+            Kind::Output => &OUTPUT,
+            Kind::Quantiles(_) => &QUANTILES,
+            Kind::Bins(_) => &BINS,
         }
     }
 }
 
+const COMPONENT: [Cell; 5] = [
+    Cell::Word("internal"),
+    Cell::Word("external"),
+    Cell::Word("confluent"),
+    Cell::Word("fault"),
+    Cell::Word("fault_time"),
+];
+
+const PHASE: [Cell; 3] = [
+    Cell::Word("visits"),
+    Cell::Word("ticks"),
+    Cell::Word("share"),
+];
+
+const VARIABLE: [Cell; 3] = [
+    Cell::Word("least"),
+    Cell::Word("greatest"),
+    Cell::Word("mean"),
+];
+
+const PORT: [Cell; 6] = [
+    Cell::Word("instants"),
+    Cell::Word("values"),
+    Cell::Word("least"),
+    Cell::Word("greatest"),
+    Cell::Word("sum"),
+    Cell::Word("mean"),
+];
+
+const OUTPUT: [Cell; 10] = [
+    Cell::Word("instants"),
+    Cell::Word("values"),
+    Cell::Word("least"),
+    Cell::Word("greatest"),
+    Cell::Word("sum"),
+    Cell::Word("mean"),
+    Cell::Word("rate"),
+    Cell::Word("gap_least"),
+    Cell::Word("gap_mean"),
+    Cell::Word("gap_greatest"),
+];
+
+// The quantiles are named in parts of one.
+const QUANTILES: [Cell; 8] = [
+    Cell::Word("count"),
+    Cell::Word("least"),
+    Cell::Word("0.25"),
+    Cell::Word("0.5"),
+    Cell::Word("0.75"),
+    Cell::Word("0.9"),
+    Cell::Word("0.99"),
+    Cell::Word("greatest"),
+];
+
+const BINS: [Cell; 3] = [Cell::Word("from"), Cell::Word("to"), Cell::Word("count")];
+
 /// A row: the path of a component as the numbers of its names, the name of what it is about, and the values of the measures.
-/// What is not there is empty.
 #[derive(Drop)]
 pub(crate) struct Row<'t> {
     pub(crate) component: &'t [u32],
     pub(crate) name: &'t str,
-    pub(crate) values: Vec<String>,
+    pub(crate) cells: Vec<Cell>,
 }
 
 /// Rows of one kind, of the components of a tree.
 #[derive(Drop)]
 pub(crate) struct Section<'t> {
+    pub(crate) alloc: Global,
     pub(crate) tree: &'t Tree<'t>,
     pub(crate) kind: Kind,
     pub(crate) rows: Vec<Row<'t>>,
+}
+
+impl<'t> Section<'t> {
+    /// One more row.
+    pub(crate) fn push(
+        &mut self,
+        component: &'t [u32],
+        name: &'t str,
+        cells: &[Cell],
+    ) -> Result<(), AllocError> {
+        self.rows.push(Row {
+            component,
+            name,
+            cells: Vec::from_slice(self.alloc, cells)?,
+        })?;
+        Ok(())
+    }
 }

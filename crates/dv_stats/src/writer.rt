@@ -2,7 +2,6 @@
 
 use crate::counter::Counter;
 use crate::error::StatsError;
-use crate::listing::write_counts;
 use crate::options::StatsOptions;
 use dv_trace::{LineCutter, Reach};
 use dv_tree::Tree;
@@ -61,10 +60,8 @@ impl<'t> StatsWriter<'t> {
             options,
             lines,
         } = self;
-        let counter = lines.finish(options.end)?;
-        let (counts, reach) = counter.end(options.end)?;
-        write_counts(alloc, tree, &counts, &options, writer)?;
-        Ok(reach)
+        let mut counter = lines.finish(options.end)?;
+        counter.end(alloc, tree, &options, writer)
     }
 }
 
