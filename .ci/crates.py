@@ -6,6 +6,7 @@ import shutil
 import signal
 import subprocess
 import sys
+import tempfile
 from pathlib import Path
 
 TOP = Path(__file__).resolve().parent.parent
@@ -64,6 +65,12 @@ def copy_crates(names, folder):
                 shutil.copytree(part, copied / part.name)
             elif part.exists():
                 shutil.copy(part, copied)
+
+
+def place_of_copies():
+    """Where copies are made: the place that TMPDIR names, or one on a disk. /tmp may be in memory, and libraries take some GB in all."""
+    is_there = "TMPDIR" not in os.environ and os.access("/var/tmp", os.W_OK)
+    return "/var/tmp" if is_there else tempfile.gettempdir()
 
 
 def count_jobs():
