@@ -4,7 +4,7 @@ use dv_bag::Input;
 use dv_flat::{ComponentPort, DirectLink, EntryLink, LinkLists};
 use dv_time::Time;
 use dv_trace::{Entry, Sending};
-use std::alloc::{AllocError, Global};
+use std::alloc::AllocError;
 
 /// So many copies of a value at an input port of a component.
 #[derive(Clone, Copy)]
@@ -31,26 +31,6 @@ impl<'a> Routes<'a> {
         Routes { links, inputs }
     }
 
-    /// What arrives at a time, at which these are the lines of components. It stands by component, by port and by value. Times are
-    /// asked for in their order.
-    ///
-    /// # Errors
-    ///
-    /// No memory for what arrives.
-    pub(crate) fn arrivals_at(
-        &mut self,
-        alloc: Global,
-        time: Time,
-        entries: &[Entry<'_>],
-    ) -> Result<Vec<Arrival>, AllocError> {
-        let mut arrivals = Vec::new(alloc);
-        for entry in entries {
-            self.add_sent(entry, &mut arrivals)?;
-        }
-        self.complete(time, &mut arrivals)?;
-        Ok(arrivals)
-    }
-
     /// Adds what arrives of what a component sends, as its line says it, to what arrives at that time.
     ///
     /// # Errors
@@ -62,8 +42,9 @@ impl<'a> Routes<'a> {
         arrivals: &mut Vec<Arrival>,
     ) -> Result<(), AllocError> {
         for sending in &entry.sent {
-            let from_port = direct_from(&self.links.direct, entry.component, sending.port);
-            add_sending(from_port, sending, arrivals)?;
+            for link in direct_from(&self.links.direct, entry.component, sending.port) {
+                add_values(link, sending, arrivals)?;
+            }
         }
         Ok(())
     }
@@ -98,18 +79,6 @@ impl<'a> Routes<'a> {
 
 fn behind<T>(items: &[T], index: usize) -> &[T] {
     items.get(index..).unwrap_or(&[])
-}
-
-// A sending goes along the links from its port.
-fn add_sending(
-    links: &[DirectLink],
-    sending: &Sending<'_>,
-    arrivals: &mut Vec<Arrival>,
-) -> Result<(), AllocError> {
-    for link in links {
-        add_values(link, sending, arrivals)?;
-    }
-    Ok(())
 }
 
 // The values of a sending at the end of a link. The reader of the trace has read each of them, so each is a number.
@@ -181,17 +150,10 @@ pub fn arrivals_to(arrivals: &[Arrival], component: u32) -> &[Arrival] {
 /// No memory for the longer text.
 pub(crate) fn push_values(text: &mut String, arrivals: &[Arrival]) -> Result<(), AllocError> {
     for arrival in arrivals {
-        push_copies(text, *arrival)?;
-    }
-    Ok(())
-}
-
-fn push_copies(text: &mut String, arrival: Arrival) -> Result<(), AllocError> {
-    for _copy in 0..arrival.copies {
-        if !text.is_empty() {
-            text.push(',')?;
+        for _copy in 0..arrival.copies {
+            let comma = if text.is_empty() { "" } else { "," };
+            write!(text, "{comma}{}", arrival.value)?;
         }
-        write!(text, "{}", arrival.value)?;
     }
     Ok(())
 }

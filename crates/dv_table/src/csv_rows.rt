@@ -1,10 +1,9 @@
 //! Rows as comma-separated values.
 
 use crate::error::TableError;
-use crate::row::{FAULT, Index, Rows, Travel, Variable, kind_word};
-use dv_bag::{Fault, Kind};
+use crate::row::{Index, Rows, State, Value};
 use dv_trace::Datum;
-use std::alloc::Global;
+use std::alloc::{AllocError, Global};
 use std::io::Write;
 
 /// The word of a record for what a state variable holds.
@@ -43,12 +42,11 @@ impl<'w, W: Write> CsvRows<'w, W> {
 
     // A record with the value that is ready.
     fn put_record(&mut self, index: &Index<'_>, what: &str, name: &str) -> Result<(), TableError> {
-        let component = index.component.unwrap_or("");
         let mut digits = itoa::Buffer::new();
-        self.writer
-            .write_field(digits.format(index.time.tick).as_bytes())?;
-        self.writer
-            .write_field(digits.format(index.time.micro).as_bytes())?;
+        for number in [index.time.tick, u64::from(index.time.micro)] {
+            self.writer.write_field(digits.format(number).as_bytes())?;
+        }
+        let component = index.component.unwrap_or("");
         self.writer.write_field(component.as_bytes())?;
         self.writer.write_field(what.as_bytes())?;
         self.writer.write_field(name.as_bytes())?;
@@ -57,56 +55,45 @@ impl<'w, W: Write> CsvRows<'w, W> {
         Ok(())
     }
 
-    fn put_variable(
-        &mut self,
-        index: &Index<'_>,
-        variable: &Variable<'_>,
-    ) -> Result<(), TableError> {
-        self.value.clear();
-        match variable.datum {
-            Datum::Number(number) => write!(self.value, "{number}")?,
-            Datum::Flag(flag) => write!(self.value, "{flag}")?,
-            Datum::Held(values) => write!(self.value, "[{}]", values.text)?,
+    fn put_state(&mut self, index: &Index<'_>, state: State<'_, '_>) -> Result<(), TableError> {
+        for (name, datum) in state.names.iter().zip(state.data) {
+            self.value.clear();
+            push_datum(&mut self.value, *datum)?;
+            self.put_record(index, STATE, state.tree.name(*name))?;
         }
-        self.put_record(index, STATE, variable.name)
+        Ok(())
     }
 }
 
 impl<'w, W: Write> Rows for CsvRows<'w, W> {
-    fn values(
+    fn put(
         &mut self,
         index: &Index<'_>,
-        travel: Travel,
-        port: &str,
-        values: &str,
+        what: &str,
+        name: &str,
+        value: Value<'_, '_>,
     ) -> Result<(), TableError> {
         self.value.clear();
-        self.value.push_str(values)?;
-        self.put_record(index, travel.word(), port)
-    }
-
-    fn transition(
-        &mut self,
-        index: &Index<'_>,
-        kind: Kind,
-        phase: &str,
-        state: &[Variable<'_>],
-    ) -> Result<(), TableError> {
-        self.value.clear();
-        self.put_record(index, kind_word(kind), phase)?;
-        for variable in state {
-            self.put_variable(index, variable)?;
+        if let Value::Numbers(values) = value {
+            self.value.push_str(values)?;
         }
-        Ok(())
-    }
-
-    fn fault(&mut self, index: &Index<'_>, fault: Fault) -> Result<(), TableError> {
-        self.value.clear();
-        self.put_record(index, FAULT, fault.word())
+        self.put_record(index, what, name)?;
+        match value {
+            Value::State(state) => self.put_state(index, state),
+            Value::Nothing | Value::Numbers(_) => Ok(()),
+        }
     }
 
     fn finish(&mut self) -> Result<(), TableError> {
         self.writer.flush()?;
         Ok(())
+    }
+}
+
+fn push_datum(text: &mut String, datum: Datum<'_>) -> Result<(), AllocError> {
+    match datum {
+        Datum::Number(number) => write!(text, "{number}"),
+        Datum::Flag(flag) => write!(text, "{flag}"),
+        Datum::Held(values) => write!(text, "[{}]", values.text),
     }
 }

@@ -1,21 +1,22 @@
 //! What happens at one time, line after line of a trace. What arrives at a time is known once all of its lines are read.
 
-use crate::arrivals::{Routes, arrivals_to};
+use crate::arrivals::{Arrival, Routes, arrivals_to};
 use crate::error::TableError;
 use crate::row::Rows;
 use crate::teller::Teller;
 use dv_time::Time;
 use dv_trace::{Entry, Outside, TraceLine};
-use std::alloc::Global;
+use std::alloc::{AllocError, Global};
 
 /// The lines of the last time so far, and who tells of them.
 #[derive(Drop)]
 pub(crate) struct Instants<'a, R> {
-    alloc: Global,
     routes: Routes<'a>,
     teller: Teller<'a, R>,
     time: Time,
     entries: Vec<Entry<'a>>,
+    // What arrives at that time. Its memory serves for one time after the other.
+    arrivals: Vec<Arrival>,
     outside: Option<Outside<'a>>,
 }
 
@@ -23,11 +24,11 @@ impl<'a, R: Rows> Instants<'a, R> {
     /// Before the first line.
     pub(crate) fn new(alloc: Global, routes: Routes<'a>, teller: Teller<'a, R>) -> Self {
         Instants {
-            alloc,
             routes,
             teller,
             time: Time::ZERO,
             entries: Vec::new(alloc),
+            arrivals: Vec::new(alloc),
             outside: None,
         }
     }
@@ -73,17 +74,25 @@ impl<'a, R: Rows> Instants<'a, R> {
     // Values arrive only at components that have a line: what arrives makes a transition, unless the component had a fault
     // before.
     fn tell(&mut self) -> Result<(), TableError> {
-        let arrivals = self
-            .routes
-            .arrivals_at(self.alloc, self.time, &self.entries)?;
+        self.gather()?;
         for entry in &self.entries {
-            let here = arrivals_to(&arrivals, entry.component);
+            let here = arrivals_to(&self.arrivals, entry.component);
             self.teller.entry(entry, here)?;
         }
         self.entries.clear();
-        if let Some(outside) = self.outside.take() {
-            self.teller.outside(&outside)?;
+        if let Some(outside) = &self.outside {
+            self.teller.outside(outside)?;
         }
+        self.outside = None;
         Ok(())
+    }
+
+    // Works out what arrives.
+    fn gather(&mut self) -> Result<(), AllocError> {
+        self.arrivals.clear();
+        for entry in &self.entries {
+            self.routes.add_sent(entry, &mut self.arrivals)?;
+        }
+        self.routes.complete(self.time, &mut self.arrivals)
     }
 }

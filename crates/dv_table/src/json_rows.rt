@@ -1,9 +1,9 @@
 //! Rows as JSON lines.
 
 use crate::error::TableError;
-use crate::row::{FAULT, Index, Rows, Travel, Variable, kind_word};
-use dv_bag::{Fault, Kind};
+use crate::row::{Index, Rows, State, Value};
 use dv_text::{hand_over, hand_over_if_long};
+use dv_time::Time;
 use dv_trace::Datum;
 use serde::{Described, Serialize, Serializer};
 use std::alloc::Global;
@@ -27,59 +27,26 @@ impl<'w, W: Write> JsonRows<'w, W> {
             text: String::new(alloc),
         }
     }
-
-    fn put_line(&mut self, line: &str) -> Result<(), TableError> {
-        self.text.push_str(line)?;
-        self.text.push('\n')?;
-        hand_over_if_long(&mut self.text, self.writer)?;
-        Ok(())
-    }
 }
 
 impl<'w, W: Write> Rows for JsonRows<'w, W> {
-    fn values(
+    fn put(
         &mut self,
         index: &Index<'_>,
-        travel: Travel,
-        port: &str,
-        values: &str,
+        what: &str,
+        name: &str,
+        value: Value<'_, '_>,
     ) -> Result<(), TableError> {
         let object = Object {
             index: *index,
-            what: travel.word(),
-            name: port,
-            value: Numbers(values),
+            what,
+            name,
+            value,
         };
         let line = serde_json::to_string(self.alloc, &object)?;
-        self.put_line(line.as_str())
-    }
-
-    fn transition(
-        &mut self,
-        index: &Index<'_>,
-        kind: Kind,
-        phase: &str,
-        state: &[Variable<'_>],
-    ) -> Result<(), TableError> {
-        let object = Object {
-            index: *index,
-            what: kind_word(kind),
-            name: phase,
-            value: State(state),
-        };
-        let line = serde_json::to_string(self.alloc, &object)?;
-        self.put_line(line.as_str())
-    }
-
-    fn fault(&mut self, index: &Index<'_>, fault: Fault) -> Result<(), TableError> {
-        let object = Object {
-            index: *index,
-            what: FAULT,
-            name: fault.word(),
-            value: (),
-        };
-        let line = serde_json::to_string(self.alloc, &object)?;
-        self.put_line(line.as_str())
+        writeln!(self.text, "{line}")?;
+        hand_over_if_long(&mut self.text, self.writer)?;
+        Ok(())
     }
 
     fn finish(&mut self) -> Result<(), TableError> {
@@ -88,75 +55,86 @@ impl<'w, W: Write> Rows for JsonRows<'w, W> {
     }
 }
 
-// What a line has.
+// What a line has: an object with six members.
 #[derive(Clone, Copy)]
-struct Object<'p, 'n, T> {
+struct Object<'p, 'w, 'n, 't, 'v> {
     index: Index<'p>,
-    what: &'static str,
+    what: &'w str,
     name: &'n str,
-    value: T,
+    value: Value<'t, 'v>,
 }
 
-impl<T: Described> Described for Object<'_, '_, T> {}
+impl Described for Object<'_, '_, '_, '_, '_> {}
 
-impl<T: Serialize> Serialize for Object<'_, '_, T> {
+impl Serialize for Object<'_, '_, '_, '_, '_> {
     fn serialize<S: Serializer>(&self, out: &mut S) -> Result<(), S::Error> {
         out.begin_map(Some(6))?;
-        out.key("tick")?;
-        out.u64(self.index.time.tick)?;
-        out.key("microstep")?;
-        out.u64(u64::from(self.index.time.micro))?;
-        out.key("component")?;
-        self.index.component.serialize(out)?;
-        out.key("what")?;
-        out.str(self.what)?;
-        out.key("name")?;
-        out.str(self.name)?;
+        put_time(self.index.time, out)?;
+        put_words(self.index.component, self.what, self.name, out)?;
         out.key("value")?;
-        self.value.serialize(out)?;
+        put_value(self.value, out)?;
         out.end_map()
+    }
+}
+
+fn put_time<S: Serializer>(time: Time, out: &mut S) -> Result<(), S::Error> {
+    for (key, number) in [("tick", time.tick), ("microstep", u64::from(time.micro))] {
+        out.key(key)?;
+        out.u64(number)?;
+    }
+    Ok(())
+}
+
+fn put_words<'r, S: Serializer>(
+    component: Option<&'r str>,
+    what: &'r str,
+    name: &'r str,
+    out: &mut S,
+) -> Result<(), S::Error> {
+    for (key, word) in [
+        ("component", component),
+        ("what", Some(what)),
+        ("name", Some(name)),
+    ] {
+        out.key(key)?;
+        word.serialize(out)?;
+    }
+    Ok(())
+}
+
+fn put_value<S: Serializer>(value: Value<'_, '_>, out: &mut S) -> Result<(), S::Error> {
+    match value {
+        Value::Nothing => out.unit(),
+        Value::Numbers(values) => put_numbers(values, out),
+        Value::State(state) => put_state(state, out),
     }
 }
 
 // State variables: an object with a member for each.
-#[derive(Clone, Copy)]
-struct State<'s, 'v>(&'s [Variable<'v>]);
-
-impl Described for State<'_, '_> {}
-
-impl Serialize for State<'_, '_> {
-    fn serialize<S: Serializer>(&self, out: &mut S) -> Result<(), S::Error> {
-        out.begin_map(Some(self.0.len()))?;
-        for variable in self.0 {
-            out.key(variable.name)?;
-            put_datum(variable.datum, out)?;
-        }
-        out.end_map()
+fn put_state<S: Serializer>(state: State<'_, '_>, out: &mut S) -> Result<(), S::Error> {
+    out.begin_map(Some(state.data.len()))?;
+    for (name, datum) in state.names.iter().zip(state.data) {
+        out.key(state.tree.name(*name))?;
+        put_datum(*datum, out)?;
     }
+    out.end_map()
 }
 
 fn put_datum<S: Serializer>(datum: Datum<'_>, out: &mut S) -> Result<(), S::Error> {
     match datum {
         Datum::Number(number) => out.i64(number),
         Datum::Flag(flag) => out.bool(flag),
-        Datum::Held(values) => Numbers(values.text).serialize(out),
+        Datum::Held(values) => put_numbers(values.text, out),
     }
 }
 
 // The numbers between the commas of a text: an array. The reader of the trace has read each of them, so each is one.
-#[derive(Clone, Copy)]
-struct Numbers<'v>(&'v str);
-
-impl Described for Numbers<'_> {}
-
-impl Serialize for Numbers<'_> {
-    fn serialize<S: Serializer>(&self, out: &mut S) -> Result<(), S::Error> {
-        out.begin_seq(None)?;
-        for piece in self.0.split(',') {
-            if let Ok(number) = piece.parse::<i64>() {
-                out.i64(number)?;
-            }
+fn put_numbers<S: Serializer>(values: &str, out: &mut S) -> Result<(), S::Error> {
+    out.begin_seq(None)?;
+    for piece in values.split(',') {
+        if let Ok(number) = piece.parse::<i64>() {
+            out.i64(number)?;
         }
-        out.end_seq()
     }
+    out.end_seq()
 }

@@ -1,9 +1,10 @@
 //! Rows, and where they go.
 
 use crate::error::TableError;
-use dv_bag::{Fault, Kind};
+use dv_bag::Kind;
 use dv_time::Time;
 use dv_trace::Datum;
+use dv_tree::Tree;
 
 /// When something happened, and at which component.
 #[derive(Clone, Copy)]
@@ -13,32 +14,16 @@ pub(crate) struct Index<'a> {
     pub(crate) component: Option<&'a str>,
 }
 
-/// Which values a row tells.
-#[derive(Clone, Copy, PartialEq, Eq)]
-pub(crate) enum Travel {
-    /// Those that were sent by an output port.
-    Sent,
-    /// Those that arrived at an input port.
-    Arrived,
-    /// Those that left the model by an output port of the root.
-    Left,
-}
-
-impl Travel {
-    /// The word that a row has for it.
-    pub(crate) fn word(self) -> &'static str {
-        match self {
-            Travel::Sent => "sent",
-            Travel::Arrived => "arrived",
-            Travel::Left => "left",
-        }
-    }
-}
-
-/// The word that a row has for a fault.
+/// The word of a row for values that were sent by an output port.
+pub(crate) const SENT: &str = "sent";
+/// The word of a row for values that arrived at an input port.
+pub(crate) const ARRIVED: &str = "arrived";
+/// The word of a row for values that left the model by an output port of the root.
+pub(crate) const LEFT: &str = "left";
+/// The word of a row for a fault.
 pub(crate) const FAULT: &str = "fault";
 
-/// The word that a row has for a kind of transition.
+/// The word of a row for a kind of transition.
 pub(crate) fn kind_word(kind: Kind) -> &'static str {
     match kind {
         Kind::Internal => "internal",
@@ -47,40 +32,44 @@ pub(crate) fn kind_word(kind: Kind) -> &'static str {
     }
 }
 
-/// A state variable: its name, and what it holds.
+/// The state variables of a component: the numbers of their names, and what they hold.
 #[derive(Clone, Copy)]
-pub(crate) struct Variable<'a> {
-    pub(crate) name: &'a str,
-    pub(crate) datum: Datum<'a>,
+pub(crate) struct State<'t, 'v> {
+    pub(crate) tree: &'t Tree<'t>,
+    pub(crate) names: &'t [u32],
+    pub(crate) data: &'v [Datum<'t>],
 }
 
-/// Where rows go. Each method is one more row.
-///
-/// # Errors
-///
-/// `Write`: a write failed. `Memory`: no memory for the row.
-pub(crate) trait Rows {
+/// The value of a row.
+#[derive(Clone, Copy)]
+pub(crate) enum Value<'t, 'v> {
+    /// A fault has none.
+    Nothing,
     /// Values at a port, as a trace has them: ascending, copies repeated, with commas between them.
-    fn values(
+    Numbers(&'v str),
+    /// The state behind a transition.
+    State(State<'t, 'v>),
+}
+
+/// Where rows go.
+pub(crate) trait Rows {
+    /// One more row: what happened, in a word; the name of the port, of the phase or of the fault; and the value.
+    ///
+    /// # Errors
+    ///
+    /// `Write`: a write failed. `Memory`: no memory for the row.
+    fn put(
         &mut self,
         index: &Index<'_>,
-        travel: Travel,
-        port: &str,
-        values: &str,
+        what: &str,
+        name: &str,
+        value: Value<'_, '_>,
     ) -> Result<(), TableError>;
-
-    /// A transition to a phase, with the state behind it.
-    fn transition(
-        &mut self,
-        index: &Index<'_>,
-        kind: Kind,
-        phase: &str,
-        state: &[Variable<'_>],
-    ) -> Result<(), TableError>;
-
-    /// A fault.
-    fn fault(&mut self, index: &Index<'_>, fault: Fault) -> Result<(), TableError>;
 
     /// No more rows come: what is not written yet is written.
+    ///
+    /// # Errors
+    ///
+    /// `Write`: a write failed.
     fn finish(&mut self) -> Result<(), TableError>;
 }

@@ -55,18 +55,15 @@ pub fn write_table<W: Write>(
 ) -> Result<Reach, TableError> {
     let inputs = inputs_of(alloc, tree, options.inputs)?;
     check_trace(alloc, tree, trace, options.end)?;
-    let routes = Routes::new(links, inputs.as_slice());
+    let told = Told {
+        tree: &*tree,
+        trace,
+        end: options.end,
+        routes: Routes::new(links, inputs.as_slice()),
+    };
     match options.form {
-        TableForm::Csv => {
-            let teller = Teller::new(alloc, tree, CsvRows::new(alloc, writer)?);
-            let instants = Instants::new(alloc, routes, teller);
-            tell_all(alloc, tree, trace, options.end, instants)
-        }
-        TableForm::JsonLines => {
-            let teller = Teller::new(alloc, tree, JsonRows::new(alloc, writer));
-            let instants = Instants::new(alloc, routes, teller);
-            tell_all(alloc, tree, trace, options.end, instants)
-        }
+        TableForm::Csv => tell(alloc, told, CsvRows::new(alloc, writer)?),
+        TableForm::JsonLines => tell(alloc, told, JsonRows::new(alloc, writer)),
     }
 }
 
@@ -79,21 +76,35 @@ fn inputs_of(alloc: Global, tree: &Tree<'_>, text: Option<&[u8]>) -> Result<Inpu
     read_inputs(alloc, text, &names, GREATEST_LIMIT)
 }
 
-// Tells what all lines of a trace say.
-fn tell_all<'a, R: Rows + Drop>(
-    alloc: Global,
+// What is told.
+#[derive(Clone, Copy)]
+struct Told<'a> {
     tree: &'a Tree<'a>,
     trace: &'a [u8],
     end: End,
-    mut instants: Instants<'a, R>,
+    routes: Routes<'a>,
+}
+
+// Tells what all lines of a trace say.
+fn tell<R: Rows + Drop>(alloc: Global, told: Told<'_>, rows: R) -> Result<Reach, TableError> {
+    let mut reader = TraceReader::new(alloc, told.tree)?;
+    let teller = Teller::new(alloc, told.tree, rows);
+    let mut instants = Instants::new(alloc, told.routes, teller);
+    tell_lines(told, &mut reader, &mut instants)
+}
+
+// The same, with what reads the lines and what tells of them.
+fn tell_lines<'a, R: Rows>(
+    told: Told<'a>,
+    reader: &mut TraceReader<'a>,
+    instants: &mut Instants<'a, R>,
 ) -> Result<Reach, TableError> {
-    let mut reader = TraceReader::new(alloc, tree)?;
-    for line in read_part(trace, end).split(|byte| *byte == b'\n') {
+    for line in read_part(told.trace, told.end).split(|byte| *byte == b'\n') {
         match reader.read_line(line) {
             Ok(line) => instants.add(line)?,
             Err(error) => return Err(TableError::from(error)),
         }
     }
     instants.finish()?;
-    Ok(reader.end(end)?)
+    Ok(reader.end(told.end)?)
 }

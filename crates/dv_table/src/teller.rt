@@ -2,11 +2,11 @@
 
 use crate::arrivals::{Arrival, push_values};
 use crate::error::TableError;
-use crate::row::{Index, Rows, Travel, Variable};
+use crate::row::{ARRIVED, FAULT, Index, LEFT, Rows, SENT, State, Value, kind_word};
 use dv_eval::Scope;
-use dv_trace::{Datum, Entry, Happening, Outside, Sending};
+use dv_trace::{Entry, Happening, Outside, Sending};
 use dv_tree::Tree;
-use std::alloc::{AllocError, Global};
+use std::alloc::Global;
 
 /// Tells what happened, by the names of a model.
 #[derive(Drop)]
@@ -14,12 +14,19 @@ pub(crate) struct Teller<'a, R> {
     alloc: Global,
     tree: &'a Tree<'a>,
     rows: R,
+    // The values of the row that tells what arrived.
+    values: String,
 }
 
 impl<'a, R: Rows> Teller<'a, R> {
     /// Tells what happens in the model of a tree.
     pub(crate) fn new(alloc: Global, tree: &'a Tree<'a>, rows: R) -> Self {
-        Teller { alloc, tree, rows }
+        Teller {
+            alloc,
+            tree,
+            rows,
+            values: String::new(alloc),
+        }
     }
 
     /// The line of a component, and what arrived there: what it sent, what arrived, and then what happened to it.
@@ -37,27 +44,36 @@ impl<'a, R: Rows> Teller<'a, R> {
         if component >= tree.component_count() {
             return Ok(());
         }
-        let scope = tree.scope(component);
         let path = tree.path_text(self.alloc, component)?;
         let index = Index {
             time: entry.time,
             component: Some(path.as_str()),
         };
-        self.sent(&index, scope, &entry.sent)?;
-        self.arrived(&index, scope, arrivals)?;
-        self.happened(&index, scope, &entry.happening)
+        self.entry_at(&index, tree.scope(component), entry, arrivals)
+    }
+
+    fn entry_at(
+        &mut self,
+        index: &Index<'_>,
+        scope: &'a Scope,
+        entry: &Entry<'a>,
+        arrivals: &[Arrival],
+    ) -> Result<(), TableError> {
+        self.sent(&*index, scope, &entry.sent)?;
+        self.arrived(&*index, scope, arrivals)?;
+        self.happened(&*index, scope, &entry.happening)
     }
 
     fn sent(
         &mut self,
         index: &Index<'_>,
-        scope: &Scope,
+        scope: &'a Scope,
         sent: &[Sending<'a>],
     ) -> Result<(), TableError> {
         for sending in sent {
             let port = name_in(self.tree, scope.outputs(), sending.port);
             self.rows
-                .values(index, Travel::Sent, port, sending.values.text)?;
+                .put(index, SENT, port, Value::Numbers(sending.values.text))?;
         }
         Ok(())
     }
@@ -66,19 +82,18 @@ impl<'a, R: Rows> Teller<'a, R> {
     fn arrived(
         &mut self,
         index: &Index<'_>,
-        scope: &Scope,
+        scope: &'a Scope,
         arrivals: &[Arrival],
     ) -> Result<(), TableError> {
-        let mut values = String::new(self.alloc);
         for group in arrivals.chunk_by(|one, next| one.to.port == next.to.port) {
             let Some(first) = group.first() else {
                 continue;
             };
+            self.values.clear();
+            push_values(&mut self.values, group)?;
             let port = name_in(self.tree, scope.inputs(), first.to.port as usize);
-            values.clear();
-            push_values(&mut values, group)?;
             self.rows
-                .values(index, Travel::Arrived, port, values.as_str())?;
+                .put(index, ARRIVED, port, Value::Numbers(self.values.as_str()))?;
         }
         Ok(())
     }
@@ -86,16 +101,22 @@ impl<'a, R: Rows> Teller<'a, R> {
     fn happened(
         &mut self,
         index: &Index<'_>,
-        scope: &Scope,
+        scope: &'a Scope,
         happening: &Happening<'a>,
     ) -> Result<(), TableError> {
         match happening {
             Happening::Transition { kind, phase, state } => {
                 let phase = name_in(self.tree, scope.phases(), *phase as usize);
-                let state = variables_of(self.alloc, self.tree, scope, state)?;
-                self.rows.transition(index, *kind, phase, &state)
+                let names = scope.variables();
+                let state = State {
+                    tree: self.tree,
+                    names,
+                    data: state,
+                };
+                self.rows
+                    .put(index, kind_word(*kind), phase, Value::State(state))
             }
-            Happening::Fault(fault) => self.rows.fault(index, *fault),
+            Happening::Fault(fault) => self.rows.put(index, FAULT, fault.word(), Value::Nothing),
         }
     }
 
@@ -113,7 +134,7 @@ impl<'a, R: Rows> Teller<'a, R> {
             if sending.port < self.tree.output_count() {
                 let port = self.tree.output_name(sending.port);
                 self.rows
-                    .values(&index, Travel::Left, port, sending.values.text)?;
+                    .put(&index, LEFT, port, Value::Numbers(sending.values.text))?;
             }
         }
         Ok(())
@@ -135,21 +156,4 @@ fn name_in<'a>(tree: &'a Tree<'a>, numbers: &[u32], index: usize) -> &'a str {
         Some(number) => tree.name(*number),
         None => "",
     }
-}
-
-// The state variables with their names.
-fn variables_of<'a>(
-    alloc: Global,
-    tree: &'a Tree<'a>,
-    scope: &Scope,
-    state: &[Datum<'a>],
-) -> Result<Vec<Variable<'a>>, AllocError> {
-    let mut variables = Vec::with_capacity(alloc, state.len())?;
-    for (number, datum) in scope.variables().iter().zip(state) {
-        variables.push(Variable {
-            name: tree.name(*number),
-            datum: *datum,
-        })?;
-    }
-    Ok(variables)
 }
