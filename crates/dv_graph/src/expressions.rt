@@ -24,14 +24,12 @@ pub(crate) fn short_negation(
     tree: &Tree,
     expression: &Expr,
 ) -> Result<String, AllocError> {
-    let mut text = String::from_str(alloc, "not ")?;
+    let mut text = String::new(alloc);
     match expression {
-        Expr::Parens { .. } | Expr::Named(_) => push_expression(&mut text, tree, expression)?,
-        _ => {
-            text.push('(')?;
-            push_expression(&mut text, tree, expression)?;
-            text.push(')')?;
+        Expr::Parens { .. } | Expr::Named(_) => {
+            push_enclosed(&mut text, tree, "not ", expression, "")?;
         }
+        _ => push_enclosed(&mut text, tree, "not (", expression, ")")?,
     }
     cut_off(alloc, text)
 }
@@ -46,43 +44,49 @@ fn cut_off(alloc: Global, text: String) -> Result<String, AllocError> {
     }
 }
 
+#[cycle(expressions)]
 fn push_expression(text: &mut String, tree: &Tree, expression: &Expr) -> Result<(), AllocError> {
     match expression {
         Expr::Literal(number) => write!(text, "{}", number.value.value()),
-        Expr::TruthValue { value, .. } => write!(text, "{value}"),
+        Expr::TruthValue { value, .. } => text.push_str(if *value { "true" } else { "false" }),
         Expr::Named(name) => text.push_str(tree.name(name.number)),
         Expr::Elapsed { .. } => text.push_str("elapsed"),
-        Expr::Parens { inner, .. } => {
-            text.push('(')?;
-            push_expression(text, tree, inner)?;
-            text.push(')')
-        }
+        Expr::Parens { inner, .. } => push_enclosed(text, tree, "(", inner, ")"),
         Expr::Prefixed {
             operator,
             operand,
             ..
-        } => {
-            text.push_str(prefix_word(*operator))?;
-            push_expression(text, tree, operand)
-        }
+        } => push_enclosed(text, tree, prefix_word(*operator), operand, ""),
         Expr::Binary {
             operator,
             left,
             right,
         } => {
-            push_expression(text, tree, left)?;
-            write!(text, " {} ", operator_word(*operator))?;
+            push_enclosed(text, tree, "", left, operator_word(*operator))?;
             push_expression(text, tree, right)
         }
         Expr::Call { call, bag, .. } => {
             write!(text, "{}({})", call_word(*call), tree.name(bag.number))
         }
         Expr::Times { value, bag, .. } => {
-            text.push_str("times(")?;
-            push_expression(text, tree, value)?;
-            write!(text, ", {})", tree.name(bag.number))
+            push_enclosed(text, tree, "times(", value, ", ")?;
+            write!(text, "{})", tree.name(bag.number))
         }
     }
+}
+
+// An expression between two texts.
+#[cycle(expressions)]
+fn push_enclosed(
+    text: &mut String,
+    tree: &Tree,
+    before: &str,
+    expression: &Expr,
+    behind: &str,
+) -> Result<(), AllocError> {
+    text.push_str(before)?;
+    push_expression(text, tree, expression)?;
+    text.push_str(behind)
 }
 
 fn prefix_word(operator: Prefix) -> &'static str {
@@ -92,21 +96,22 @@ fn prefix_word(operator: Prefix) -> &'static str {
     }
 }
 
+// With a blank on each side.
 fn operator_word(operator: Operator) -> &'static str {
     match operator {
-        Operator::Or => "or",
-        Operator::And => "and",
-        Operator::Add => "+",
-        Operator::Subtract => "-",
-        Operator::Multiply => "*",
-        Operator::Divide => "/",
-        Operator::Remainder => "%",
-        Operator::Equal => "=",
-        Operator::Unequal => "!=",
-        Operator::Less => "<",
-        Operator::AtMost => "<=",
-        Operator::Greater => ">",
-        Operator::AtLeast => ">=",
+        Operator::Or => " or ",
+        Operator::And => " and ",
+        Operator::Add => " + ",
+        Operator::Subtract => " - ",
+        Operator::Multiply => " * ",
+        Operator::Divide => " / ",
+        Operator::Remainder => " % ",
+        Operator::Equal => " = ",
+        Operator::Unequal => " != ",
+        Operator::Less => " < ",
+        Operator::AtMost => " <= ",
+        Operator::Greater => " > ",
+        Operator::AtLeast => " >= ",
     }
 }
 

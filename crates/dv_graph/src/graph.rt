@@ -1,13 +1,14 @@
 //! The graph of a model.
 
-use crate::clusters::{Counts, Scene, write_parts};
-use crate::edges::{push_inputs, push_outputs, write_links};
-use crate::pieces::push_front;
+use crate::edges::write_links;
+use crate::graph_text::GraphText;
+use crate::nodes::{Nodes, write_nodes};
+use crate::scene::{Scene, put_front};
 use crate::unlinked::LinkedPorts;
 use dv_check::GREATEST_DEPTH;
 use dv_flat::LinkLists;
 use dv_partition::Groups;
-use dv_text::{WriteError, hand_over};
+use dv_text::WriteError;
 use dv_tree::Tree;
 use std::alloc::Global;
 use std::io::Write;
@@ -29,24 +30,37 @@ pub fn write_graph<W: Write>(
     writer: &mut W,
 ) -> Result<(), WriteError> {
     let linked = LinkedPorts::of(alloc, links)?;
-    let mut text = String::new(alloc);
-    push_front(&mut text, tree)?;
-    push_inputs(&mut text, &tree.input_names(alloc)?, &linked)?;
-    push_outputs(&mut text, tree, &linked)?;
-    if let Some(level) = tree.root_level() {
-        let mut counts = Counts {
-            components: 0,
-            clusters: 0,
-        };
-        let scene = Scene {
-            alloc,
-            tree: &*tree,
-            groups,
-            linked: &linked,
-        };
-        write_parts(scene, level, GREATEST_DEPTH, &mut counts, &mut text, writer)?;
+    let scene = Scene {
+        alloc,
+        tree: &*tree,
+        groups,
+        linked: &linked,
+        names_unlinked: true,
+    };
+    write_scene(scene, links, &mut GraphText::new(alloc, writer))
+}
+
+fn write_scene<W: Write>(
+    scene: Scene<'_>,
+    links: &LinkLists,
+    text: &mut GraphText<'_, W>,
+) -> Result<(), WriteError> {
+    put_front(scene, "", text)?;
+    write_all_nodes(scene, text)?;
+    write_links(scene, links, text)?;
+    text.end()
+}
+
+// Writes the nodes of the parts, at all depths.
+fn write_all_nodes<W: Write>(
+    scene: Scene<'_>,
+    text: &mut GraphText<'_, W>,
+) -> Result<(), WriteError> {
+    match scene.tree.root_level() {
+        Some(level) => {
+            let mut nodes = Nodes::new(scene.alloc);
+            write_nodes(scene, level, u64::MAX, GREATEST_DEPTH, &mut nodes, text)
+        }
+        None => Ok(()),
     }
-    write_links(tree, groups, links, &mut text, writer)?;
-    text.push_str("}\n")?;
-    hand_over(writer, text.as_bytes())
 }

@@ -1,21 +1,12 @@
 //! The links of an overview.
 
 use crate::edges::is_crossing;
-use crate::nodes::{Node, Nodes};
+use crate::nodes::Nodes;
+use crate::scene::Scene;
 use dv_flat::LinkLists;
-use dv_partition::Groups;
-use std::alloc::{AllocError, Global};
+use std::alloc::AllocError;
 
-/// A link from one node to another, by their indices.
-#[derive(Clone, Copy)]
-struct Joint {
-    from: u32,
-    to: u32,
-    copies: u64,
-    is_crossing: bool,
-}
-
-/// All links from one node to another, by their indices.
+/// Links from one node to another, by the indices of these.
 #[derive(Clone, Copy)]
 pub(crate) struct JoinedLinks {
     pub(crate) from: u32,
@@ -27,106 +18,85 @@ pub(crate) struct JoinedLinks {
 }
 
 /// The links between different nodes, and from a component to itself, joined: those from the root's inputs, between components, and
-/// to the root's outputs, each ascending by indices. The first input and the first output of the root have these indices.
+/// to the root's outputs, each ascending by indices.
 pub(crate) fn joined_links(
-    alloc: Global,
+    scene: Scene<'_>,
     links: &LinkLists,
-    groups: Option<&Groups>,
     nodes: &Nodes,
-    first_input: u32,
-    first_output: u32,
 ) -> Result<Vec<JoinedLinks>, AllocError> {
-    let mut joined = Vec::new(alloc);
-    join(
-        &mut entries_of(alloc, links, nodes, first_input)?,
-        &mut joined,
-    )?;
-    join(&mut direct_of(alloc, links, groups, nodes)?, &mut joined)?;
-    join(
-        &mut exits_of(alloc, links, nodes, first_output)?,
-        &mut joined,
-    )?;
+    let mut joined = Vec::new(scene.alloc);
+    join(entries_of(scene, links, nodes)?, &mut joined)?;
+    join(direct_of(scene, links, nodes)?, &mut joined)?;
+    join(exits_of(scene, links, nodes)?, &mut joined)?;
     Ok(joined)
 }
 
 fn entries_of(
-    alloc: Global,
+    scene: Scene<'_>,
     links: &LinkLists,
     nodes: &Nodes,
-    first_input: u32,
-) -> Result<Vec<Joint>, AllocError> {
-    let mut joints = Vec::new(alloc);
+) -> Result<Vec<JoinedLinks>, AllocError> {
+    let mut entries = Vec::new(scene.alloc);
     for link in &links.entries {
-        joints.push(Joint {
-            from: first_input.saturating_add(link.from),
+        entries.push(JoinedLinks {
+            from: nodes.input(link.from),
             to: nodes.index_of(link.to.component),
-            copies: link.copies,
+            count: link.copies,
             is_crossing: false,
         })?;
     }
-    Ok(joints)
+    Ok(entries)
 }
 
 fn direct_of(
-    alloc: Global,
+    scene: Scene<'_>,
     links: &LinkLists,
-    groups: Option<&Groups>,
     nodes: &Nodes,
-) -> Result<Vec<Joint>, AllocError> {
-    let mut joints = Vec::new(alloc);
+) -> Result<Vec<JoinedLinks>, AllocError> {
+    let mut direct = Vec::new(scene.alloc);
     for link in &links.direct {
         let from = nodes.index_of(link.from.component);
         let to = nodes.index_of(link.to.component);
         if from != to || nodes.is_component(from) {
-            joints.push(Joint {
+            direct.push(JoinedLinks {
                 from,
                 to,
-                copies: link.copies,
-                is_crossing: is_crossing(groups, link),
+                count: link.copies,
+                is_crossing: is_crossing(scene.groups, link),
             })?;
         }
     }
-    Ok(joints)
+    Ok(direct)
 }
 
 fn exits_of(
-    alloc: Global,
+    scene: Scene<'_>,
     links: &LinkLists,
     nodes: &Nodes,
-    first_output: u32,
-) -> Result<Vec<Joint>, AllocError> {
-    let mut joints = Vec::new(alloc);
+) -> Result<Vec<JoinedLinks>, AllocError> {
+    let mut exits = Vec::new(scene.alloc);
     for link in &links.exits {
-        joints.push(Joint {
+        exits.push(JoinedLinks {
             from: nodes.index_of(link.from.component),
-            to: first_output.saturating_add(link.to),
-            copies: link.copies,
+            to: nodes.output(link.to),
+            count: link.copies,
             is_crossing: false,
         })?;
     }
-    Ok(joints)
+    Ok(exits)
 }
 
-// Joins those with the same ends.
-fn join(joints: &mut [Joint], joined: &mut Vec<JoinedLinks>) -> Result<(), AllocError> {
-    joints.sort_unstable_by_key(|joint| (joint.from, joint.to));
-    for alike in joints.chunk_by(|joint, next| (joint.from, joint.to) == (next.from, next.to)) {
-        if let Some(first) = alike.first() {
-            joined.push(JoinedLinks {
-                from: first.from,
-                to: first.to,
-                count: copies_of(alike),
-                is_crossing: alike.iter().any(|joint| joint.is_crossing),
-            })?;
+// Adds links in ascending order, and joins those with the same ends.
+fn join(mut links: Vec<JoinedLinks>, joined: &mut Vec<JoinedLinks>) -> Result<(), AllocError> {
+    links.sort_unstable_by_key(|links| (links.from, links.to));
+    for more in &links {
+        match joined.last_mut() {
+            Some(last) if (last.from, last.to) == (more.from, more.to) => {
+                last.count = last.count.saturating_add(more.count);
+                last.is_crossing = last.is_crossing || more.is_crossing;
+            }
+            _ => joined.push(*more)?,
         }
     }
     Ok(())
-}
-
-fn copies_of(joints: &[Joint]) -> u64 {
-    let mut copies: u64 = 0;
-    for joint in joints {
-        copies = copies.saturating_add(joint.copies);
-    }
-    copies
 }

@@ -9,17 +9,17 @@
 //! program, and nothing is laid out here: Graphviz does that.
 #![tactic(auto)]
 
-/// The nodes of components, in clusters.
-mod clusters;
 /// The links.
 mod edges;
 /// Expressions as text.
 mod expressions;
 /// The door: the graph of a model, given to a writer.
 pub mod graph;
+/// The text of a graph, and the writer that gets it.
+mod graph_text;
 /// The links of an overview.
 mod joined;
-/// The nodes of an overview.
+/// The nodes, in clusters.
 mod nodes;
 /// Counts as numbers of nodes, ports and components.
 mod number;
@@ -29,10 +29,14 @@ pub mod overview;
 pub mod phases;
 /// Pieces of the text.
 mod pieces;
+/// The processes of nodes.
+mod processes;
 /// In which rows of a picture nodes stand.
 mod rows;
 /// What the rules of an atomic model do.
 mod rules;
+/// What is drawn of a model.
+mod scene;
 /// Ports that no link takes.
 mod unlinked;
 

@@ -1,18 +1,20 @@
-//! The nodes of an overview.
+//! The nodes of components and of coupled models, in the clusters of the coupled models around them.
 
-use crate::clusters::{Scene, push_cluster, push_colour, push_component};
+use crate::graph_text::GraphText;
 use crate::number::number_of;
-use crate::pieces::{push_name, push_part, push_tabs, tabs_at};
+use crate::pieces::{Escaped, PartLabel, tabs, tabs_at};
+use crate::processes::{Colour, Place, PlaceLine};
+use crate::scene::Scene;
+use crate::unlinked::{UnlinkedPorts, unlinked_of};
 use dv_check::GREATEST_DEPTH;
-use dv_partition::Groups;
-use dv_text::{WriteError, hand_over_if_long};
+use dv_text::WriteError;
 use dv_tree::{Level, ResolvedPart, level_at};
 use std::alloc::{AllocError, Global};
 use std::fmt;
 use std::io::Write;
 
 /// What a node stands for. It is displayed as the node's name.
-#[derive(Clone, Copy, PartialEq, Eq)]
+#[derive(Clone, Copy)]
 pub(crate) enum Node {
     Component(u32),
     /// A coupled model that is drawn as one box, by its number among these.
@@ -42,6 +44,8 @@ pub(crate) struct Nodes {
     indices: Vec<u32>,
     boxes: u32,
     clusters: u32,
+    first_input: u32,
+    first_output: u32,
 }
 
 impl Nodes {
@@ -54,6 +58,8 @@ impl Nodes {
             indices: Vec::new(alloc),
             boxes: 0,
             clusters: 0,
+            first_input: 0,
+            first_output: 0,
         }
     }
 
@@ -105,23 +111,29 @@ impl Nodes {
         number
     }
 
-    /// Nodes for the ports of the root, inputs before outputs. The indices of the first input and of the first output are returned.
-    pub(crate) fn add_ports(
-        &mut self,
-        inputs: usize,
-        outputs: usize,
-    ) -> Result<(u32, u32), AllocError> {
-        let first_input = number_of(self.nodes.len());
+    /// Adds nodes for the ports of the root, inputs before outputs.
+    pub(crate) fn add_ports(&mut self, inputs: usize, outputs: usize) -> Result<(), AllocError> {
+        self.first_input = number_of(self.nodes.len());
         for port in 0..inputs {
             self.begin_part();
             self.add(Node::Input(number_of(port)))?;
         }
-        let first_output = number_of(self.nodes.len());
+        self.first_output = number_of(self.nodes.len());
         for port in 0..outputs {
             self.begin_part();
             self.add(Node::Output(number_of(port)))?;
         }
-        Ok((first_input, first_output))
+        Ok(())
+    }
+
+    /// The index of the node of an input of the root.
+    pub(crate) fn input(&self, port: u32) -> u32 {
+        self.first_input.saturating_add(port)
+    }
+
+    /// The index of the node of an output of the root.
+    pub(crate) fn output(&self, port: u32) -> u32 {
+        self.first_output.saturating_add(port)
     }
 }
 
@@ -133,63 +145,122 @@ pub(crate) fn write_nodes<W: Write>(
     shown: u64,
     depth: usize,
     nodes: &mut Nodes,
-    text: &mut String,
-    writer: &mut W,
+    text: &mut GraphText<'_, W>,
 ) -> Result<(), WriteError> {
     if depth == 0 {
         return Ok(());
     }
-    let tabs = tabs_at(depth);
     for part in level.parts() {
         if depth == GREATEST_DEPTH {
             nodes.begin_part();
         }
-        push_tabs(text, tabs)?;
         match level_at(scene.tree.levels(), part.model) {
             Some(inside) if shown > 1 => {
-                push_cluster(text, scene.tree, part, nodes.add_cluster(), tabs)?;
-                write_nodes(scene, inside, shown - 1, depth - 1, nodes, text, writer)?;
-                push_tabs(text, tabs)?;
-                text.push_str("}\n")?;
+                put_cluster_front(scene, part, nodes.add_cluster(), depth, text)?;
+                write_nodes(scene, inside, shown - 1, depth - 1, nodes, text)?;
+                text.put(format_args!("{}}}\n", tabs(tabs_at(depth))))?;
             }
-            Some(inside) => push_part_box(text, scene, part, inside, nodes)?,
-            None => {
-                let component = nodes.add_component()?;
-                push_component(text, scene, part, component, &[])?;
-            }
+            inside => put_part(scene, part, inside, depth, nodes, text)?,
         }
-        hand_over_if_long(text, writer)?;
     }
     Ok(())
 }
 
-/// The root as one box.
-pub(crate) fn push_root_box(
-    text: &mut String,
-    scene: Scene<'_>,
-    nodes: &mut Nodes,
-) -> Result<(), AllocError> {
-    let count = scene.tree.component_count();
-    let node = nodes.add_box(count)?;
-    write!(text, "\t{node} [label=\"")?;
-    push_name(text, scene.tree.name(scene.tree.file().root.number))?;
-    push_box_end(text, scene.groups, 0, count)
-}
-
-// A part that is a coupled model, as one box.
-fn push_part_box(
-    text: &mut String,
+// The front of the cluster of this number.
+fn put_cluster_front<W: Write>(
     scene: Scene<'_>,
     part: &ResolvedPart,
-    inside: &Level,
+    number: u32,
+    depth: usize,
+    text: &mut GraphText<'_, W>,
+) -> Result<(), WriteError> {
+    let count = tabs_at(depth);
+    text.put(format_args!(
+        "{}subgraph cluster_{number} {{\n{}label=\"{}\"\n",
+        tabs(count),
+        tabs(count.saturating_add(1)),
+        PartLabel::of(scene.tree, part)
+    ))
+}
+
+// A part that is a coupled model, as one box, or a component.
+fn put_part<W: Write>(
+    scene: Scene<'_>,
+    part: &ResolvedPart,
+    inside: Option<&Level>,
+    depth: usize,
     nodes: &mut Nodes,
-) -> Result<(), AllocError> {
-    let count = components_in(scene.tree.levels(), inside, GREATEST_DEPTH);
-    let first = nodes.indices.len();
+    text: &mut GraphText<'_, W>,
+) -> Result<(), WriteError> {
+    text.put(tabs(tabs_at(depth)))?;
+    let label = PartLabel::of(scene.tree, part);
+    match inside {
+        Some(level) => {
+            let count = components_in(scene.tree.levels(), level, GREATEST_DEPTH);
+            put_box(scene, label, count, nodes, text)
+        }
+        None => put_component(scene, label, nodes.add_component()?, text),
+    }
+}
+
+/// The root as one box.
+pub(crate) fn put_root_box<W: Write>(
+    scene: Scene<'_>,
+    nodes: &mut Nodes,
+    text: &mut GraphText<'_, W>,
+) -> Result<(), WriteError> {
+    text.put("\t")?;
+    let label = Escaped(scene.tree.name(scene.tree.file().root.number));
+    put_box(scene, label, scene.tree.component_count(), nodes, text)
+}
+
+// A box of the next so many components.
+fn put_box<L: fmt::Display + Drop, W: Write>(
+    scene: Scene<'_>,
+    label: L,
+    count: usize,
+    nodes: &mut Nodes,
+    text: &mut GraphText<'_, W>,
+) -> Result<(), WriteError> {
+    let place = Place::of(scene.groups, nodes.indices.len(), count);
     let node = nodes.add_box(count)?;
-    write!(text, "{node} [label=\"")?;
-    push_part(text, scene.tree, part)?;
-    push_box_end(text, scene.groups, first, count)
+    let plural = if count == 1 { "" } else { "s" };
+    let line = PlaceLine("\\n", place);
+    let colour = Colour(place);
+    text.put(format_args!(
+        "{node} [label=\"{label}\\n{count} component{plural}{line}\"{colour}];\n"
+    ))
+}
+
+// The node of a component. What of its ports is unlinked is told in grey, where something is.
+fn put_component<W: Write>(
+    scene: Scene<'_>,
+    label: PartLabel<'_>,
+    component: u32,
+    text: &mut GraphText<'_, W>,
+) -> Result<(), WriteError> {
+    let place = Place::of(scene.groups, component as usize, 1);
+    let unlinked = unlinked_of(scene, component)?;
+    if unlinked.is_empty() {
+        let line = PlaceLine("\\n", place);
+        let colour = Colour(place);
+        text.put(format_args!("c{component} [label=\"{label}{line}\"{colour}];\n"))
+    } else {
+        put_unlinked(component, label, place, UnlinkedPorts(&unlinked), text)
+    }
+}
+
+// The node of a component with unlinked ports. Its label is HTML; no name has a character that means something there.
+fn put_unlinked<W: Write>(
+    component: u32,
+    label: PartLabel<'_>,
+    place: Place,
+    ports: UnlinkedPorts<'_, '_>,
+    text: &mut GraphText<'_, W>,
+) -> Result<(), WriteError> {
+    let line = PlaceLine("<br/>", place);
+    let colour = Colour(place);
+    text.put(format_args!("c{component} [label=<{label}{line}{ports}>{colour}];\n"))
 }
 
 // How many components a coupled model holds, at any level.
@@ -205,38 +276,4 @@ fn components_in(levels: &[Option<Level>], level: &Level, depth: usize) -> usize
         });
     }
     count
-}
-
-// The end of the node of a box with so many components from a first one on: how many they are, and their process.
-fn push_box_end(
-    text: &mut String,
-    groups: Option<&Groups>,
-    first: usize,
-    count: usize,
-) -> Result<(), AllocError> {
-    match count {
-        1 => text.push_str("\\n1 component")?,
-        _ => write!(text, "\\n{count} components")?,
-    }
-    let Some(groups) = groups else {
-        return text.push_str("\"];\n");
-    };
-    if let Some(process) = process_of(groups, first, count) {
-        write!(text, "\\nprocess {process}\"")?;
-        push_colour(text, groups, process)?;
-    } else {
-        text.push_str("\\nseveral processes\"")?;
-    }
-    text.push_str("];\n")
-}
-
-// The process of so many components from a first one on, where they have only one.
-fn process_of(groups: &Groups, first: usize, count: usize) -> Option<u32> {
-    let process = groups.owner(number_of(first));
-    for component in first..first.saturating_add(count) {
-        if groups.owner(number_of(component)) != process {
-            return None;
-        }
-    }
-    Some(process)
 }

@@ -1,18 +1,18 @@
 //! An overview of a model.
 
-use crate::clusters::Scene;
-use crate::edges::{push_inputs, push_outputs};
+use crate::graph_text::GraphText;
 use crate::joined::{JoinedLinks, joined_links};
-use crate::nodes::{Node, Nodes, push_root_box, write_nodes};
-use crate::pieces::push_front;
+use crate::nodes::{Node, Nodes, put_root_box, write_nodes};
 use crate::rows::Rows;
+use crate::scene::{Scene, put_front};
 use crate::unlinked::LinkedPorts;
 use dv_check::GREATEST_DEPTH;
 use dv_flat::LinkLists;
 use dv_partition::Groups;
-use dv_text::{WriteError, hand_over, hand_over_if_long};
+use dv_text::WriteError;
 use dv_tree::Tree;
-use std::alloc::{AllocError, Global};
+use std::alloc::Global;
+use std::fmt;
 use std::io::Write;
 
 /// Writes an overview of a model as a graph in the DOT language. The root is at depth 0, its parts are at depth 1. A coupled model
@@ -39,20 +39,30 @@ pub fn write_overview<W: Write>(
         tree: &*tree,
         groups,
         linked: &linked,
+        names_unlinked: false,
     };
-    let mut text = String::new(alloc);
-    push_front(&mut text, tree)?;
-    text.push_str("\tnewrank=true;\n")?;
-    push_inputs(&mut text, &tree.input_names(alloc)?, &linked)?;
-    push_outputs(&mut text, tree, &linked)?;
     let mut nodes = Nodes::new(alloc);
-    write_inside(scene, depth, &mut nodes, &mut text, writer)?;
-    let (input, output) = nodes.add_ports(tree.input_count(), tree.output_count())?;
-    let joined = joined_links(alloc, links, groups, &nodes, input, output)?;
-    let rows = Rows::of(alloc, &nodes.parts, &joined)?;
-    write_joined(&nodes.nodes, &joined, &rows, &mut text, writer)?;
-    text.push_str("}\n")?;
-    hand_over(writer, text.as_bytes())
+    write_scene(
+        scene,
+        links,
+        depth,
+        &mut nodes,
+        &mut GraphText::new(alloc, writer),
+    )
+}
+
+fn write_scene<W: Write>(
+    scene: Scene<'_>,
+    links: &LinkLists,
+    depth: u64,
+    nodes: &mut Nodes,
+    text: &mut GraphText<'_, W>,
+) -> Result<(), WriteError> {
+    put_front(scene, "\tnewrank=true;\n", text)?;
+    write_inside(scene, depth, nodes, text)?;
+    nodes.add_ports(scene.tree.input_count(), scene.tree.output_count())?;
+    write_joined(scene, links, nodes, text)?;
+    text.end()
 }
 
 // Writes the nodes of the root, or of its parts.
@@ -60,68 +70,71 @@ fn write_inside<W: Write>(
     scene: Scene<'_>,
     depth: u64,
     nodes: &mut Nodes,
-    text: &mut String,
-    writer: &mut W,
+    text: &mut GraphText<'_, W>,
 ) -> Result<(), WriteError> {
     match scene.tree.root_level() {
-        Some(level) if depth > 0 => {
-            write_nodes(scene, level, depth, GREATEST_DEPTH, nodes, text, writer)
-        }
-        Some(_) | None => {
-            push_root_box(text, scene, nodes)?;
-            Ok(())
-        }
+        Some(level) if depth > 0 => write_nodes(scene, level, depth, GREATEST_DEPTH, nodes, text),
+        Some(_) | None => put_root_box(scene, nodes, text),
     }
 }
 
 // Writes the edges.
 fn write_joined<W: Write>(
+    scene: Scene<'_>,
+    links: &LinkLists,
+    nodes: &Nodes,
+    text: &mut GraphText<'_, W>,
+) -> Result<(), WriteError> {
+    let joined = joined_links(scene, links, nodes)?;
+    let rows = Rows::of(scene.alloc, &nodes.parts, &joined)?;
+    write_edges(&nodes.nodes, &joined, &rows, text)
+}
+
+fn write_edges<W: Write>(
     nodes: &[Node],
     joined: &[JoinedLinks],
     rows: &Rows<'_>,
-    text: &mut String,
-    writer: &mut W,
+    text: &mut GraphText<'_, W>,
 ) -> Result<(), WriteError> {
     for links in joined {
         if let Some(from) = nodes.get(links.from as usize)
             && let Some(to) = nodes.get(links.to as usize)
         {
-            write!(text, "\t{from} -> {to}")?;
-            push_looks(text, links, rows.are_between(links))?;
+            let looks = Looks {
+                count: links.count,
+                style: style_of(links.is_crossing, rows.are_between(links)),
+            };
+            text.put(format_args!("\t{from} -> {to}{looks};\n"))?;
         }
-        hand_over_if_long(text, writer)?;
     }
     Ok(())
 }
 
-// How an edge looks, where there is something to say. One between rows moves no node.
-fn push_looks(
-    text: &mut String,
-    links: &JoinedLinks,
-    is_between_rows: bool,
-) -> Result<(), AllocError> {
-    let mut is_first = true;
-    if links.count > 1 {
-        write!(
-            text,
-            "{}label=\"{} links\"",
-            separator(is_first),
-            links.count
-        )?;
-        is_first = false;
-    }
-    if links.is_crossing {
-        write!(text, "{}style=dashed", separator(is_first))?;
-        is_first = false;
-    }
-    if is_between_rows {
-        write!(text, "{}constraint=false", separator(is_first))?;
-        is_first = false;
-    }
-    text.push_str(if is_first { ";\n" } else { "];\n" })
+// How an edge looks: as one link or more, and in which style.
+#[derive(Clone, Copy)]
+struct Looks {
+    count: u64,
+    style: &'static str,
 }
 
-// What stands before an attribute.
-fn separator(is_first: bool) -> &'static str {
-    if is_first { " [" } else { ", " }
+// An edge between rows moves no node.
+fn style_of(is_crossing: bool, is_between_rows: bool) -> &'static str {
+    match (is_crossing, is_between_rows) {
+        (false, false) => "",
+        (true, false) => "style=dashed",
+        (false, true) => "constraint=false",
+        (true, true) => "style=dashed, constraint=false",
+    }
+}
+
+impl fmt::Display for Looks {
+    fn fmt<W: fmt::Write>(&self, f: &mut fmt::Formatter<W>) -> fmt::Result {
+        let Looks { count, style } = self;
+        match (*count > 1, style.is_empty()) {
+            (false, true) => Ok(()),
+            (false, false) => write!(f, " [{style}]"),
+            (true, true) => write!(f, " [label=\"{count} links\"]"),
+            (true, false) => write!(f, " [label=\"{count} links\", {style}]"),
+        }
+    }
 }

@@ -1,10 +1,11 @@
 //! The phases of an atomic model, as a state diagram.
 
 use crate::expressions::short_text;
-use crate::pieces::push_name;
-use crate::rules::{Deed, Reading, Step, add_steps, always_goes};
+use crate::graph_text::GraphText;
+use crate::pieces::Escaped;
+use crate::rules::{Deed, Reading, Step, always_goes, steps_of};
 use dv_syntax::{Atomic, Name, Rule, RuleSort, Ticks};
-use dv_text::{WriteError, hand_over, hand_over_if_long};
+use dv_text::WriteError;
 use dv_tree::Tree;
 use std::alloc::{AllocError, Global};
 use std::io::Write;
@@ -40,13 +41,7 @@ pub fn write_phases<W: Write>(
         atomic: &*atomic,
         phases: &phases,
     };
-    let mut text = String::new(alloc);
-    push_front(&mut text, tree.name(atomic.name.number))?;
-    write_nodes(diagram, &mut text, writer)?;
-    push_starts(&mut text, diagram)?;
-    write_edges(diagram, &mut text, writer)?;
-    text.push_str("}\n")?;
-    hand_over(writer, text.as_bytes())
+    write_diagram(diagram, &mut GraphText::new(alloc, writer))
 }
 
 fn phases_of(alloc: Global, atomic: &Atomic) -> Result<Vec<Name>, AllocError> {
@@ -57,138 +52,161 @@ fn phases_of(alloc: Global, atomic: &Atomic) -> Result<Vec<Name>, AllocError> {
     Ok(phases)
 }
 
+fn write_diagram<W: Write>(
+    diagram: Diagram<'_>,
+    text: &mut GraphText<'_, W>,
+) -> Result<(), WriteError> {
+    put_front(diagram, text)?;
+    write_nodes(diagram, text)?;
+    put_starts(diagram, text)?;
+    write_edges(diagram, text)?;
+    write_new_beginnings(diagram, text)?;
+    text.end()
+}
+
 // The name of the model, and how nodes look.
-fn push_front(text: &mut String, name: &str) -> Result<(), AllocError> {
-    text.push_str("digraph \"")?;
-    push_name(text, name)?;
-    text.push_str("\" {\n\tlabel=\"")?;
-    push_name(text, name)?;
-    text.push_str("\";\n\tlabelloc=t;\n")?;
-    text.push_str("\tnodesep=0.6;\n\tedge [fontsize=11];\n")?;
-    text.push_str("\tnode [shape=box, style=\"rounded,filled\", fillcolor=white];\n")
+fn put_front<W: Write>(
+    diagram: Diagram<'_>,
+    text: &mut GraphText<'_, W>,
+) -> Result<(), WriteError> {
+    let name = Escaped(diagram.tree.name(diagram.atomic.name.number));
+    text.put(format_args!(
+        "digraph \"{name}\" {{\n\tlabel=\"{name}\";\n\tlabelloc=t;\n\tnodesep=0.6;\n"
+    ))?;
+    text.put(
+        "\tedge [fontsize=11];\n\tnode [shape=box, style=\"rounded,filled\", fillcolor=white];\n",
+    )
 }
 
 fn write_nodes<W: Write>(
     diagram: Diagram<'_>,
-    text: &mut String,
-    writer: &mut W,
+    text: &mut GraphText<'_, W>,
 ) -> Result<(), WriteError> {
     for (index, name) in diagram.phases.iter().enumerate() {
-        write!(text, "\tp{index} [label=\"")?;
-        push_name(text, diagram.tree.name(name.number))?;
-        push_hold(text, diagram, name.number)?;
-        push_sends(text, diagram, name.number)?;
-        text.push_str("\"];\n")?;
-        hand_over_if_long(text, writer)?;
+        let label = Escaped(diagram.tree.name(name.number));
+        text.put(format_args!("\tp{index} [label=\"{label}"))?;
+        put_hold(diagram, name.number, text)?;
+        put_sends(diagram, name.number, text)?;
+        text.put("\"];\n")?;
     }
     Ok(())
 }
 
 // The hold of the phase with a name of this number.
-fn push_hold(text: &mut String, diagram: Diagram<'_>, phase: u32) -> Result<(), AllocError> {
+fn put_hold<W: Write>(
+    diagram: Diagram<'_>,
+    phase: u32,
+    text: &mut GraphText<'_, W>,
+) -> Result<(), WriteError> {
     match ticks_of(diagram.atomic, phase) {
         Some(Ticks::After(ticks)) => {
             let ticks = short_text(diagram.alloc, diagram.tree, ticks)?;
-            write!(text, "\\nhold {ticks}")
+            text.put(format_args!("\\nhold {ticks}"))
         }
-        Some(Ticks::Forever) => text.push_str("\\nhold forever"),
+        Some(Ticks::Forever) => text.put("\\nhold forever"),
         None => Ok(()),
     }
 }
 
 fn ticks_of(atomic: &Atomic, phase: u32) -> Option<&Ticks> {
-    let hold = atomic.holds.iter().find(|hold| hold.phase.number == phase)?;
-    Some(&hold.ticks)
+    for hold in &atomic.holds {
+        if hold.phase.number == phase {
+            return Some(&hold.ticks);
+        }
+    }
+    None
 }
 
 // What the output rules of a phase send.
-fn push_sends(text: &mut String, diagram: Diagram<'_>, phase: u32) -> Result<(), AllocError> {
+fn put_sends<W: Write>(
+    diagram: Diagram<'_>,
+    phase: u32,
+    text: &mut GraphText<'_, W>,
+) -> Result<(), WriteError> {
     for rule in &diagram.atomic.rules {
         if rule.sort == RuleSort::Output && rule.phase.number == phase {
-            push_sends_of(text, diagram, rule)?;
+            let steps = steps_of(diagram.reading(" "), &rule.body)?;
+            put_sends_of(diagram, &steps, text)?;
         }
     }
     Ok(())
 }
 
-fn push_sends_of(text: &mut String, diagram: Diagram<'_>, rule: &Rule) -> Result<(), AllocError> {
-    for step in &diagram.steps(rule, " ")? {
+fn put_sends_of<W: Write>(
+    diagram: Diagram<'_>,
+    steps: &[Step<'_>],
+    text: &mut GraphText<'_, W>,
+) -> Result<(), WriteError> {
+    for step in steps {
         if let Deed::Send { port, value } = step.deed {
-            text.push_str("\\n! ")?;
-            push_name(text, diagram.tree.name(port))?;
+            let port = Escaped(diagram.tree.name(port));
             let value = short_text(diagram.alloc, diagram.tree, value)?;
-            write!(text, " {value}{}", step.conditions)?;
+            text.put(format_args!("\\n! {port} {value}{}", step.conditions))?;
         }
     }
     Ok(())
 }
 
 // An arrow to the start.
-fn push_starts(text: &mut String, diagram: Diagram<'_>) -> Result<(), AllocError> {
+fn put_starts<W: Write>(
+    diagram: Diagram<'_>,
+    text: &mut GraphText<'_, W>,
+) -> Result<(), WriteError> {
     for start in &diagram.atomic.starts {
         if let Some(index) = diagram.index_of(start.phase.number) {
-            write!(text, "\tstart [shape=point];\n\tstart -> p{index};\n")?;
+            text.put(format_args!("\tstart [shape=point];\n\tstart -> p{index};\n"))?;
         }
     }
     Ok(())
 }
 
-// Writes the edges, in the order of the rules, and then those of phases that begin again.
+// Writes the edges of the rules, in their order.
 fn write_edges<W: Write>(
     diagram: Diagram<'_>,
-    text: &mut String,
-    writer: &mut W,
+    text: &mut GraphText<'_, W>,
 ) -> Result<(), WriteError> {
     for rule in &diagram.atomic.rules {
-        match rule.sort {
-            RuleSort::Output => {}
-            RuleSort::Internal | RuleSort::External | RuleSort::Confluent => {
-                push_rule(text, diagram, rule)?;
-            }
+        if rule.sort != RuleSort::Output
+            && let Some(from) = diagram.index_of(rule.phase.number)
+        {
+            let steps = steps_of(diagram.reading("\\n"), &rule.body)?;
+            put_rule(diagram, rule, from, &steps, text)?;
         }
-        hand_over_if_long(text, writer)?;
-    }
-    for (index, name) in diagram.phases.iter().enumerate() {
-        if diagram.begins_again(name.number) {
-            writeln!(text, "\tp{index} -> p{index};")?;
-        }
-        hand_over_if_long(text, writer)?;
     }
     Ok(())
 }
 
-// The edges of a rule.
-fn push_rule(text: &mut String, diagram: Diagram<'_>, rule: &Rule) -> Result<(), AllocError> {
-    let Some(from) = diagram.index_of(rule.phase.number) else {
-        return Ok(());
-    };
-    let steps = diagram.steps(rule, "\\n")?;
-    for step in &steps {
+// The edges of a rule of the phase at an index, which takes these steps.
+fn put_rule<W: Write>(
+    diagram: Diagram<'_>,
+    rule: &Rule,
+    from: usize,
+    steps: &[Step<'_>],
+    text: &mut GraphText<'_, W>,
+) -> Result<(), WriteError> {
+    for step in steps {
         if let Deed::GoTo(phase) = step.deed
             && let Some(to) = diagram.index_of(phase)
         {
-            push_edge(text, from, to, rule.sort, step.conditions.as_str())?;
+            put_edge(from, to, rule.sort, step.conditions.as_str(), text)?;
         }
     }
-    if !always_goes(&rule.body) {
-        let conditions = if steps.is_empty() { "" } else { "\\notherwise" };
-        push_edge(text, from, from, rule.sort, conditions)?;
+    if always_goes(&rule.body) {
+        return Ok(());
     }
-    Ok(())
+    let conditions = if steps.is_empty() { "" } else { "\\notherwise" };
+    put_edge(from, from, rule.sort, conditions, text)
 }
 
-fn push_edge(
-    text: &mut String,
+fn put_edge<W: Write>(
     from: usize,
     to: usize,
     sort: RuleSort,
     conditions: &str,
-) -> Result<(), AllocError> {
+    text: &mut GraphText<'_, W>,
+) -> Result<(), WriteError> {
     let (word, style) = looks_of(sort);
-    writeln!(
-        text,
-        "\tp{from} -> p{to} [label=\"{word}{conditions}\"{style}];"
-    )
+    text.put(format_args!("\tp{from} -> p{to} [label=\"{word}{conditions}\"{style}];\n"))
 }
 
 // The word of a sort of rules, and the style of its edges.
@@ -201,27 +219,46 @@ fn looks_of(sort: RuleSort) -> (&'static str, &'static str) {
     }
 }
 
+// Writes the edges of the phases that begin again.
+fn write_new_beginnings<W: Write>(
+    diagram: Diagram<'_>,
+    text: &mut GraphText<'_, W>,
+) -> Result<(), WriteError> {
+    for (index, name) in diagram.phases.iter().enumerate() {
+        if diagram.begins_again(name.number) {
+            text.put(format_args!("\tp{index} -> p{index};\n"))?;
+        }
+    }
+    Ok(())
+}
+
 impl<'d> Diagram<'d> {
     // The index of the phase with a name of this number.
     fn index_of(self, phase: u32) -> Option<usize> {
-        self.phases.iter().position(|name| name.number == phase)
+        for (index, name) in self.phases.iter().enumerate() {
+            if name.number == phase {
+                return Some(index);
+            }
+        }
+        None
     }
 
-    fn steps(self, rule: &'d Rule, separator: &'static str) -> Result<Vec<Step<'d>>, AllocError> {
-        let reading = Reading {
+    // How rules are read, with this in front of each condition.
+    fn reading(self, separator: &'static str) -> Reading<'d> {
+        Reading {
             alloc: self.alloc,
             tree: self.tree,
             separator,
-        };
-        let mut steps = Vec::new(self.alloc);
-        add_steps(reading, &rule.body, "", &mut steps)?;
-        Ok(steps)
+        }
     }
 
     // Whether the hold of a phase ends, and it has no internal rule.
     fn begins_again(self, phase: u32) -> bool {
+        for rule in &self.atomic.rules {
+            if rule.sort == RuleSort::Internal && rule.phase.number == phase {
+                return false;
+            }
+        }
         matches!(ticks_of(self.atomic, phase), Some(Ticks::After(_)))
-            && !self.atomic.rules.iter().any(|rule| rule.sort == RuleSort::Internal
-                && rule.phase.number == phase)
     }
 }

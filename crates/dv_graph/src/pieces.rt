@@ -3,44 +3,54 @@
 use dv_check::GREATEST_DEPTH;
 use dv_syntax::Model;
 use dv_tree::{ResolvedPart, Tree};
-use std::alloc::AllocError;
+use std::fmt;
 
-/// The name of a graph, and how its nodes and edges look.
-pub(crate) fn push_front(text: &mut String, tree: &Tree) -> Result<(), AllocError> {
-    text.push_str("digraph \"")?;
-    push_name(text, tree.name(tree.file().root.number))?;
-    text.push_str("\" {\n\trankdir=LR;\n")?;
-    text.push_str("\tnode [shape=box, style=filled, fillcolor=white];\n")
-}
+/// As many tabs as the deepest line has: the label of a cluster at the greatest depth.
+const TABS: &str = "\t\t\t\t\t\t\t\t\t\t\t\t\t\t\t\t\t";
 
 /// A name in a quoted string. Names are of letters, digits and such, with no quote and no backslash; if there were one, a
 /// backslash would stand before it.
-pub(crate) fn push_name(text: &mut String, name: &str) -> Result<(), AllocError> {
-    for letter in name.chars() {
-        if letter == '"' || letter == '\\' {
-            text.push('\\')?;
+#[derive(Clone, Copy)]
+pub(crate) struct Escaped<'n>(pub(crate) &'n str);
+
+impl fmt::Display for Escaped<'_> {
+    fn fmt<W: fmt::Write>(&self, f: &mut fmt::Formatter<W>) -> fmt::Result {
+        for letter in self.0.chars() {
+            let backslash = if letter == '"' || letter == '\\' {
+                "\\"
+            } else {
+                ""
+            };
+            write!(f, "{backslash}{letter}")?;
         }
-        text.push(letter)?;
+        Ok(())
     }
-    Ok(())
 }
 
 /// The name of a part and that of its model.
-pub(crate) fn push_part(
-    text: &mut String,
-    tree: &Tree,
-    part: &ResolvedPart,
-) -> Result<(), AllocError> {
-    push_name(text, tree.name(part.name.number))?;
-    text.push_str(": ")?;
-    push_name(text, model_name(tree, part.model))
+#[derive(Clone, Copy)]
+pub(crate) struct PartLabel<'t> {
+    name: &'t str,
+    model: &'t str,
 }
 
-fn model_name<'t>(tree: &'t Tree<'_>, index: usize) -> &'t str {
-    match tree.reached().get(index) {
-        Some(Model::Atomic(model)) => tree.name(model.name.number),
-        Some(Model::Coupled(model)) => tree.name(model.name.number),
-        None => "",
+impl<'t> PartLabel<'t> {
+    /// The label of a part of a tree.
+    pub(crate) fn of(tree: &'t Tree<'_>, part: &ResolvedPart) -> Self {
+        PartLabel {
+            name: tree.name(part.name.number),
+            model: match tree.reached().get(part.model) {
+                Some(Model::Atomic(model)) => tree.name(model.name.number),
+                Some(Model::Coupled(model)) => tree.name(model.name.number),
+                None => "",
+            },
+        }
+    }
+}
+
+impl fmt::Display for PartLabel<'_> {
+    fn fmt<W: fmt::Write>(&self, f: &mut fmt::Formatter<W>) -> fmt::Result {
+        write!(f, "{}: {}", Escaped(self.name), Escaped(self.model))
     }
 }
 
@@ -50,11 +60,18 @@ pub(crate) fn tabs_at(depth: usize) -> usize {
 }
 
 /// So many tabs.
-pub(crate) fn push_tabs(text: &mut String, count: usize) -> Result<(), AllocError> {
-    for _tab in 0..count {
-        text.push('\t')?;
-    }
-    Ok(())
+pub(crate) fn tabs(count: usize) -> &'static str {
+    TABS.get(..count).unwrap_or(TABS)
+}
+
+/// The name of an output port of a component, by its index.
+pub(crate) fn output_name<'t>(tree: &'t Tree<'_>, component: u32, port: u32) -> &'t str {
+    port_name(tree, outputs_of(tree, component), port)
+}
+
+/// The name of an input port of a component, by its index.
+pub(crate) fn input_name<'t>(tree: &'t Tree<'_>, component: u32, port: u32) -> &'t str {
+    port_name(tree, inputs_of(tree, component), port)
 }
 
 /// The names of the output ports of a component, by their numbers.
@@ -77,8 +94,8 @@ pub(crate) fn inputs_of<'t>(tree: &'t Tree<'_>, component: u32) -> &'t [u32] {
     }
 }
 
-/// The name of the port at an index of some ports.
-pub(crate) fn port_name<'t>(tree: &'t Tree<'_>, ports: &[u32], port: u32) -> &'t str {
+// The name of the port at an index of some ports.
+fn port_name<'t>(tree: &'t Tree<'_>, ports: &[u32], port: u32) -> &'t str {
     match ports.get(port as usize) {
         Some(number) => tree.name(*number),
         None => "",

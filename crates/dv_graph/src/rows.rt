@@ -23,12 +23,12 @@ impl<'n> Rows<'n> {
         parts: &'n [u32],
         links: &[JoinedLinks],
     ) -> Result<Self, AllocError> {
-        let nodes = columns_of(alloc, parts.len(), links)?;
+        let nodes = placed_nodes(alloc, parts.len(), links)?;
         let count = parts.iter().copied().max().unwrap_or(0).saturating_add(1);
         let mut columns = vec![in alloc; u32::MAX; count as usize]?;
-        for (part, column) in parts.iter().zip(nodes.iter()) {
+        for (part, node) in parts.iter().zip(&nodes) {
             if let Some(least) = columns.get_mut(*part as usize) {
-                *least = (*least).min(*column);
+                *least = (*least).min(node.column);
             }
         }
         Ok(Rows { parts, columns })
@@ -45,24 +45,42 @@ impl<'n> Rows<'n> {
     }
 }
 
-// The columns of so many nodes.
-fn columns_of(alloc: Global, count: usize, links: &[JoinedLinks]) -> Result<Vec<u32>, AllocError> {
-    let mut placing = Placing::new(alloc, count, links)?;
-    for _node in 0..count {
-        if let Some(node) = placing.next() {
-            placing.place(node)?;
+// So many nodes, each in its column.
+fn placed_nodes(
+    alloc: Global,
+    count: usize,
+    links: &[JoinedLinks],
+) -> Result<Vec<PlacedNode>, AllocError> {
+    let mut placing = Placing::new(alloc, count)?;
+    placing.place_all(links)?;
+    Ok(placing.nodes)
+}
+
+/// A node that stands in a column, or is still to be placed.
+#[derive(Clone, Copy)]
+struct PlacedNode {
+    column: u32,
+    is_placed: bool,
+    // From how many nodes that are not placed links lead to it.
+    waiting: u32,
+}
+
+impl PlacedNode {
+    // A node from which a link leads here is placed: this one stands in a column at least. Whether it waits for no other node then.
+    fn is_ready_behind(&mut self, column: u32) -> bool {
+        if self.is_placed {
+            return false;
         }
+        self.column = self.column.max(column);
+        self.waiting = self.waiting.saturating_sub(1);
+        self.waiting == 0
     }
-    Ok(placing.columns)
 }
 
 /// Nodes that are being placed.
 #[derive(Drop)]
 struct Placing {
-    columns: Vec<u32>,
-    is_placed: Vec<bool>,
-    // From how many nodes that are not placed links lead to each.
-    waiting: Vec<u32>,
+    nodes: Vec<PlacedNode>,
     // To which nodes links lead from each.
     targets: Vec<Vec<u32>>,
     // The nodes that are not placed and wait for none.
@@ -70,36 +88,47 @@ struct Placing {
 }
 
 impl Placing {
-    fn new(alloc: Global, count: usize, links: &[JoinedLinks]) -> Result<Self, AllocError> {
-        let mut placing = Placing {
-            columns: vec![in alloc; 0; count]?,
-            is_placed: vec![in alloc; false; count]?,
-            waiting: vec![in alloc; 0; count]?,
-            targets: empty_lists(alloc, count)?,
-            ready: Vec::new(alloc),
+    fn new(alloc: Global, count: usize) -> Result<Self, AllocError> {
+        let node = PlacedNode {
+            column: 0,
+            is_placed: false,
+            waiting: 0,
         };
+        Ok(Placing {
+            targets: empty_lists(alloc, count)?,
+            nodes: vec![in alloc; node; count]?,
+            ready: Vec::new(alloc),
+        })
+    }
+
+    fn place_all(&mut self, links: &[JoinedLinks]) -> Result<(), AllocError> {
         for link in links {
-            placing.add(link)?;
+            self.add(link)?;
         }
-        placing.find_ready()?;
-        Ok(placing)
+        self.find_ready()?;
+        for _node in 0..self.nodes.len() {
+            if let Some(node) = self.next() {
+                self.place(node)?;
+            }
+        }
+        Ok(())
     }
 
     fn add(&mut self, link: &JoinedLinks) -> Result<(), AllocError> {
         if let Some(targets) = self.targets.get_mut(link.from as usize)
-            && let Some(waiting) = self.waiting.get_mut(link.to as usize)
+            && let Some(node) = self.nodes.get_mut(link.to as usize)
         {
             targets.push(link.to)?;
-            *waiting = waiting.saturating_add(1);
+            node.waiting = node.waiting.saturating_add(1);
         }
         Ok(())
     }
 
     // Those that wait for none, the first one last.
     fn find_ready(&mut self) -> Result<(), AllocError> {
-        for (node, waiting) in self.waiting.iter().enumerate().rev() {
-            if *waiting == 0 {
-                self.ready.push(node)?;
+        for (index, node) in self.nodes.iter().enumerate().rev() {
+            if node.waiting == 0 {
+                self.ready.push(index)?;
             }
         }
         Ok(())
@@ -109,52 +138,26 @@ impl Placing {
     fn next(&mut self) -> Option<usize> {
         match self.ready.pop() {
             Some(node) => Some(node),
-            None => self.is_placed.iter().position(|is_placed| !*is_placed),
+            None => self.nodes.iter().position(|node| !node.is_placed),
         }
     }
 
-    // Places a node; those to which links lead stand behind it, where they are not placed.
-    fn place(&mut self, node: usize) -> Result<(), AllocError> {
-        if let Some(is_placed) = self.is_placed.get_mut(node) {
-            *is_placed = true;
-        }
-        let behind = self
-            .columns
-            .get(node)
-            .copied()
-            .unwrap_or(0)
-            .saturating_add(1);
-        let Some(targets) = self.targets.get(node) else {
-            return Ok(());
-        };
-        for target in targets {
-            let target = *target as usize;
-            if self.is_placed.get(target) == Some(&false) {
-                put_behind(&mut self.columns, target, behind);
-                if is_last(&mut self.waiting, target) {
-                    self.ready.push(target)?;
+    // Places a node. Those to which links lead stand behind it, where they are not placed.
+    fn place(&mut self, index: usize) -> Result<(), AllocError> {
+        if let Some(node) = self.nodes.get_mut(index)
+            && let Some(targets) = self.targets.get(index)
+        {
+            node.is_placed = true;
+            let behind = node.column.saturating_add(1);
+            for target in targets {
+                if let Some(node) = self.nodes.get_mut(*target as usize)
+                    && node.is_ready_behind(behind)
+                {
+                    self.ready.push(*target as usize)?;
                 }
             }
         }
         Ok(())
-    }
-}
-
-// A node stands in a column at least.
-fn put_behind(columns: &mut [u32], node: usize, least: u32) {
-    if let Some(column) = columns.get_mut(node) {
-        *column = least.max(*column);
-    }
-}
-
-// A node waits for one less. Whether it waits for none then.
-fn is_last(waiting: &mut [u32], node: usize) -> bool {
-    match waiting.get_mut(node) {
-        Some(waiting) => {
-            *waiting = waiting.saturating_sub(1);
-            *waiting == 0
-        }
-        None => false,
     }
 }
 

@@ -32,83 +32,100 @@ pub(crate) struct Reading<'r> {
 }
 
 impl Reading<'_> {
-    // Conditions, and one more.
-    fn and(self, conditions: &str, word: &str, condition: &str) -> Result<String, AllocError> {
-        let separator = self.separator;
-        format!(in self.alloc; "{conditions}{separator}{word} {condition}")
-    }
-
     // Conditions, and that an expression is true.
     fn and_if(self, conditions: &str, condition: &Expr) -> Result<String, AllocError> {
+        let separator = self.separator;
         let condition = short_text(self.alloc, self.tree, condition)?;
-        self.and(conditions, "if", condition.as_str())
+        format!(in self.alloc; "{conditions}{separator}if {condition}")
     }
 
     // Conditions, and that an expression is false.
     fn and_if_not(self, conditions: &str, condition: &Expr) -> Result<String, AllocError> {
+        let separator = self.separator;
         let condition = short_negation(self.alloc, self.tree, condition)?;
-        self.and(conditions, "if", condition.as_str())
+        format!(in self.alloc; "{conditions}{separator}if {condition}")
     }
 
     // Conditions, in a loop.
     fn and_for(self, conditions: &str, variable: u32, bag: u32) -> Result<String, AllocError> {
+        let separator = self.separator;
         let variable = self.tree.name(variable);
         let bag = self.tree.name(bag);
-        let head = format!(in self.alloc; "{variable} in {bag}")?;
-        self.and(conditions, "for", head.as_str())
+        format!(in self.alloc; "{conditions}{separator}for {variable} in {bag}")
     }
 }
 
-/// Adds the steps of a block that goes on or sends under these conditions.
-pub(crate) fn add_steps<'a>(
+/// The steps of a block.
+pub(crate) fn steps_of<'a>(
+    reading: Reading<'_>,
+    block: &'a Block,
+) -> Result<Vec<Step<'a>>, AllocError> {
+    let mut steps = Vec::new(reading.alloc);
+    add_steps(reading, block, "", &mut steps)?;
+    Ok(steps)
+}
+
+// Adds the steps of a block that runs under these conditions.
+#[cycle(steps)]
+fn add_steps<'a>(
     reading: Reading<'_>,
     block: &'a Block,
     conditions: &str,
     steps: &mut Vec<Step<'a>>,
 ) -> Result<(), AllocError> {
     for statement in &block.statements {
-        match statement {
-            Stmt::Command {
-                command: Command::Goto,
-                name,
-                ..
-            } => add_step(reading, Deed::GoTo(name.number), conditions, steps)?,
-            Stmt::Send { port, value, .. } => {
-                let port = port.number;
-                add_step(reading, Deed::Send { port, value }, conditions, steps)?;
-            }
-            Stmt::If {
-                condition,
-                then_block,
-                ..
-            } => {
-                let inner = reading.and_if(conditions, condition)?;
-                add_steps(reading, then_block, inner.as_str(), steps)?;
-            }
-            Stmt::IfElse {
-                condition,
-                then_block,
-                else_block,
-                ..
-            } => {
-                let inner = reading.and_if(conditions, condition)?;
-                add_steps(reading, then_block, inner.as_str(), steps)?;
-                let inner = reading.and_if_not(conditions, condition)?;
-                add_steps(reading, else_block, inner.as_str(), steps)?;
-            }
-            Stmt::For {
-                variable,
-                bag,
-                block,
-                ..
-            } => {
-                let inner = reading.and_for(conditions, variable.number, bag.number)?;
-                add_steps(reading, block, inner.as_str(), steps)?;
-            }
-            Stmt::Assign { .. } | Stmt::Command { .. } | Stmt::Change { .. } => {}
-        }
+        add_steps_of(reading, statement, conditions, steps)?;
     }
     Ok(())
+}
+
+#[cycle(steps)]
+fn add_steps_of<'a>(
+    reading: Reading<'_>,
+    statement: &'a Stmt,
+    conditions: &str,
+    steps: &mut Vec<Step<'a>>,
+) -> Result<(), AllocError> {
+    match statement {
+        Stmt::Command {
+            command: Command::Goto,
+            name,
+            ..
+        } => add_step(reading, Deed::GoTo(name.number), conditions, steps),
+        Stmt::Send { port, value, .. } => {
+            let port = port.number;
+            add_step(reading, Deed::Send { port, value }, conditions, steps)
+        }
+        Stmt::If {
+            condition,
+            then_block,
+            ..
+        } => {
+            let inner = reading.and_if(conditions, condition)?;
+            add_steps(reading, then_block, inner.as_str(), steps)
+        }
+        Stmt::IfElse {
+            condition,
+            then_block,
+            else_block,
+            ..
+        } => {
+            let inner = reading.and_if(conditions, condition)?;
+            add_steps(reading, then_block, inner.as_str(), steps)?;
+            let inner = reading.and_if_not(conditions, condition)?;
+            add_steps(reading, else_block, inner.as_str(), steps)
+        }
+        Stmt::For {
+            variable,
+            bag,
+            block,
+            ..
+        } => {
+            let inner = reading.and_for(conditions, variable.number, bag.number)?;
+            add_steps(reading, block, inner.as_str(), steps)
+        }
+        Stmt::Assign { .. } | Stmt::Command { .. } | Stmt::Change { .. } => Ok(()),
+    }
 }
 
 fn add_step<'a>(
@@ -117,11 +134,10 @@ fn add_step<'a>(
     conditions: &str,
     steps: &mut Vec<Step<'a>>,
 ) -> Result<(), AllocError> {
-    steps.push(Step {
+    Ok(steps.push(Step {
         deed,
         conditions: String::from_str(reading.alloc, conditions)?,
-    })?;
-    Ok(())
+    })?)
 }
 
 /// Whether a `goto` runs wherever a block runs to its end. A loop may have nothing to run for.

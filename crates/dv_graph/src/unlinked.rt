@@ -1,10 +1,11 @@
 //! Ports that no link takes: nothing that is sent there arrives anywhere, or nothing comes to them.
 
 use crate::number::number_of;
-use crate::pieces::{inputs_of, outputs_of, push_name};
+use crate::pieces::{Escaped, inputs_of, outputs_of};
+use crate::scene::Scene;
 use dv_flat::{ComponentPort, LinkLists};
-use dv_tree::Tree;
 use std::alloc::{AllocError, Global};
+use std::fmt;
 
 /// The most unlinked ports that a node names.
 const MOST_TOLD: usize = 3;
@@ -28,37 +29,27 @@ impl LinkedPorts {
             root_inputs: Vec::new(alloc),
             root_outputs: Vec::new(alloc),
         };
-        ports.add_direct(links)?;
-        ports.add_entries(links)?;
-        ports.add_exits(links)?;
-        ports.inputs.sort_unstable();
-        ports.outputs.sort_unstable();
-        ports.root_inputs.sort_unstable();
-        ports.root_outputs.sort_unstable();
+        ports.add(links)?;
         Ok(ports)
     }
 
-    fn add_direct(&mut self, links: &LinkLists) -> Result<(), AllocError> {
+    fn add(&mut self, links: &LinkLists) -> Result<(), AllocError> {
         for link in &links.direct {
             self.outputs.push(pair(link.from))?;
             self.inputs.push(pair(link.to))?;
         }
-        Ok(())
-    }
-
-    fn add_entries(&mut self, links: &LinkLists) -> Result<(), AllocError> {
         for link in &links.entries {
             self.root_inputs.push(link.from)?;
             self.inputs.push(pair(link.to))?;
         }
-        Ok(())
-    }
-
-    fn add_exits(&mut self, links: &LinkLists) -> Result<(), AllocError> {
         for link in &links.exits {
             self.outputs.push(pair(link.from))?;
             self.root_outputs.push(link.to)?;
         }
+        self.inputs.sort_unstable();
+        self.outputs.sort_unstable();
+        self.root_inputs.sort_unstable();
+        self.root_outputs.sort_unstable();
         Ok(())
     }
 
@@ -71,76 +62,83 @@ impl LinkedPorts {
     pub(crate) fn has_root_output(&self, port: u32) -> bool {
         self.root_outputs.binary_search(&port).is_ok()
     }
-
-    /// The unlinked ports of a component: its inputs, and then its outputs.
-    pub(crate) fn unlinked_of<'t>(
-        &self,
-        alloc: Global,
-        tree: &'t Tree<'_>,
-        component: u32,
-    ) -> Result<Vec<UnlinkedPort<'t>>, AllocError> {
-        let mut unlinked = Vec::new(alloc);
-        for (port, name) in inputs_of(tree, component).iter().enumerate() {
-            if self
-                .inputs
-                .binary_search(&(component, number_of(port)))
-                .is_err()
-            {
-                unlinked.push(UnlinkedPort::Input(tree.name(*name)))?;
-            }
-        }
-        for (port, name) in outputs_of(tree, component).iter().enumerate() {
-            if self
-                .outputs
-                .binary_search(&(component, number_of(port)))
-                .is_err()
-            {
-                unlinked.push(UnlinkedPort::Output(tree.name(*name)))?;
-            }
-        }
-        Ok(unlinked)
-    }
 }
 
+// A component and a port of it.
 fn pair(port: ComponentPort) -> (u32, u32) {
     (port.component, port.port)
 }
 
-/// A port of a component that no link takes, by its name.
+/// A port of a component that no link takes.
 #[derive(Clone, Copy)]
-pub(crate) enum UnlinkedPort<'t> {
-    Input(&'t str),
-    Output(&'t str),
+pub(crate) struct UnlinkedPort<'t> {
+    direction: &'static str,
+    name: &'t str,
 }
 
-/// A line of a label, small and grey, that names unlinked ports.
-pub(crate) fn push_unlinked(
-    text: &mut String,
-    ports: &[UnlinkedPort<'_>],
+/// The unlinked ports of a component that its node names: its inputs, and then its outputs.
+pub(crate) fn unlinked_of<'s>(
+    scene: Scene<'s>,
+    component: u32,
+) -> Result<Vec<UnlinkedPort<'s>>, AllocError> {
+    let mut unlinked = Vec::new(scene.alloc);
+    if scene.names_unlinked {
+        let inputs = Side {
+            direction: "in",
+            names: inputs_of(scene.tree, component),
+            linked: &scene.linked.inputs,
+        };
+        let outputs = Side {
+            direction: "out",
+            names: outputs_of(scene.tree, component),
+            linked: &scene.linked.outputs,
+        };
+        push_unlinked(&mut unlinked, scene, component, inputs)?;
+        push_unlinked(&mut unlinked, scene, component, outputs)?;
+    }
+    Ok(unlinked)
+}
+
+// The inputs or the outputs of a component, and the linked ones of all components.
+#[derive(Clone, Copy)]
+struct Side<'s> {
+    direction: &'static str,
+    names: &'s [u32],
+    linked: &'s [(u32, u32)],
+}
+
+fn push_unlinked<'s>(
+    unlinked: &mut Vec<UnlinkedPort<'s>>,
+    scene: Scene<'s>,
+    component: u32,
+    side: Side<'_>,
 ) -> Result<(), AllocError> {
-    text.push_str("<br/><font point-size=\"10\" color=\"gray40\">unlinked: ")?;
-    for (index, port) in ports.iter().take(MOST_TOLD).enumerate() {
-        if index > 0 {
-            text.push_str(", ")?;
+    for (port, name) in side.names.iter().enumerate() {
+        let port = (component, number_of(port));
+        if side.linked.binary_search(&port).is_err() {
+            unlinked.push(UnlinkedPort {
+                direction: side.direction,
+                name: scene.tree.name(*name),
+            })?;
         }
-        push_port(text, *port)?;
     }
-    match ports.len().saturating_sub(MOST_TOLD) {
-        0 => {}
-        more => write!(text, " and {more} more")?,
-    }
-    text.push_str("</font>")
+    Ok(())
 }
 
-fn push_port(text: &mut String, port: UnlinkedPort<'_>) -> Result<(), AllocError> {
-    match port {
-        UnlinkedPort::Input(name) => {
-            text.push_str("in ")?;
-            push_name(text, name)
+/// Unlinked ports as a grey line of a label: the first ones, and how many more they are.
+#[derive(Clone, Copy)]
+pub(crate) struct UnlinkedPorts<'p, 't>(pub(crate) &'p [UnlinkedPort<'t>]);
+
+impl fmt::Display for UnlinkedPorts<'_, '_> {
+    fn fmt<W: fmt::Write>(&self, f: &mut fmt::Formatter<W>) -> fmt::Result {
+        f.write_str("<br/><font point-size=\"10\" color=\"gray40\">unlinked: ")?;
+        for (index, port) in self.0.iter().take(MOST_TOLD).enumerate() {
+            let separator = if index == 0 { "" } else { ", " };
+            write!(f, "{separator}{} {}", port.direction, Escaped(port.name))?;
         }
-        UnlinkedPort::Output(name) => {
-            text.push_str("out ")?;
-            push_name(text, name)
+        match self.0.len().saturating_sub(MOST_TOLD) {
+            0 => f.write_str("</font>"),
+            more => write!(f, " and {more} more</font>"),
         }
     }
 }

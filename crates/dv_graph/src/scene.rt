@@ -1,0 +1,70 @@
+//! What is drawn of a model, and how its graph begins.
+
+use crate::graph_text::GraphText;
+use crate::number::number_of;
+use crate::pieces::Escaped;
+use crate::unlinked::LinkedPorts;
+use dv_partition::Groups;
+use dv_text::WriteError;
+use dv_tree::Tree;
+use std::alloc::Global;
+use std::io::Write;
+
+/// What is drawn of a model.
+#[derive(Clone, Copy)]
+pub(crate) struct Scene<'s> {
+    pub(crate) alloc: Global,
+    pub(crate) tree: &'s Tree<'s>,
+    /// The processes, where there is a partition.
+    pub(crate) groups: Option<&'s Groups>,
+    pub(crate) linked: &'s LinkedPorts,
+    /// Whether the node of a component names the ports that no link takes.
+    pub(crate) names_unlinked: bool,
+}
+
+/// Puts what stands before the nodes of the parts: the name of the graph, how its nodes and edges look, with further settings, and
+/// the ports of the root.
+pub(crate) fn put_front<W: Write>(
+    scene: Scene<'_>,
+    settings: &str,
+    text: &mut GraphText<'_, W>,
+) -> Result<(), WriteError> {
+    let name = Escaped(scene.tree.name(scene.tree.file().root.number));
+    text.put(format_args!("digraph \"{name}\" {{\n\trankdir=LR;\n"))?;
+    text.put(format_args!("\tnode [shape=box, style=filled, fillcolor=white];\n{settings}"))?;
+    put_inputs(scene, text)?;
+    put_outputs(scene, text)
+}
+
+// The nodes of the root's inputs. Those that no link takes are grey.
+fn put_inputs<W: Write>(scene: Scene<'_>, text: &mut GraphText<'_, W>) -> Result<(), WriteError> {
+    for (port, name) in scene.tree.input_names(scene.alloc)?.iter().enumerate() {
+        let colour = port_colour(scene.linked.has_root_input(number_of(port)));
+        text.put(format_args!(
+            "\ti{port} [label=\"{}\", shape=invhouse, style=solid{colour}];\n",
+            Escaped(name.as_str())
+        ))?;
+    }
+    Ok(())
+}
+
+// The nodes of the root's outputs. Those that no link takes are grey.
+fn put_outputs<W: Write>(scene: Scene<'_>, text: &mut GraphText<'_, W>) -> Result<(), WriteError> {
+    for port in 0..scene.tree.output_count() {
+        let colour = port_colour(scene.linked.has_root_output(number_of(port)));
+        text.put(format_args!(
+            "\to{port} [label=\"{}\", shape=house, style=solid{colour}];\n",
+            Escaped(scene.tree.output_name(port))
+        ))?;
+    }
+    Ok(())
+}
+
+// The colour of the node of a port, where it has one.
+fn port_colour(is_linked: bool) -> &'static str {
+    if is_linked {
+        ""
+    } else {
+        ", color=gray40, fontcolor=gray40"
+    }
+}
