@@ -55,7 +55,8 @@ in_order_more {X} (m ∷ order) lists n x lt many =
           set-set lists n (l ++ x ∷ []) (drop 1 (l ++ x ∷ []))
           ∙ ap (set lists n) (drop-append-le 1 l (x ∷ []) (omega (arith, more)) ∙ ap (λ (k : List X). k ++ x ∷ []) (sym left))
           ∙ sym (set-set lists n (drop 1 l) (get_or rest n [] ++ x ∷ [])) in
-          subst (λ (k : ℕ). in_order (k ∷ order ++ n ∷ []) (set lists n (l ++ x ∷ [])) ≡ in_order (k ∷ order) lists ++ x ∷ []) same
+          subst (λ (k : ℕ). in_order (k ∷ order ++ n ∷ []) (set lists n (l ++ x ∷ [])) ≡ in_order (k ∷ order) lists ++ x ∷ [])
+          same
           (ap₂ (λ (a b : List X). a ++ b)
           (ap (take 1) there ∙ take-append-le 1 l (x ∷ []) (omega (arith, more)))
           (ap (λ (k : List X). in_order (order ++ n ∷ []) (set (set lists n (l ++ x ∷ [])) n (drop 1 k))) there
@@ -67,7 +68,8 @@ in_order_more {X} (m ∷ order) lists n x lt many =
           let l : List X = get_or lists n [] in
           let k : List X = get_or lists m [] in
           let rest : List (List X) = set lists m (drop 1 k) in
-          let there : get_or (set lists n (l ++ x ∷ [])) m [] ≡ k = get_or-set_other lists n m (l ++ x ∷ []) [] (λ e. apart (sym e)) in
+          let there : get_or (set lists n (l ++ x ∷ [])) m [] ≡ k =
+          get_or-set_other lists n m (l ++ x ∷ []) [] (λ e. apart (sym e)) in
           let left : get_or rest n [] ≡ l = get_or-set_other lists m n (drop 1 k) [] apart in
           let still : length l ≡ 0 + times_of n order = many ∙ ap (λ b. cond b 1 0 + times_of n order) f in
           let as_many : length (get_or rest n []) ≡ times_of n order = ap length left ∙ omega (arith, still) in
@@ -90,7 +92,8 @@ times_more m (k ∷ order) n =
     let more : times_of m (order ++ n ∷ []) ≡ times_of m order + cond (nat_eq m n) 1 0 = times_more m order n in
     omega (arith, more)
 
-within_more : (order : List ℕ) (n count : ℕ) → All (λ (m : ℕ). m < count) order → n < count → All (λ (m : ℕ). m < count) (order ++ n ∷ [])
+within_more : (order : List ℕ) (n count : ℕ)
+    → All (λ (m : ℕ). m < count) order → n < count → All (λ (m : ℕ). m < count) (order ++ n ∷ [])
 within_more order n count all lt = all_end (λ (m : ℕ). m < count) order n all lt
 
 -- one more of a list, whose number comes last
@@ -102,7 +105,8 @@ counted_more {X} order lists n x lt counted = record {
   each = λ m lt_m. elim (yes_or_no (nat_eq m n)) [
     | inl y ↦ (
         let same : m ≡ n = eqb-true m n y in
-        let here : length (get_or lists m []) ≡ times_of m order = counted.each m (subst (λ (k : ℕ). k < length lists) (sym same) lt) in
+        let here : length (get_or lists m []) ≡ times_of m order =
+        counted.each m (subst (λ (k : ℕ). k < length lists) (sym same) lt) in
         let one : times_of m (order ++ n ∷ []) ≡ times_of m order + 1 =
         times_more m order n ∙ ap (λ b. times_of m order + cond b 1 0) y in
         let there : get_or (set lists n (get_or lists n [] ++ x ∷ [])) m [] ≡ get_or lists m [] ++ x ∷ [] =
@@ -189,7 +193,8 @@ popped {X} order lists n k None counted is some =
 popped {X} order lists n k (Some x) counted is some =
     let lt : n < length lists = all_last (λ (m : ℕ). m < length lists) order n counted.within in
     let shorter : length k + 1 ≡ length (get_or lists n []) = sym (ap length is ∙ length-append k (x ∷ [])) in
-    let items : in_order (order ++ n ∷ []) lists ≡ in_order order (set lists n k) ++ x ∷ [] = in_order_less order lists n k x counted is in
+    let items : in_order (order ++ n ∷ []) lists ≡ in_order order (set lists n k) ++ x ∷ [] =
+    in_order_less order lists n k x counted is in
     record {
       some = omega (arith, lt, length-set lists n k);
       counted = counted_less order lists n k counted shorter;

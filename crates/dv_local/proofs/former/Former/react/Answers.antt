@@ -11,7 +11,8 @@ use Rattle.dv_local.proofs.Orders.{IsPushed, pushed}
 use Rattle.dv_local.proofs.former.Former.react.Given.{Over}
 use Rattle.dv_local.proofs.former.Former.react.Goals as goal
 
-one_former : (p : ℕ) (r : Running) (h : Option Happened) → is_some h ≡ true → former_of p r h ≡ (record { index = p; what = r }) ∷ []
+one_former : (p : ℕ) (r : Running) (h : Option Happened)
+    → is_some h ≡ true → former_of p r h ≡ (record { index = p; what = r }) ∷ []
 one_former p r None is = absurd (cc)
 one_former p r (Some h) is = refl
 
