@@ -1,15 +1,15 @@
-//! Faults, separated from errors of memory.
+//! Faults of rules, told apart from refused memory.
 
 ghost use Rattle.std.specs.Prelude.{◌≡◌, MatchResult};
 
 use dv_bag::{Fault, RuleError};
 use std::alloc::AllocError;
 
-/// The fault that an error of a rule is. No fault is taken for an error of memory, and no error of memory for a fault.
+/// The fault in an error of a rule.
 ///
 /// # Errors
 ///
-/// No memory, where that is what the error says.
+/// The error is no fault: memory was refused.
 pub fn fault_in(error: RuleError) -> Result<Fault, AllocError>
     ensures { MatchResult result (λ fault. error ≡ RuleError.Fault fault)
         (λ none. error ≡ RuleError.Memory) }

@@ -7,6 +7,6 @@ use dv_bag::{Fault, Kind};
 pub enum Happened {
     /// A transition of this kind.
     Transition(Kind),
-    /// A fault. It is quiet from then on.
+    /// A fault. The component is quiet from then on.
     Fault(Fault),
 }

@@ -1,4 +1,4 @@
-//! The lines of what leaves the model at an instant.
+//! The output lines of an instant.
 
 ghost use Rattle.std.specs.Prelude.{◌≡◌, ◌++◌, ◌^◌, ◌≤◌, OnOk, length};
 ghost use Rattle.dv_devs.specs.Network.{outer_from};
@@ -10,12 +10,12 @@ use dv_bag::{Bags, Part};
 use dv_record::push_lines;
 use std::alloc::AllocError;
 
-/// Commits what leaves the model at an instant, by output port of the root: a line for each port with values. The work
-/// is in these ports.
+/// Adds what leaves the model at an instant to a part: an output line for each output port of the
+/// root with values. Only these ports are looked at.
 ///
 /// # Errors
 ///
-/// No memory for the lines, of which some may have been committed then.
+/// No memory for the lines. Some of them may have been added.
 pub fn commit_outer(
     instant: &Instant,
     leaving: &Bags,

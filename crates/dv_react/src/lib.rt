@@ -1,19 +1,21 @@
-//! The kernel of an instant: the reaction of one component, written once for any code of an atomic model.
+//! The kernel of an instant: the reaction of one component, written once for any code of an atomic
+//! model.
 //!
-//! `Atomic` is the trait of such code: output, the three kinds of transition, and the hold. `Running` is a component
-//! of a run: its state, the tick of its last transition, and what it waits for. `react` says which transition it is,
-//! makes it, and answers what happened. What comes of it is the reaction of `dv_devs` for the behaviour that the code
-//! gives, faults in the order in which they are looked for.
+//! `Atomic` is the trait of such code: output, the three kinds of transition, and the hold.
+//! `Running` is a component of a run: its state, the tick of its last transition, and when its hold
+//! ends. `react` finds which transition takes place, makes it, and returns what happened.
+//! This is the reaction of `dv_devs` for the behaviour of the code, also in which fault comes first
+//! if there are several.
 //!
-//! Two kinds of code implement the trait: trees in `dv_plain`, and programs in `dv_coded`. `dv_share` calls the
-//! kernel for components that have something to do, `dv_plain` for all. Which components these are, and where their
-//! values go, is not decided here.
+//! Two kinds of code implement the trait: trees in `dv_plain`, and programs in `dv_coded`.
+//! `dv_share` calls the kernel for components that emitted or receive something, `dv_plain` for
+//! all. Which components these are, and where their values go, is not decided here.
 #![tactic(auto)]
 
-/// Code that gives the behaviour of an atomic model.
+/// The trait of code for atomic models.
 pub mod atomic;
 
-/// Faults, separated from errors of memory.
+/// Faults of rules, told apart from refused memory.
 mod fault;
 
 /// What happens to a component.
@@ -22,7 +24,7 @@ pub mod happened;
 /// An instant of a run.
 pub mod instant;
 
-/// The lines of what leaves the model.
+/// The output lines of an instant.
 pub mod leaving;
 
 /// How one component reacts at an instant.
@@ -31,13 +33,13 @@ pub mod reaction;
 /// What a component receives.
 mod received;
 
-/// One component.
+/// One component of a run.
 pub mod running;
 
 /// The transitions of an atomic model.
 mod transition;
 
-/// When holds run out.
+/// When holds end.
 pub mod wait;
 
 pub use atomic::Atomic;
