@@ -1,4 +1,4 @@
-//! What comes to the components of a share at an instant.
+//! What arrives at the components of a share at an instant.
 
 ghost use Rattle.std.specs.Prelude.{◌≡◌, IfOk, OnOk, length};
 ghost use Rattle.dv_conservative.specs.Links.{inbox};
@@ -15,13 +15,15 @@ use dv_bag::{Bags, Fault, Sent};
 use dv_react::Atomic;
 use std::alloc::{AllocError, Global};
 
-/// The bags that come to the components: from outside, from one another by what was emitted, and by deliveries. An index
-/// stands where a value comes or something was emitted, and nowhere else. What leads to no component or port of the
-/// share is left out. What is there is that of the instant before, whose memory serves again.
+/// Fills `received` with the bags of what arrives: from outside, from the components by what they
+/// emitted, and by deliveries from other processes. It gets an index for each component that
+/// emitted something or receives a value, and no other. What leads to no component or port of the
+/// share is left out. The old contents of `incoming` and `received` are discarded, their memory is
+/// used again.
 ///
 /// # Errors
 ///
-/// No memory for them.
+/// No memory for the bags.
 pub fn arrivals<A: Atomic>(
     tables: &Tables<A>,
     emitted: &[Indexed<Result<Sent, Fault>>],
@@ -47,11 +49,12 @@ pub fn arrivals<A: Atomic>(
     received.gather(&tables.members, emitted, incoming)
 }
 
-/// The bags that deliveries make for one component. In the order of ports and values each value goes to the end.
+/// The bags that deliveries make for one component, which has so many input ports. It is fastest if
+/// the deliveries are in the order of ports and values: then each value goes to the end of its bag.
 ///
 /// # Errors
 ///
-/// No memory for them.
+/// No memory for the bags.
 pub fn bags_of(
     alloc: Global,
     component: u32,

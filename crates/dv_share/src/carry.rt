@@ -17,11 +17,11 @@ use dv_bag::sent::Sending;
 use dv_bag::{Bag, Bags, Fault, Sent};
 use std::alloc::{AllocError, Global};
 
-/// What links carry of what was emitted, behind what is there.
+/// Appends what links carry of what was emitted.
 ///
 /// # Errors
 ///
-/// No memory for it.
+/// No memory for the deliveries.
 pub fn carry_emitted(
     deliveries: &mut Vec<Delivery>,
     members: &[Member],
@@ -34,11 +34,12 @@ pub fn carry_emitted(
         ≡ deliveries_of deliveries.old.items
         ++ carried links.now (sent_in members.now emitted.now)) }
 {
+    // For the prover alone.
     links.are_in_order();
     carry_rows(deliveries, members, links, emitted)
 }
 
-// The same, emission by emission.
+// `carry_emitted`, emission by emission.
 fn carry_rows(
     deliveries: &mut Vec<Delivery>,
     members: &[Member],
@@ -58,7 +59,8 @@ fn carry_rows(
     Ok(())
 }
 
-// What links carry of what one component sends. It looks at those alone that lead from a port at which something is sent.
+// Appends what the links of a component carry of what it sends. Only the links from ports at which
+// it sends are looked at.
 fn carry_row(deliveries: &mut Vec<Delivery>, links: &[Link], sent: &Sent) -> Result<(), AllocError>
     requires { RiseByPort (links_of links.now) }
     ensures { IfOk result (λ _. deliveries_of deliveries.new.items
@@ -78,7 +80,7 @@ fn carry_row(deliveries: &mut Vec<Delivery>, links: &[Link], sent: &Sent) -> Res
     Ok(())
 }
 
-// What links from one port carry of what is sent there.
+// Appends what the links from one port carry of what is sent there.
 fn carry_port(
     deliveries: &mut Vec<Delivery>,
     links: &[Link],
@@ -94,7 +96,7 @@ fn carry_port(
     Ok(())
 }
 
-// What a link carries of what was sent at its port.
+// Appends what a link carries of what is sent at its port.
 fn carry_sendings(
     deliveries: &mut Vec<Delivery>,
     link: &Link,
@@ -110,12 +112,12 @@ fn carry_sendings(
     Ok(())
 }
 
-/// What entry links carry of what comes from outside, behind what is there. It looks at those alone that lead from a port
-/// at which something comes.
+/// Appends what entry links carry of what comes from outside. Only the links from input ports of
+/// the root with values are looked at.
 ///
 /// # Errors
 ///
-/// No memory for it.
+/// No memory for the deliveries.
 pub fn carry_outside(
     deliveries: &mut Vec<Delivery>,
     links: &Entrances,
@@ -131,7 +133,7 @@ pub fn carry_outside(
     Ok(())
 }
 
-// What links from one port carry of its bag.
+// Appends what the links from one port carry of its bag.
 fn carry_held(deliveries: &mut Vec<Delivery>, links: &[Link], bag: &Bag) -> Result<(), AllocError>
     ensures { IfOk result (λ _. deliveries_of deliveries.new.items
         ≡ deliveries_of deliveries.old.items ++ carried_each (links_of links.now) bag.now) }
@@ -142,7 +144,7 @@ fn carry_held(deliveries: &mut Vec<Delivery>, links: &[Link], bag: &Bag) -> Resu
     Ok(())
 }
 
-// What a link carries of a bag.
+// Appends what a link carries of a bag.
 fn carry_bag(deliveries: &mut Vec<Delivery>, link: &Link, bag: &Bag) -> Result<(), AllocError>
     ensures { IfOk result (λ _. deliveries_of deliveries.new.items
         ≡ deliveries_of deliveries.old.items ++ carried_by (link_of link.now) bag.now) }
@@ -153,12 +155,12 @@ fn carry_bag(deliveries: &mut Vec<Delivery>, link: &Link, bag: &Bag) -> Result<(
     Ok(())
 }
 
-/// What links that lead away carry of what was emitted, in order: by component, port and value, those of one port and
-/// value united, and none without copies.
+/// What links to another process carry of what was emitted, in the order of components, ports and
+/// values. Deliveries of one value for one port are united; none is without copies.
 ///
 /// # Errors
 ///
-/// No memory for it.
+/// No memory for the deliveries.
 pub fn away(
     alloc: Global,
     members: &[Member],
@@ -176,7 +178,8 @@ pub fn away(
     unite(alloc, &deliveries)
 }
 
-// Deliveries that are sorted, united where they are for one port and value. From the last to the first, and then turned.
+// Unites sorted deliveries of one value for one port. It goes from the last to the first, and then
+// reverses the list.
 fn unite(alloc: Global, sorted: &[Delivery]) -> Result<Vec<Delivery>, AllocError>
     requires { AreSorted sorted.now }
     ensures { IfOk result (λ ds. deliveries_of ds.items ≡ in_order (deliveries_of sorted.now)) }
@@ -194,7 +197,7 @@ fn unite(alloc: Global, sorted: &[Delivery]) -> Result<Vec<Delivery>, AllocError
     Ok(united)
 }
 
-// One delivery more before those that are there, which stand from the last to the first.
+// Adds a delivery in front of a list that is kept in reverse order.
 fn put_before(united: &mut Vec<Delivery>, delivery: &Delivery) -> Result<(), AllocError>
     ensures { IfOk result (λ _. reverse (deliveries_of united.new.items)
         ≡ joined_before (delivery_of delivery.now) (reverse (deliveries_of united.old.items))) }

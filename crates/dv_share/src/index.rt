@@ -1,21 +1,21 @@
-//! What stands at an index.
+//! Items by the index of a component.
 
 ghost use Rattle.std.specs.Prelude.{◌≡◌, length, ◌<◌, ◌≤◌};
 ghost use Rattle.std.specs.List.{AllWithin};
 ghost use Rattle.std.specs.Option.{option_copied};
 ghost use Rattle.dv_share.specs.Indices.{AreRising, IsNext, found, indices_of};
 
-/// What stands at an index of a share: the index of a component is its index in the list of members.
+/// An item of the component at an index.
 #[derive(Drop)]
 pub struct Indexed<T> {
     /// The index of the component in the list of members.
     pub index: u32,
-    /// What is known of it.
+    /// The item.
     pub what: T,
 }
 
-/// The cursor of the first item that does not stand before an index, from a cursor on before which all do. It goes from item to
-/// item: whoever asks for one index after the other looks at each item once.
+/// The cursor of the first item that is not before an index; all items before `from` have to be. It
+/// goes from item to item, so calls for rising indices look at each item once.
 #[inline]
 pub fn next_cursor<T>(items: &[Indexed<T>], from: usize, index: u32) -> usize
     requires within { from ≤ length items.now }
@@ -29,7 +29,7 @@ pub fn next_cursor<T>(items: &[Indexed<T>], from: usize, index: u32) -> usize
     cursor
 }
 
-/// What stands at an index, if anything does, of which the cursor is that of the first item that does not stand before it.
+/// The item at an index, if there is one. `cursor` is that of the first item not before the index.
 #[inline]
 pub fn item_at<T>(items: &[Indexed<T>], cursor: usize, index: u32) -> Option<&T>
     requires rise { AreRising (indices_of items.now) }

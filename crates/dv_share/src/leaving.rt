@@ -18,12 +18,12 @@ use dv_react::Instant;
 use dv_record::Record;
 use std::alloc::{AllocError, Global};
 
-/// Tells what leaves the model of what was emitted, by output port of the root: a line for each port with values. The
-/// list is that of the instant before, whose memory serves again.
+/// Tells a record what leaves the model of what was emitted: an output line for each output port of
+/// the root with values. The old contents of `leaving` are discarded, its memory is used again.
 ///
 /// # Errors
 ///
-/// No memory for the lines, of which some may have been told then; the record is to be rolled back.
+/// No memory for the lines. The record may have got some of them, and is to be rolled back.
 pub fn outer<A, R: Record>(
     alloc: Global,
     tables: &Tables<A>,

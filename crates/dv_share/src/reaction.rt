@@ -17,12 +17,12 @@ use dv_bag::{Fault, Sent};
 use dv_react::{Atomic, Happened, Instant, Running};
 use std::alloc::AllocError;
 
-/// Lets a component that emitted or receives something react in place, by what arrived there and what it emitted. Tells what
-/// happened, if anything did. Then `before` is what the component was. No other component is looked at.
+/// Lets the visited member react in place, and returns what happened, if anything did; then
+/// `before` is the component as it was.
 ///
 /// # Errors
 ///
-/// No memory for a state. The component is as before, and nothing is known of `before`.
+/// No memory for a state. The component is unchanged, and `before` is unspecified.
 pub fn react<A: Atomic>(
     tables: &Tables<A>,
     work: &mut A::Work,

@@ -1,4 +1,4 @@
-//! What comes to the components of a share at an instant, by index.
+//! What arrives at the components of a share at an instant, by index.
 
 ghost use Rattle.std.specs.Prelude.{◌≡◌, ℕ, ◌++◌, ◌∷◌, ◌<◌, ◌≤◌, List, [], IsPermutation, IsTrue, OnOk, Some};
 ghost use Rattle.std.specs.Prelude.{length, map, replicate, slice_get};
@@ -18,25 +18,26 @@ use std::alloc::{AllocError, Global};
 use std::marker::Model;
 use std::mem;
 
-// Where one of so many components is met, many are.
+// If one of so many components is met, many are.
 const DENSE: usize = 8;
 
-/// What comes to the component at an index, and whether something comes to it or it emitted something.
+/// What arrives at the component at an index. It is met if a value arrives there or the component
+/// emitted something.
 #[derive(Drop)]
 pub(crate) struct Receipt {
     pub indexed: Indexed<Bags>,
     pub is_met: bool,
 }
 
-/// What comes to components at an instant: the bags of those to which something comes and of those that emitted something, in
-/// the order of their indices. The memory serves again at the next instant.
+/// What arrives at components at an instant: the bags of those that receive a value or emitted
+/// something, in the order of their indices. The memory is used again at the next instant.
 #[derive(Drop)]
 pub struct Received {
     // By index.
     receipts: Vec<Receipt>,
-    // Those of the receipts that are met.
+    // The indices of the receipts that are met.
     indices: Vec<u32>,
-    // Room for them in another order.
+    // Room to order them.
     spare: Vec<u32>,
     tally: Tally,
     alloc: Global,
@@ -57,7 +58,7 @@ impl Model for Received {
 }
 
 impl Received {
-    /// Nothing comes. It takes no memory yet.
+    /// No arrivals. It takes no memory yet.
     pub fn new(alloc: Global) -> Self
         ensures { result.items ≡ [] }
     {
@@ -70,7 +71,7 @@ impl Received {
         }
     }
 
-    /// How many components there are to which something comes or which emitted something.
+    /// How many components receive a value or emitted something.
     #[inline]
     pub fn len(&self) -> usize
         ensures { result ≡ length self.now.items }
@@ -78,7 +79,7 @@ impl Received {
         self.indices.len()
     }
 
-    /// What comes to one of them.
+    /// What arrives at one of them, counted from 0 in the order of their indices.
     #[inline]
     pub fn at(&self, index: usize) -> &Indexed<Bags>
         requires { index < length self.now.items }
@@ -87,8 +88,8 @@ impl Received {
         &self.receipts[self.indices[index] as usize].indexed
     }
 
-    /// Puts deliveries in order where many come to one component: each value then goes to the end of its bag. Few values
-    /// cost less where they go into its middle.
+    /// Sorts deliveries if there are many for one component: then each value goes to the end of its
+    /// bag. If there are few, to insert them into the bags as they come costs less.
     ///
     /// # Errors
     ///
@@ -105,11 +106,12 @@ impl Received {
         Ok(())
     }
 
-    /// Puts what comes by deliveries in the place of what is there, with an index for each component that emitted something.
+    /// Replaces all arrivals by those of deliveries, with an index also for each component that
+    /// emitted something.
     ///
     /// # Errors
     ///
-    /// No memory for it.
+    /// No memory for the bags.
     pub(crate) fn gather(
         &mut self,
         members: &[Member],
@@ -131,7 +133,7 @@ impl Received {
         Ok(())
     }
 
-    // Nothing comes any more. What came stays in memory until something else comes to its index.
+    // Discards all arrivals. The bags stay until their index is met again.
     fn clear(&mut self)
         ensures { self.new.items ≡ [] }
     {
@@ -140,7 +142,7 @@ impl Received {
         }
     }
 
-    // Makes room for what comes to each component of a share.
+    // Makes a receipt for each component of a share.
     fn make_room(&mut self, members: &[Member]) -> Result<(), AllocError>
         requires numbers { AreRising (numbers_of members.now) }
         ensures room { OnOk result (length members.now ≤ self.new.room) }
@@ -157,7 +159,7 @@ impl Received {
         Ok(())
     }
 
-    // An index for each component that emitted something.
+    // Meets each component that emitted something.
     fn meet_all(
         &mut self,
         members: &[Member],
@@ -180,7 +182,8 @@ impl Received {
         Ok(())
     }
 
-    // An index for a component with so many input ports, if it has none yet. It is asked for each value, and mostly has one.
+    // Meets a component with so many input ports, if it is not met yet. This is called for each
+    // delivery, and mostly it is.
     #[inline(always)]
     fn meet(&mut self, index: u32, inputs: u32) -> Result<(), AllocError>
         requires { index < self.old.room }
@@ -197,7 +200,7 @@ impl Received {
         Ok(())
     }
 
-    // What comes by deliveries, one after the other.
+    // Puts deliveries into the bags, one after the other.
     fn deliver_all(&mut self, members: &[Member], deliveries: &[Delivery]) -> Result<(), AllocError>
         requires numbers { AreRising (numbers_of members.now) }
         requires room { length members.now ≤ self.old.room }
@@ -216,7 +219,8 @@ impl Received {
         Ok(())
     }
 
-    // What comes by one delivery. One without copies, or for no port of these components, brings nothing.
+    // Puts a delivery into its bag. One without copies, or for no port of these components, brings
+    // nothing.
     fn deliver(&mut self, members: &[Member], delivery: &Delivery) -> Result<(), AllocError>
         requires numbers { AreRising (numbers_of members.now) }
         requires room { length members.now ≤ self.old.room }
@@ -245,7 +249,7 @@ impl Received {
         self.put(index, delivery)
     }
 
-    // A delivery into the bags of an index that is met.
+    // Puts a delivery into the bags of an index that is met.
     #[inline]
     fn put(&mut self, index: u32, delivery: &Delivery) -> Result<(), AllocError>
         requires met { IsTrue (is_in index (indices_of self.old.items)) }
@@ -258,12 +262,17 @@ impl Received {
         delivery.put(&mut self.receipts[index as usize].indexed.what)
     }
 
-    // Whether a walk over all receipts takes less time than to sort the indices: many are met, and not in order.
+    // Whether a walk over all receipts takes less time than to sort the indices: many are met, and
+    // they are not in order.
     fn is_walk_faster(&self) -> bool {
         self.indices.len() >= self.receipts.len() / DENSE && !are_in_order(&self.indices)
     }
 
-    // The indices in their order. They stay as they are where there is no memory to order them.
+    // Puts the indices in order.
+    //
+    // # Errors
+    //
+    // No memory for a second list. The order is unchanged.
     fn put_in_order(&mut self) -> Result<(), AllocError>
         ensures rise { OnOk result (AreRising (indices_of self.new.items)) }
         ensures same { OnOk result (IsPermutation self.old.items self.new.items) }
@@ -278,7 +287,7 @@ impl Received {
     }
 }
 
-// Whether no index stands before one that is less.
+// Whether no index is before a smaller one.
 #[inline]
 fn are_in_order(indices: &[u32]) -> bool {
     for index in 1..indices.len() {
@@ -289,7 +298,7 @@ fn are_in_order(indices: &[u32]) -> bool {
     true
 }
 
-// The indices of the receipts that are met, in the order of the receipts, in the place of those that are there.
+// Replaces `indices` by those of the receipts that are met, in the order of the receipts.
 #[inline]
 fn put_met(indices: &mut Vec<u32>, receipts: &[Receipt]) -> Result<(), AllocError>
     ensures { OnOk result (indices.new.items ≡ met_of receipts.now) }
@@ -303,7 +312,7 @@ fn put_met(indices: &mut Vec<u32>, receipts: &[Receipt]) -> Result<(), AllocErro
     Ok(())
 }
 
-// An index as a number, which no index is too great for: no component's number is less than its index.
+// An index as a number of 32 bits. None is too great: no component's number is less than its index.
 #[inline]
 fn index_as_number(members: &[Member], index: usize) -> u32
     requires numbers { AreRising (numbers_of members.now) }
@@ -314,7 +323,7 @@ fn index_as_number(members: &[Member], index: usize) -> u32
     u32::try_from(index).unwrap_or(greatest)
 }
 
-// Empty bags for so many ports, in the place of those that are there.
+// Replaces bags by empty ones for so many ports.
 #[inline]
 fn put_none(alloc: Global, ports: usize, bags: &mut Bags)
     ensures { bags.new ≡ replicate ports [] }
@@ -324,7 +333,7 @@ fn put_none(alloc: Global, ports: usize, bags: &mut Bags)
     }
 }
 
-// Whether bags are empty, and for so many ports.
+// Whether there are bags for so many ports, all of them empty.
 #[inline]
 fn is_blank(bags: &Bags, ports: usize) -> bool
     ensures { IsTrue result → bags.now ≡ replicate ports [] }

@@ -10,11 +10,12 @@ use crate::run::{ByPort, run_of};
 use std::alloc::{AllocError, Global};
 use std::marker::Model;
 
-/// Links in the order of the components that they lead from, and those of one component in the order of its ports.
+/// Links in the order of the components that they lead from, and those of one component in the
+/// order of its ports.
 #[derive(Drop)]
 pub struct Routes {
     links: Vec<Link>,
-    // Where the links of each component begin, and behind the last of them, where they end.
+    // Where the links of each component begin; the last item is where those of the last one end.
     starts: Vec<usize>,
 }
 
@@ -33,11 +34,11 @@ impl Model for Routes {
 }
 
 impl Routes {
-    /// The links, in the order that they have.
+    /// Takes links that are in order.
     ///
     /// # Errors
     ///
-    /// No memory for where the links of each component begin.
+    /// No memory for the starts of the components' links.
     pub fn new(alloc: Global, links: Vec<Link>) -> Result<Self, AllocError>
         requires { RiseBySource (links_of links.items) }
         ensures { IfOk result (λ routes. routes ≡ links_of links.items) }
@@ -46,7 +47,7 @@ impl Routes {
         Ok(Routes { links, starts })
     }
 
-    /// The links stand in order. It does nothing.
+    /// For the prover alone: the links are in order.
     pub fn are_in_order(&self)
         ensures { RiseBySource self.now }
     {
@@ -80,7 +81,7 @@ fn span_of(links: &[Link], starts: &[usize], component: u32) -> (usize, usize)
     }
 }
 
-// Where the links of each component begin, up to the last that has some, and where they end.
+// Where the links of each component begin, up to the last one with links, and where those end.
 fn starts_of(alloc: Global, links: &[Link]) -> Result<Vec<usize>, AllocError>
     requires { IsNonDecreasingBy (λ (l : Link). l.from) links.now }
     ensures { IfOk result (λ starts. AreStarts links.now starts.items) }
@@ -93,7 +94,7 @@ fn starts_of(alloc: Global, links: &[Link]) -> Result<Vec<usize>, AllocError>
     Ok(starts)
 }
 
-// Lets the links of each component up to one begin at an index, where they have no start yet.
+// Gives each component up to this one a start, if it has none yet: the index.
 fn begin_up_to(starts: &mut Vec<usize>, component: usize, index: usize) -> Result<(), AllocError>
     ensures grown { OnOk result (component < length starts.new.items) }
     ensures kept { OnOk result (length starts.old.items ≤ length starts.new.items) }
@@ -128,7 +129,7 @@ impl Model for Entrances {
 }
 
 impl Entrances {
-    /// The links, in the order that they have.
+    /// Takes links that are in order.
     pub fn new(links: Vec<Link>) -> Self
         requires { RiseByPort (links_of links.items) }
         ensures { result ≡ links_of links.items }
@@ -145,7 +146,7 @@ impl Entrances {
     }
 }
 
-/// Those of links in the order of their ports that lead from a port. By a binary search.
+/// The links that lead from a port, of links in the order of their ports, by a binary search.
 pub fn links_at(links: &[Link], port: usize) -> &[Link]
     requires { RiseByPort (links_of links.now) }
     ensures { links_of result.now ≡ filter (λ l. nat_eq l.from_port port) (links_of links.now) }

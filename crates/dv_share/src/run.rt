@@ -1,4 +1,4 @@
-//! Lists in the order of numbers, in which what is of one number stands together.
+//! Lists in the order of numbers, in which the items of one number lie together.
 
 ghost use Rattle.std.specs.Prelude.{◌≡◌, ℕ, ◌<◌, ◌≤◌, filter, length, nat_eq, slice_index_or};
 ghost use Rattle.std.specs.List.{AllWithin};
@@ -7,13 +7,13 @@ ghost use Rattle.std.specs.List.Sorted.{IsNonDecreasingBy};
 use crate::link::Link;
 use dv_bag::sent::Sending;
 
-/// By the number of a component.
+/// Orders by the number of a component.
 pub struct ByComponent;
 
-/// By the number of a port.
+/// Orders by the number of a port.
 pub struct ByPort;
 
-/// An item with a number: of the numbers that it has, the one that `By` names.
+/// An item with a number. If it has several, `By` says which is meant.
 pub trait Numbered<By> {
     /// The number.
     ghost number: { Self → ℕ };
@@ -23,7 +23,7 @@ pub trait Numbered<By> {
         ensures { result ≡ number self.now };
 }
 
-/// A link is of the component that it leads from.
+/// The number of a link is that of the component that it leads from.
 impl Numbered<ByComponent> for Link {
     ghost number = { λ l. l.from };
 
@@ -32,7 +32,7 @@ impl Numbered<ByComponent> for Link {
     }
 }
 
-/// A link is of the port that it leads from.
+/// The number of a link is that of the port that it leads from.
 impl Numbered<ByPort> for Link {
     ghost number = { λ l. l.from_port };
 
@@ -41,7 +41,7 @@ impl Numbered<ByPort> for Link {
     }
 }
 
-/// A sending is of its port.
+/// The number of a sending is that of its port.
 impl Numbered<ByPort> for Sending {
     ghost number = { λ s. s.port };
 
@@ -50,7 +50,7 @@ impl Numbered<ByPort> for Sending {
     }
 }
 
-/// The items that are of a number, by two binary searches.
+/// The items of a number, by two binary searches.
 pub(crate) fn run_of<By, T: Numbered<By>>(items: &[T], number: usize) -> &[T]
     requires { IsNonDecreasingBy T.number items.now }
     ensures { result.now ≡ filter (λ (x : T). nat_eq (T.number x) number) items.now }
@@ -74,7 +74,7 @@ fn indices_of<By, T: Numbered<By>>(items: &[T], number: usize) -> (usize, usize)
     (first, end)
 }
 
-/// Where the items of a number end, from an index on from which no item is of a number before it.
+/// Where the items of a number end, from an index on; from there no item has a smaller number.
 pub(crate) fn run_end<By, T: Numbered<By>>(items: &[T], start: usize, number: usize) -> usize
     requires rise { IsNonDecreasingBy T.number items.now }
     requires within { start ≤ length items.now }

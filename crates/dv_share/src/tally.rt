@@ -1,4 +1,4 @@
-//! How many deliveries come to each component.
+//! How many deliveries each component gets.
 
 use crate::link::Delivery;
 use std::alloc::{AllocError, Global};
@@ -6,21 +6,21 @@ use std::alloc::{AllocError, Global};
 /// More deliveries than this for one component at an instant are many.
 pub(crate) const FEW: u32 = 64;
 
-/// Counts deliveries by the number of the component that they are for. Between two calls all counts are 0.
+/// Counts deliveries by the number of their component. Between two calls all counts are 0.
 #[derive(Drop)]
 pub(crate) struct Tally {
     counts: Vec<u32>,
 }
 
 impl Tally {
-    /// Of no deliveries. It takes no memory yet.
+    /// No counts. It takes no memory yet.
     pub fn new(alloc: Global) -> Self {
         Tally {
             counts: Vec::new(alloc),
         }
     }
 
-    /// Whether at most [`FEW`] deliveries come to each component.
+    /// Whether each component gets at most [`FEW`] deliveries.
     ///
     /// # Errors
     ///
@@ -34,7 +34,7 @@ impl Tally {
         Ok(most <= FEW)
     }
 
-    // How many deliveries come to the component to which the most come.
+    // The greatest number of deliveries for one component.
     fn greatest(&mut self, deliveries: &[Delivery]) -> Result<u32, AllocError> {
         let mut most = 0;
         for delivery in deliveries {
