@@ -1,4 +1,5 @@
-//! The clock of a process moves: the instant at it takes place, and it goes on to the next time at which something is due.
+//! How the clock of a process moves: the instant at the clock is committed, and the clock goes on
+//! to the next time at which something is due.
 
 ghost use Rattle.std.specs.Prelude.{◌≡◌, ◌≤◌, ◌<◌, ℕ, IfOk, length, nat_lt, slice_index_or, true};
 ghost use Rattle.dv_time.specs.Time.{IsOfRun, end_of, rank};
@@ -18,7 +19,7 @@ use crate::window::Frame;
 use dv_time::Time;
 use std::alloc::AllocError;
 
-/// A time, or another where that is sooner.
+/// The sooner of a time and another one, if there is another one.
 pub fn sooner(limit: u32, one: Time, other: Option<Time>) -> Time
     requires one { IsOfRun limit one }
     requires other { IsOfRunIf limit other }
@@ -31,7 +32,8 @@ pub fn sooner(limit: u32, one: Time, other: Option<Time>) -> Time
     }
 }
 
-/// Until when what comes is known: the least channel clock, or the first input, if that is sooner.
+/// Until when it is known what arrives: the least channel clock, or the first input, if that is
+/// sooner.
 pub fn known_until<L: Local>(local: &L, frame: &Frame, least: Time, now: Time) -> Time
     requires limit { frame.now.limit ≡ (L.view local.now).share.limit }
     requires now { IsOfRun frame.now.limit now }
@@ -44,7 +46,7 @@ pub fn known_until<L: Local>(local: &L, frame: &Frame, least: Time, now: Time) -
     sooner(frame.limit, least, local.first_input(now))
 }
 
-/// What a process that stands at a time promises.
+/// The promise of a process whose clock is at a time.
 pub fn promise_at<L: Local>(local: &L, frame: &Frame, least: Time, now: Time) -> Time
     requires limit { frame.now.limit ≡ (L.view local.now).share.limit }
     requires now { IsOfRun frame.now.limit now }
@@ -63,12 +65,12 @@ pub fn promise_at<L: Local>(local: &L, frame: &Frame, least: Time, now: Time) ->
     promise(frame, now, local.next(), known, local.response())
 }
 
-/// The instant at the clock takes place, and the clock moves on over times at which nothing is due, to the least channel
-/// clock at most.
+/// Commits the instant at the clock, and returns the next clock: the next time at which something
+/// is due, but at most the least channel clock.
 ///
 /// # Errors
 ///
-/// No memory; the components are to be rolled back then.
+/// No memory. The components are to be rolled back.
 pub fn advance<L: Local>(
     local: &mut L,
     work: &mut L::Work,
@@ -100,11 +102,11 @@ pub fn advance<L: Local>(
     Ok(sooner(frame.limit, next, input))
 }
 
-/// The clock moves, and what is sent at the time that is reached is computed, unless it is the end.
+/// Does what `advance` does, and computes what is sent at the next clock, unless that is the end.
 ///
 /// # Errors
 ///
-/// No memory; the components are to be rolled back then.
+/// No memory. The components are to be rolled back.
 pub fn step<L: Local>(
     local: &mut L,
     work: &mut L::Work,

@@ -1,6 +1,6 @@
-//! The ends of a link between processes.
+//! Links between processes.
 
-/// Between which processes a link leads, by their numbers.
+/// Which processes a link joins, by their numbers.
 #[derive(Clone, Copy, PartialEq, Eq)]
 pub struct Channel {
     /// The number of the process from which the link leads.

@@ -1,21 +1,22 @@
 //! One logical process of a conservative parallel simulation.
 //!
-//! A `Process` has its components, the links that lead here and away, and a clock: all instants before it are
-//! committed. A turn commits the instant at the clock, moves the clock as far as the received packets allow, lets the
-//! components emit there, and prepares for each link a packet or a null message that promises what is known. Whatever
-//! packets it accepted, what it committed is its local run before its clock, and each turn makes the progress that it
-//! must. A packet is refused exactly where its link is unknown, its window is not the next one, an event does not
-//! belong there, or memory lacks; what is refused changes nothing.
+//! A `Process` has its components, its incoming and outgoing links, and a clock: all instants
+//! before it are committed. A turn commits the instant at the clock, moves the clock as far as the
+//! received packets allow, lets the components emit there, and prepares for each free link a packet
+//! or a null message up to the promise. Whatever packets a process accepted, what it committed is
+//! its local run before its clock, and each turn makes progress. A packet is refused exactly if its
+//! link is unknown, its window is not the next one, an event does not belong there, or memory runs
+//! out. A refused packet changes nothing.
 //!
-//! The components stand behind the trait `Local`, which `dv_local` implements. `dv_core` joins processes to a world,
-//! and `dv_work` runs them on threads. Here are neither threads nor links themselves: a packet is handed in and taken
-//! out.
+//! The components are behind the trait `Local`, which `dv_local` implements. `dv_core` makes a
+//! world of processes, and `dv_work` runs them on threads. In this crate there are neither threads
+//! nor queues: the caller puts packets in and takes them out.
 #![tactic(auto)]
 
-/// The clock of a process moves.
+/// How the clock of a process moves.
 pub mod advance;
 
-/// The ends of a link between processes.
+/// Links between processes.
 pub mod channel;
 
 /// The links that lead here.
@@ -36,7 +37,7 @@ pub mod packet_history;
 /// One logical process.
 pub mod process;
 
-/// Until when what a process sends is known.
+/// Until when it is known what a process sends.
 pub mod promise;
 
 /// The frame of a run, and the tests of a packet that arrives.

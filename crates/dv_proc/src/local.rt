@@ -1,4 +1,4 @@
-//! The components of a process with the links between them, and what came for them: what a process asks of them.
+//! What a process asks of its components.
 
 ghost use Rattle.std.specs.Prelude.{◌≡◌, ◌<◌, ◌++◌, OnErr, OnOk, List, Some, map, slice_get, true};
 ghost use Rattle.dv_time.specs.Time.{IsOfRun, rank};
@@ -24,25 +24,26 @@ use dv_time::Time;
 use dv_written::{OfJob, WrittenPart};
 use std::alloc::AllocError;
 
-/// The components of one process, the links between them and away, what came for them, and the record that is told what
-/// happens to them. What is done to them since `settle` can be taken back by `roll_back`, and neither can fail.
+/// The components of one process, the links among them and to other processes, the events that came
+/// for them, and the record that is told what they commit. `roll_back` takes back what was done
+/// since the last `settle`; neither can fail.
 pub trait Local {
-    /// What the methods work with and may change as they like, as a machine.
+    /// What the methods work with and may change, such as a machine.
     type Work;
 
-    /// What is told what they commit.
+    /// The record that is told what the components commit.
     type Record: Record;
 
-    /// What they stand at.
+    /// Their state for contracts: the share, the components, the events, and what was committed.
     ghost view: { Self → View };
 
-    /// What `roll_back` leaves.
+    /// The view after a `roll_back`.
     ghost settled: { Self → View };
 
-    /// What they send at the time that was last asked about.
+    /// What they send at the time of the last `emit`.
     ghost sent: { Self → List (List Counts) };
 
-    /// How their record writes what is told, and what of that was handed over.
+    /// How the record writes what it is told, and what of that was handed over.
     ghost handed: { Self → Handed };
 
     /// The frame of the run.
@@ -50,20 +51,20 @@ pub trait Local {
         ensures limit { result.limit ≡ (view self.now).share.limit }
         ensures horizon { result.horizon ≡ (view self.now).share.horizon };
 
-    /// A response of the components.
+    /// The response: a lower bound on the holds that external rules of the components begin.
     fn response(&self) -> Response
         ensures ticks { ticks_of result ≡ (view self.now).share.response }
         ensures hold { IsOfHold result };
 
-    /// Whether there is such an input port of a component.
+    /// Whether a component with this number is here and has this input port.
     fn is_port(&self, component: u32, port: u32) -> bool
         ensures { result ≡ is_port_of (view self.now).share.flat.members component port };
 
-    /// Keeps events until their time. It is settled at once.
+    /// Keeps events until their time. This is settled at once.
     ///
     /// # Errors
     ///
-    /// No memory; then nothing changes.
+    /// No memory. Nothing has changed.
     fn keep(&mut self, events: &[Event]) -> Result<(), AllocError>
         requires settled { settled self.old ≡ view self.old }
         requires ports { are_for_ports (view self.old).share (meant_events events.now) ≡ true }
@@ -79,17 +80,18 @@ pub trait Local {
             ≡ least_next (view self.now).components }
         ensures of_run { IsOfRunIf (view self.now).share.limit result };
 
-    /// The first time from one on at which something comes for them.
+    /// The first time, not before `from`, at which an event or an input from outside arrives.
     fn first_input(&self, from: Time) -> Option<Time>
         requires { IsOfRun (view self.now).share.limit from }
         ensures { IsFirstInput (view self.now) (rank (view self.now).share.limit from) result };
 
-    /// The instant at a time, which is after all that was committed. A visit is counted of each component that is due, as it
-    /// emits, unless what it emits was found, and one more of each to which something happens.
+    /// Commits the instant at a time, which is after all that was committed. It counts one visit of
+    /// each imminent component, as it emits, unless `emit` was called for this time; and one visit
+    /// of each component that emitted something or receives a value.
     ///
     /// # Errors
     ///
-    /// No memory; `roll_back` is due then.
+    /// No memory. `roll_back` is to be called.
     fn react(&mut self, work: &mut Self::Work, now: Time) -> Result<(), AllocError>
         requires settled { settled self.old ≡ view self.old }
         requires of_run { IsOfRun (view self.old).share.limit now }
@@ -103,11 +105,12 @@ pub trait Local {
         ensures settled { settled self.new ≡ settled self.old }
         ensures handed { handed self.new ≡ handed self.old };
 
-    /// Finds what they send at a time, from their states alone. Of each that is due a visit is counted, once at most.
+    /// Computes what the components send at a time, from their states alone. It counts at most one
+    /// visit of each imminent component.
     ///
     /// # Errors
     ///
-    /// No memory; `roll_back` is due then.
+    /// No memory. `roll_back` is to be called.
     fn emit(&mut self, work: &mut Self::Work, now: Time) -> Result<(), AllocError>
         requires of_run { IsOfRun (view self.old).share.limit now }
         requires before_end { rank (view self.old).share.limit now
@@ -119,22 +122,23 @@ pub trait Local {
         ensures settled { settled self.new ≡ settled self.old }
         ensures handed { handed self.new ≡ handed self.old };
 
-    /// Adds the events of what they send by the outgoing link at an index, at the time that was last asked about.
+    /// Appends the events of what they send on the outgoing link at an index, at the time of the
+    /// last `emit`.
     ///
     /// # Errors
     ///
-    /// No memory; some events may have been added then.
+    /// No memory. Some events may have been added.
     fn send(&self, index: usize, now: Time, into: &mut Vec<Event>) -> Result<(), AllocError>
         ensures { OnOk result ((out : Outgoing)
             → slice_get (view self.now).share.outgoing index ≡ Some out
             → meant_events into.new.items ≡ meant_events into.old.items
             ++ map (event_of now) (carried_away (view self.now) out.links (sent self.now))) };
 
-    /// How many visits of components the code has counted. The count stays at 2^64 - 1 once there.
+    /// How many visits of components were counted. The count stays at 2^64 - 1 once there.
     fn visits(&self) -> u64
         ensures { result ≡ (view self.now).visits };
 
-    /// The record, which was told what they committed.
+    /// The record, which was told what the components committed.
     fn record(&self) -> &Self::Record
         ensures told { Self.Record.told result.now ≡ (view self.now).committed }
         ensures handed { Self.Record.handed result.now ≡ handed self.now };
@@ -143,19 +147,19 @@ pub trait Local {
     fn into_record(self) -> Self::Record
         ensures { Self.Record.told result ≡ (view self).committed };
 
-    /// Lets what they stood at before go.
+    /// Makes all changes since the last `settle` final.
     fn settle(&mut self)
         ensures view { view self.new ≡ view self.old }
         ensures settled { settled self.new ≡ view self.old }
         ensures handed { handed self.new ≡ handed self.old };
 
-    /// Makes them stand again where they were settled.
+    /// Takes back all changes since the last `settle`.
     fn roll_back(&mut self)
         ensures view { view self.new ≡ settled self.old }
         ensures settled { settled self.new ≡ settled self.old }
         ensures handed { handed self.new ≡ handed self.old };
 
-    /// Lets go of the bytes of the record, which were handed over, when all is settled.
+    /// Discards the bytes of the record, which were handed over. All has to be settled.
     fn let_go(&mut self)
         requires { settled self.old ≡ view self.old }
         ensures view { view self.new ≡ view self.old }
@@ -165,14 +169,14 @@ pub trait Local {
         } };
 }
 
-/// Components of whose record a part is moved out while they commit more, as the lines that its entries print.
+/// Components whose record hands over what it was told while the run goes on, as lines.
 pub trait LocalHandsOver<N: OfJob>: Local {
-    /// How many bytes the lines have together that were committed and not moved out yet.
+    /// How many bytes the lines have that were committed and not handed over yet.
     fn rest_length(&self) -> usize
         ensures { result ≡ rest_length N.line (Self.handed self.now).past
             (Self.view self.now).committed };
 
-    /// Moves out what they committed beyond what was moved out before, when all is settled.
+    /// Moves out what was committed and not handed over yet. All has to be settled.
     fn hand_over(&mut self) -> WrittenPart<N>
         requires { Self.settled self.old ≡ Self.view self.old }
         ensures view { Self.view self.new ≡ Self.view self.old }

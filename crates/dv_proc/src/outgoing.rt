@@ -1,4 +1,4 @@
-//! The links that lead away from a process: what was sent and waits, and the packet that stands.
+//! The links that lead away from a process, with the events and the packet that wait on each.
 
 ghost use Rattle.std.specs.Prelude.{◌≡◌, ◌<◌, ◌≤◌, ◌+◌, ◌++◌, [], ℕ, IfOk, IfSome, IsTrue, MatchOption, None, OnOk, Some};
 ghost use Rattle.std.specs.Prelude.{if◌then◌else◌, is_none, length, slice_index_or, vec_capacity, vec_len};
@@ -15,24 +15,24 @@ use dv_time::Time;
 use std::alloc::{AllocError, Global};
 use std::mem;
 
-/// A link that leads away: the packet that stands, if one does; where the last window that was prepared ends; what was
-/// sent since and is in no packet yet; and what is sent at the time that is computed.
+/// A link that leads away. At most one packet is prepared on it at a time.
 #[derive(Drop)]
 pub struct Outgoing {
     /// The number of the link.
     pub number: u32,
-    /// The packet that was prepared and is not taken away yet.
+    /// The packet that was prepared and not taken yet.
     pub standing: Option<Packet>,
     /// Where the window of the last prepared packet ends.
     pub promised: Time,
     /// The events that are in no packet yet.
     pub pending: Vec<Event>,
-    /// The events of the time that is computed.
+    /// The events of the time that was computed last.
     pub fresh: Vec<Event>,
 }
 
 impl Outgoing {
-    // Lets what was computed wait for the next packet, unless the packet of its time was prepared. Room was made.
+    // Moves what was computed to the pending events, unless a packet for its time was already
+    // prepared. There is room: `fill` made it.
     fn keep_fresh(&mut self, now: Time)
         requires { vec_len self.old.pending + vec_len self.old.fresh
             ≤ vec_capacity self.old.pending }
@@ -55,11 +55,12 @@ impl Outgoing {
         }
     }
 
-    /// Computes what is sent at a time on the link, which stands at an index, and makes room for it to wait.
+    /// Computes what is sent at a time on the link, which is the one at an index, and reserves room
+    /// for it among the pending events.
     ///
     /// # Errors
     ///
-    /// No memory.
+    /// No memory for the events.
     pub fn fill<L: Local>(&mut self, local: &L, index: usize, now: Time) -> Result<(), AllocError>
         ensures same { IsSameLink self.old self.new }
         ensures fresh { OnOk result
@@ -70,7 +71,7 @@ impl Outgoing {
         self.pending.reserve(self.fresh.len())
     }
 
-    /// Gives the packet that stands away.
+    /// Takes the prepared packet, if there is one.
     pub fn take(&mut self) -> Option<Packet>
         ensures packet { result ≡ self.old.standing }
         ensures number { self.new.number ≡ self.old.number }
@@ -81,14 +82,16 @@ impl Outgoing {
         self.standing.take()
     }
 
-    /// Whether the packet of the next window can be prepared: none stands, and the time is later than what was promised.
+    /// Whether a packet up to a time can be prepared: none is waiting, and the time is later than
+    /// what was promised.
     pub fn can_prepare(&self, upto: Time) -> bool
         ensures { result ≡ is_prepared upto self.now }
     {
         self.standing.is_none() && self.promised.is_before(upto)
     }
 
-    /// Ends a turn: what was computed at its time waits, and the packet up to the promise is prepared, if it can be.
+    /// Ends a turn: what was computed at `now` becomes pending, if the components `emitted`, and a
+    /// packet up to the promise `upto` is prepared, if it can be.
     pub fn finish(&mut self, alloc: Global, emitted: bool, now: Time, upto: Time)
         requires { IsTrue emitted → vec_len self.old.pending + vec_len self.old.fresh
             ≤ vec_capacity self.old.pending }
@@ -100,8 +103,7 @@ impl Outgoing {
         self.prepare(alloc, upto);
     }
 
-    // Prepares the packet of the next window up to a time, with all that waits, if no packet stands and the time is
-    // later than what was promised.
+    // Prepares the packet of the next window up to a time, with all pending events, if it can be.
     fn prepare(&mut self, alloc: Global, upto: Time)
         ensures number { self.new.number ≡ self.old.number }
         ensures promised { self.new.promised
@@ -131,11 +133,11 @@ impl Outgoing {
     }
 }
 
-/// Computes what is sent at a time on all links, and makes room for it to wait.
+/// Computes what is sent at a time on all links, and reserves room for it among the pending events.
 ///
 /// # Errors
 ///
-/// No memory.
+/// No memory for the events.
 pub fn fill_all<L: Local>(local: &L, outgoing: &mut [Outgoing], now: Time) -> Result<(), AllocError>
     ensures same { AreBeside (λ j. IsSameLink) outgoing.old outgoing.new }
     ensures fresh { OnOk result ((j : ℕ) (d : Outgoing) → j < length outgoing.old
@@ -147,7 +149,7 @@ pub fn fill_all<L: Local>(local: &L, outgoing: &mut [Outgoing], now: Time) -> Re
     Ok(())
 }
 
-/// Ends a turn on all links.
+/// Calls `finish` for all links.
 pub fn finish_all(alloc: Global, outgoing: &mut [Outgoing], emitted: bool, now: Time, upto: Time)
     requires { IsTrue emitted → (j : ℕ) (d : Outgoing) → j < length outgoing.old
         → HasRoom (slice_index_or outgoing.old j d) }
@@ -165,18 +167,18 @@ pub fn can_prepare_any(outgoing: &[Outgoing], upto: Time) -> bool
     outgoing.iter().any(|link| link.can_prepare(upto))
 }
 
-/// Whether no packet stands on any link.
+/// Whether no packet is waiting on any link.
 pub fn are_free(outgoing: &[Outgoing]) -> bool
     ensures { result ≡ list_all (λ o. is_none o.standing) outgoing.now }
 {
     outgoing.iter().all(|link| link.standing.is_none())
 }
 
-/// The links of some numbers as a run begins: nothing was sent, and 0.0 is promised.
+/// Links with these numbers as a run begins: nothing was sent, and 0.0 is promised.
 ///
 /// # Errors
 ///
-/// No memory.
+/// No memory for the list.
 pub fn new_outgoing(alloc: Global, numbers: &[u32]) -> Result<Vec<Outgoing>, AllocError>
     ensures { IfOk result (λ links. AreNewOutgoing numbers.now links.items) }
 {
@@ -193,7 +195,7 @@ pub fn new_outgoing(alloc: Global, numbers: &[u32]) -> Result<Vec<Outgoing>, All
     Ok(links)
 }
 
-/// The packet that stands on the link of a number.
+/// The packet that is prepared on the link with a number, if there is one.
 pub fn standing_on(outgoing: &[Outgoing], number: u32) -> Option<&Packet>
     ensures { MatchOption result (standing_by outgoing.now number ≡ None)
         (λ p. standing_by outgoing.now number ≡ Some (meant_packet p.now)) }
@@ -206,7 +208,7 @@ pub fn standing_on(outgoing: &[Outgoing], number: u32) -> Option<&Packet>
     None
 }
 
-/// The index of the link of a number.
+/// The index of the link with a number.
 pub fn out_index_of(outgoing: &[Outgoing], number: u32) -> Option<usize>
     ensures index { result ≡ out_index_from 0 number outgoing.now }
     ensures within { IfSome result (λ index. index < length outgoing.now) }

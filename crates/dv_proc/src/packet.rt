@@ -9,7 +9,7 @@ ghost use Rattle.dv_proc.specs.Packets.{meant_event};
 use dv_time::Time;
 use std::cmp::Ordering;
 
-/// At a time, so many copies of a value for an input port of a component of the model.
+/// So many copies of a value for an input port of a component, at a time.
 #[derive(Clone, Copy, PartialEq, Eq)]
 pub struct Event {
     /// The time at which the value arrives.
@@ -24,7 +24,8 @@ pub struct Event {
     pub copies: u64,
 }
 
-/// All events of a window on a link: not before `from`, and before `upto`. Without events it is a null message.
+/// All events of a link in the window from `from` up to `upto`. Without events it is a null
+/// message.
 #[derive(Drop)]
 pub struct Packet {
     /// The number of the link.
@@ -38,7 +39,7 @@ pub struct Packet {
 }
 
 impl Event {
-    /// Its value, a number of the language.
+    /// Its value. For the prover, that it is a number of the language.
     pub fn number(&self) -> i64
         ensures value { result ≡ self.now.value }
         ensures number { IsTrue (is_number result) }
@@ -46,7 +47,8 @@ impl Event {
         self.value
     }
 
-    /// Whether this event comes before another in the order of packets: by time, component, port and value.
+    /// Whether this event is before another in the order of packets: by time, component, port,
+    /// value.
     pub fn precedes(&self, other: &Event) -> bool
         ensures { result ≡ is_lt (event_cmp (meant_event self.now) (meant_event other.now)) }
     {

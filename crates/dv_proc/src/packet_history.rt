@@ -1,4 +1,5 @@
-//! What was received on a link, kept for contracts alone. It takes no memory, and its methods do nothing at run time.
+//! What was received on a link, kept for contracts alone. It takes no memory, and its methods do
+//! nothing at run time.
 
 ghost use Rattle.std.specs.Prelude.{◌≡◌, ◌++◌, ◌∷◌, [], List};
 ghost use Rattle.std.specs.Borrow.{ftrue};
@@ -8,7 +9,8 @@ ghost use Rattle.dv_proc.specs.Packets.{meant_packet};
 use crate::packet::Packet;
 use std::marker::Model;
 
-/// The packets received on a link, in their order, which a clause reads as `packets`. Nothing of them is in memory.
+/// The packets received on a link, in their order. Clauses read them as `packets`; at run time
+/// there is nothing.
 #[derive(Drop)]
 pub struct PacketHistory {
     pub ghost packets: { List PacketAsMeant },
@@ -22,14 +24,14 @@ impl Model for PacketHistory {
 unsafe impl Send for PacketHistory {}
 
 impl PacketHistory {
-    /// Nothing was received.
+    /// No packets.
     pub fn new() -> PacketHistory
         ensures { result.packets ≡ [] }
     {
         PacketHistory {}
     }
 
-    /// With one more packet, behind those that were received.
+    /// The packets, and one more after them.
     pub fn and_one(&self, packet: &Packet) -> PacketHistory
         ensures { result.packets ≡ self.now.packets ++ meant_packet packet.now ∷ [] }
     {

@@ -32,19 +32,18 @@ use dv_time::Time;
 use dv_written::{OfJob, WrittenPart};
 use std::alloc::{AllocError, Global};
 
-/// What a turn answers.
+/// What a turn did.
 #[derive(Clone, Copy, PartialEq, Eq)]
 pub enum Turned {
     /// The clock rose, or a packet was prepared.
     Moved,
-    /// Nothing changed, and nothing will until a packet comes or one is sent.
+    /// Nothing changed, and nothing will until a packet arrives or one is taken.
     Waiting,
-    /// The clock is at the end, and no packet stands.
+    /// The clock is at the end, and no packet is waiting on a link.
     Done,
 }
 
-/// One logical process: its components, the links that lead here and away, and its clock. All instants before the
-/// clock are committed.
+/// One logical process.
 #[derive(Drop)]
 pub struct Process<L: Local> {
     /// The components, and the links between them.
@@ -60,12 +59,12 @@ pub struct Process<L: Local> {
 }
 
 impl<L: Local> Process<L> {
-    /// A process at 0.0 that has received and sent nothing, of components as a run begins, with the numbers of the links
-    /// that lead here and of those that lead away.
+    /// A process at 0.0 that has received and sent nothing, of components as a run begins, with the
+    /// numbers of its incoming and outgoing links.
     ///
     /// # Errors
     ///
-    /// No memory.
+    /// No memory for the lists of links.
     pub fn new(
         alloc: Global,
         local: L,
@@ -111,7 +110,7 @@ impl<L: Local> Process<L> {
         self.clock
     }
 
-    /// The packet that stands on the link of a number.
+    /// The packet that is prepared on the link with a number, if there is one.
     pub fn out(&self, link: u32) -> Option<&Packet>
         ensures { MatchOption result (standing_by self.now.outgoing.items link ≡ None)
             (λ p. standing_by self.now.outgoing.items link ≡ Some (meant_packet p.now)) }
@@ -119,7 +118,7 @@ impl<L: Local> Process<L> {
         standing_on(self.outgoing.as_slice(), link)
     }
 
-    /// Gives the packet that stands on the link of a number away; none stands there then.
+    /// Takes the packet that is prepared on the link with a number, if there is one.
     pub fn sent(&mut self, link: u32) -> Option<Packet>
         requires { IsProcess (L.view self.old.local)
             self.old.incoming.items self.old.outgoing.items self.old.clock }
@@ -141,11 +140,12 @@ impl<L: Local> Process<L> {
         }
     }
 
-    /// How many visits of components the code has counted, 0 in a new process; it stays at 2^64-1 once there, and the bounds
-    /// hold of each turn that leaves it below that. A refused turn takes back what it added. A turn raises it by at least the
-    /// number of entries that it commits, and by at most twice the number of imminent components, plus the number of components
-    /// that receive a value, counted over the instants that it emits or commits. A turn at which nothing is due leaves it as
-    /// it was.
+    /// How many visits of components were counted, 0 in a new process. A turn raises it by at least
+    /// the number of entries that it commits, and by at most twice the number of imminent
+    /// components, plus the number of components that receive a value, counted over the instants
+    /// that it emits or commits. A turn at which nothing is due leaves it as it was; a turn that
+    /// fails takes back what it added. The count stays at 2^64 - 1 once there, and then the bounds
+    /// no longer hold.
     pub fn visits(&self) -> u64
         ensures { result ≡ (L.view self.now.local).visits }
     {
@@ -160,7 +160,7 @@ impl<L: Local> Process<L> {
         self.local.record()
     }
 
-    /// Lets go of the bytes of the record, which were handed over.
+    /// Discards the bytes of the record, which were handed over.
     pub fn let_go(&mut self)
         requires process { IsProcess (L.view self.old.local)
             self.old.incoming.items self.old.outgoing.items self.old.clock }
@@ -179,7 +179,7 @@ impl<L: Local> Process<L> {
         self.local.let_go();
     }
 
-    /// The record, and the clock.
+    /// The record, moved out, and the clock.
     pub fn into_record(self) -> (L::Record, Time)
         ensures told { L.Record.told result.0 ≡ (L.view self.local).committed }
         ensures clock { result.1 ≡ self.clock }
@@ -194,11 +194,12 @@ impl<L: Local> Process<L> {
         (local.into_record(), clock)
     }
 
-    /// Takes a packet. After an error the packet is handed back, and all that contracts see is as it was.
+    /// Receives a packet.
     ///
     /// # Errors
     ///
-    /// The first of its tests that the packet fails, or no memory.
+    /// The first test that the packet fails, or no memory. The packet is returned with it, and
+    /// nothing that contracts see has changed.
     pub fn receive(&mut self, packet: Packet) -> Result<(), (Refused, Packet)>
         requires process { IsProcess (L.view self.old.local)
             self.old.incoming.items self.old.outgoing.items self.old.clock }
@@ -229,6 +230,7 @@ impl<L: Local> Process<L> {
             Ok(index) => index,
             Err(refused) => return Err((refused, packet)),
         };
+        // For the prover alone.
         of_numbers(packet.events.as_slice());
         let Ok(()) = self.local.keep(packet.events.as_slice()) else {
             return Err((Refused::NoMemory, packet));
@@ -237,14 +239,15 @@ impl<L: Local> Process<L> {
         Ok(())
     }
 
-    /// A turn: the instant at the clock takes place, if every channel clock is above it; the clock moves on over times at
-    /// which nothing is due, to the least channel clock at most; what is sent there is computed; and on each link that
-    /// leads away and on which no packet stands the next one is prepared, up to the promise. A turn that fails has
-    /// changed nothing that contracts see.
+    /// Takes a turn. If the clock is before every channel clock, the instant at the clock is
+    /// committed, the clock moves to the next time at which something is due, but at most to the
+    /// least channel clock, and the components emit there. In any case a packet up to the promise
+    /// is prepared on each outgoing link that is free, if that is later than what was promised
+    /// before.
     ///
     /// # Errors
     ///
-    /// No memory.
+    /// No memory. Nothing that contracts see has changed.
     pub fn turn(&mut self, work: &mut L::Work) -> Result<Turned, AllocError>
         requires process { IsProcess (L.view self.old.local)
             self.old.incoming.items self.old.outgoing.items self.old.clock }
@@ -303,7 +306,8 @@ impl<L: Local> Process<L> {
         Ok(self.finish(&frame, least, now.is_before(frame.end()), now))
     }
 
-    // Ends a turn at a time: packets are prepared, and the clock is the time. Where no link leads away nothing is promised.
+    // Ends a turn with the clock at `now`, and prepares packets. Without outgoing links there is no
+    // promise to compute.
     fn finish(&mut self, frame: &Frame, least: Time, emitted: bool, now: Time) -> Turned
         requires limit { frame.now.limit ≡ (L.view self.old.local).share.limit }
         requires horizon { frame.now.horizon ≡ (L.view self.old.local).share.horizon }
@@ -346,7 +350,7 @@ impl<L: Local> Process<L> {
         answer(!now.is_before(frame.end()), free, rose, prepared)
     }
 
-    /// The index of a packet's link, if the packet passes all tests.
+    // The index of a packet's link, if the packet passes all tests.
     fn test(&self, packet: &Packet) -> Result<usize, Refused>
         requires { IsStanding (L.view self.now.local).share
             self.now.incoming.items self.now.outgoing.items self.now.clock }
@@ -377,7 +381,7 @@ impl<L: Local> Process<L> {
 }
 
 impl<L: Local> Process<L> {
-    /// How many bytes the lines have together that were committed and not moved out yet.
+    /// How many bytes the lines have that were committed and not handed over yet.
     pub fn rest_length<N: OfJob>(&self) -> usize
     where
         L: LocalHandsOver<N>,
@@ -387,7 +391,7 @@ impl<L: Local> Process<L> {
         self.local.rest_length()
     }
 
-    /// Moves out what was committed beyond what was moved out before, as the lines that its entries print.
+    /// Moves out what was committed and not handed over yet, as lines.
     pub fn hand_over<N: OfJob>(&mut self) -> WrittenPart<N>
     where
         L: LocalHandsOver<N>,
@@ -411,8 +415,8 @@ impl<L: Local> Process<L> {
     }
 }
 
-// The answer of a turn: it is done where the clock is at the end and no packet stands; else it moved where the clock rose
-// or a packet was prepared.
+// What a turn did. `ended`: the clock is at the end; `free`: no packet is waiting on a link;
+// `rose`: the clock rose; `prepared`: a packet was prepared.
 fn answer(ended: bool, free: bool, rose: bool, prepared: bool) -> Turned
     ensures { meant_turned result ≡ (if ended && free then Done
         else if rose || prepared then Moved else Waiting) }
@@ -426,8 +430,7 @@ fn answer(ended: bool, free: bool, rose: bool, prepared: bool) -> Turned
     }
 }
 
-/// Whether all events are within the window of their packet, whose ends are times of the run, and for ports of components
-/// here.
+// Whether all events are within the window of their packet, and for ports of components here.
 fn are_of_window<L: Local>(local: &L, frame: &Frame, packet: &Packet) -> bool
     requires limit { frame.now.limit ≡ (L.view local.now).share.limit }
     requires from { IsOfRun frame.now.limit packet.now.from }
@@ -445,7 +448,7 @@ fn are_of_window<L: Local>(local: &L, frame: &Frame, packet: &Packet) -> bool
     true
 }
 
-/// Tells that the values of events are numbers of the language.
+// For the prover alone: the values of events are numbers of the language.
 fn of_numbers(events: &[Event])
     ensures { AllNumbers (meant_events events.now) }
 {

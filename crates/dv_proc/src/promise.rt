@@ -1,4 +1,4 @@
-//! Until when what a process sends is known, whatever still comes.
+//! Until when it is known what a process sends, whatever still arrives.
 
 ghost use Rattle.std.specs.Prelude.{◌≡◌, ◌≤◌, ◌+◌, ℕ, List};
 ghost use Rattle.dv_time.specs.Time.{IsOfRun, end_of, rank};
@@ -14,7 +14,8 @@ use crate::window::Frame;
 use dv_bag::Response;
 use dv_time::{Time, earliest};
 
-/// The first time at which a hold runs out that is not below a response and begins at a time or later.
+/// The first time at which a hold can end that begins at `from` or later and lasts at least the
+/// response.
 pub fn reach(limit: u32, from: Time, response: Response) -> Option<Time>
     requires of_run { IsOfRun limit from }
     requires near { from.tick ≤ greatest_tick + 1 }
@@ -32,7 +33,7 @@ pub fn reach(limit: u32, from: Time, response: Response) -> Option<Time>
     }
 }
 
-// Whether the next time is now.
+// Whether the next time is `now`.
 fn is_now(limit: u32, now: Time, next: Option<Time>) -> bool
     requires now { IsOfRun limit now }
     requires next { IsOfRunIf limit next }
@@ -44,8 +45,9 @@ fn is_now(limit: u32, now: Time, next: Option<Time>) -> bool
     }
 }
 
-/// Until when it is known what a process sends that stands at `now`: until after its next time, if that is `now`;
-/// otherwise until its next time or an answer to what may come from `known` on, whichever is sooner.
+/// Until when it is known what a process sends whose clock is at `now`. If its next time is `now`,
+/// that is the time after `now`. Otherwise it is its next time, or the end of the first hold that
+/// can begin at `known` or later, whichever is sooner; before `known` it is known what arrives.
 pub fn foreseen(
     limit: u32,
     now: Time,
@@ -70,7 +72,7 @@ pub fn foreseen(
     earliest(next, reach(limit, known, response))
 }
 
-/// A time, but no later than the end of the run.
+/// A time, but at most the end of the run; `None` is never.
 pub fn capped(frame: &Frame, time: Option<Time>) -> Time
     requires { IsOfRunIf frame.now.limit time }
     ensures rank { rank frame.now.limit result
@@ -84,7 +86,7 @@ pub fn capped(frame: &Frame, time: Option<Time>) -> Time
     }
 }
 
-/// The promise of a process that stands at a time: until when what it sends is known, and no later than the end.
+/// The promise of a process whose clock is at `now`: `foreseen`, but at most the end of the run.
 pub fn promise(
     frame: &Frame,
     now: Time,

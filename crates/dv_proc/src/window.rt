@@ -10,7 +10,7 @@ ghost use Rattle.dv_time.specs.Limits.{greatest_limit, greatest_tick};
 use crate::packet::Event;
 use dv_time::Time;
 
-/// The frame of a run: its microstep limit and its horizon, in ticks.
+/// The frame of a run.
 #[derive(Clone, Copy)]
 pub struct Frame {
     /// The greatest microstep of a tick.
@@ -33,7 +33,8 @@ impl Frame {
         }
     }
 
-    /// Whether a window that begins at a time of the run ends later, not past the end, and within the microstep limit.
+    /// Whether a window that begins at a time of the run is valid: it ends later, not past the end,
+    /// and within the microstep limit.
     pub fn is_window(&self, from: Time, upto: Time) -> bool
         requires { IsOfRun self.now.limit from }
         ensures { result ≡ (nat_lt (rank self.now.limit from) (rank self.now.limit upto)
@@ -43,7 +44,7 @@ impl Frame {
         upto.micro <= self.limit && from.is_before(upto) && !self.end().is_before(upto)
     }
 
-    /// Whether a time is within a window whose ends are times of the run, and its microstep within the limit.
+    /// Whether a time is in a window, and its microstep within the limit.
     pub fn is_within(&self, from: Time, upto: Time, time: Time) -> bool
         requires from { IsOfRun self.now.limit from }
         requires upto { IsOfRun self.now.limit upto }
@@ -62,7 +63,7 @@ pub fn is_same(time: Time, other: Time) -> bool
     time.tick == other.tick && time.micro == other.micro
 }
 
-/// Whether every event comes after the one before, so that none comes twice.
+/// Whether each event is after the one before it, so that none occurs twice.
 pub fn are_in_order(events: &[Event]) -> bool
     ensures { result ≡ are_in_order (meant_events events.now) }
 {
