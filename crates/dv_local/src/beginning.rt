@@ -24,12 +24,13 @@ use dv_record::Record;
 use dv_share::Member;
 use std::alloc::{AllocError, Global};
 
-/// A process at 0.0 of the components of a share as they start: nothing came, was committed or was sent. No component may
-/// be imminent at 0.0. What happens to them is told to a record, which was told nothing yet.
+/// A process at 0.0, with the components of a share as they start: nothing arrived, was committed
+/// or was sent. No component may be imminent at 0.0. `to` is the record, which was told nothing
+/// yet.
 ///
 /// # Errors
 ///
-/// No memory.
+/// No memory for the process.
 pub fn begin<A: Atomic + Drop, R: Record>(
     alloc: Global,
     share: Share<A>,
@@ -65,7 +66,7 @@ pub fn begin<A: Atomic + Drop, R: Record>(
     Ok(Process::new(alloc, LocalRun::new(state), &sources, &ways)?)
 }
 
-// The numbers of the links that lead away.
+// The numbers of the links to other processes.
 fn numbers_of(alloc: Global, ways: &[Way]) -> Result<Vec<u32>, AllocError>
     ensures { IfOk result (λ xs. xs.items ≡ numbers_of_ways ways.now) }
 {

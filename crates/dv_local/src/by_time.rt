@@ -17,7 +17,8 @@ use std::collections::BTreeMap;
 /// Arrivals by time, at each time in the order in which they came.
 pub(crate) type ByTime = BTreeMap<Time, Vec<Delivery>>;
 
-/// The time of the first event, and how many events are at it from the first one on. Packets mostly have many events of few times.
+/// The time of the first event, and how many events from the first one on have it. Packets mostly
+/// have many events of few times.
 pub(crate) fn first_run(events: &[Event]) -> (Time, usize)
     requires { 0 < length events.now }
     ensures some { 0 < result.1 }
@@ -32,7 +33,7 @@ pub(crate) fn first_run(events: &[Event]) -> (Time, usize)
     (time, count)
 }
 
-/// Adds the deliveries that events are.
+// Appends the deliveries of events. After an error the list is as before.
 fn push_all(list: &mut Vec<Delivery>, events: &[Event]) -> Result<(), AllocError>
     ensures ok { OnOk result (list.new.items ≡ list.old.items ++ map delivery_in events.now) }
     ensures err { OnErr result (list.new.items ≡ list.old.items) }
@@ -47,7 +48,7 @@ fn push_all(list: &mut Vec<Delivery>, events: &[Event]) -> Result<(), AllocError
     Ok(())
 }
 
-/// Adds the deliveries that events of one time are, of which there are some.
+/// Adds the deliveries of events that have one time; there is at least one.
 pub(crate) fn add_run(
     by_time: &mut ByTime,
     alloc: Global,
@@ -71,7 +72,7 @@ pub(crate) fn add_run(
     Ok(())
 }
 
-/// Takes away the last arrival at a time, if there is one.
+/// Removes the last arrival at a time, if there is one.
 pub(crate) fn take_back(by_time: &mut ByTime, time: Time)
     requires filled { AllFilled by_time.old }
     ensures filled { AllFilled by_time.new }
@@ -89,7 +90,7 @@ pub(crate) fn take_back(by_time: &mut ByTime, time: Time)
     by_time.remove(&time);
 }
 
-/// Takes away the last arrival at the time of each of several events.
+/// Removes the arrivals of events that were added last.
 pub(crate) fn take_all_back(by_time: &mut ByTime, events: &[Event])
     requires filled { AllFilled by_time.old }
     ensures filled { AllFilled by_time.new }

@@ -1,4 +1,4 @@
-//! The components to which something happens at an instant react, and what happens is committed.
+//! How the components react at an instant, and the record is told.
 
 ghost use Rattle.std.specs.Prelude.{◌≡◌, ◌<◌, ◌+◌, ◌++◌, ◌∷◌, [], List, Some, OnErr, OnOk, length, slice_get, slice_set};
 ghost use Rattle.dv_bag.specs.Bag.{Counts};
@@ -26,13 +26,14 @@ use dv_record::Record;
 use dv_share::{Received, Visit, next_cursor, sent_at};
 use std::alloc::AllocError;
 
-/// Lets the components that emitted or receive something react, one after the other. Each is visited once. What happens is
-/// told; what a component was that changed is appended to `before`.
+/// Lets the components that emitted something or receive a value react, one after the other. Each
+/// is visited once. The record is told what happens, and components that change are logged in
+/// `before` as they were.
 ///
 /// # Errors
 ///
-/// No memory. Some components may have reacted then: with those put back that stood before, the last first, all stand again
-/// as they did.
+/// No memory. Some components may have reacted: to take that back, those in `before` are to be put
+/// back, the last one first.
 pub(crate) fn commit<A: Atomic, R: Record>(
     moment: &Moment<'_, A>,
     work: &mut A::Work,
@@ -83,7 +84,7 @@ pub(crate) fn commit<A: Atomic, R: Record>(
     Ok(())
 }
 
-// The component at the index of an arrival is visited and reacts.
+// Visits the component at the index of an arrival and lets it react.
 fn commit_one<A: Atomic, R: Record>(
     moment: &Moment<'_, A>,
     work: &mut A::Work,
@@ -150,7 +151,7 @@ fn commit_one<A: Atomic, R: Record>(
     }
 }
 
-// Puts the component back that was visited and reacted last.
+// Puts back the component that was visited last, as it was before it reacted.
 fn take_back(components: &mut Components, before: &mut Former)
     requires { components.old.visited < length components.old.running }
     ensures back { (xs : List (IndexedOfCode RunningOfCode)) (x : IndexedOfCode RunningOfCode)
@@ -163,7 +164,7 @@ fn take_back(components: &mut Components, before: &mut Former)
     }
 }
 
-// Tells what happened to the component at an index, and what it sent.
+// Tells the record what happened to the component at an index, and what it sent.
 fn tell<A, R: Record>(
     moment: &Moment<'_, A>,
     index: u32,

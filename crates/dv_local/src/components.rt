@@ -1,4 +1,4 @@
-//! The components of a process, of which each visit is counted.
+//! The components of a process, with a count of visits.
 
 ghost use Rattle.std.specs.Prelude.{◌≡◌, ◌<◌, ◌≤◌, ◌+◌, ◌-◌, ◌^◌, IfOk, List, OnErr, Some, length, min, slice_get, slice_index_or, slice_set};
 ghost use Rattle.dv_bag.specs.Bag.{Counts};
@@ -17,8 +17,9 @@ use std::alloc::AllocError;
 use std::marker::Model;
 use std::mem;
 
-/// The components by index. A visit goes to one of them and adds one to the count. The one that was visited last can be read
-/// and replaced, and no other. So no code reads or changes a component that was not counted for it.
+/// The components by index. A visit goes to one of them and adds one to the count. Only the
+/// component visited last can be read and replaced, so no component is accessed without being
+/// counted.
 #[derive(Drop)]
 pub struct Components {
     running: Vec<Running>,
@@ -43,7 +44,7 @@ impl Model for Components {
 }
 
 impl Components {
-    /// Components of which none was visited.
+    /// Components without visits.
     pub fn new(running: Vec<Running>) -> Self
         ensures components { result.running ≡ running.items }
         ensures visits { result.visits ≡ 0 }
@@ -57,7 +58,8 @@ impl Components {
         }
     }
 
-    /// Goes to the component at an index, which adds one to the count. The count stays at 2^64 - 1 once there.
+    /// Goes to the component at an index, which adds one to the count. The count stays at 2^64 - 1
+    /// once there.
     #[inline]
     pub fn visit(&mut self, index: u32)
         ensures components { self.new.running ≡ self.old.running }
@@ -79,7 +81,7 @@ impl Components {
         &self.running[self.visited as usize]
     }
 
-    /// Puts another component where one was visited last, and gives the one that stood there.
+    /// Replaces the component that was visited last, and returns the old one.
     #[inline]
     pub fn replace(&mut self, component: Running) -> Running
         requires { self.old.visited < length self.old.running }
@@ -94,8 +96,8 @@ impl Components {
         mem::replace(&mut self.running[self.visited as usize], component)
     }
 
-    /// Lets the component that was visited last react in place. Tells what happened, if anything did: then what it was is the last of
-    /// the former ones.
+    /// Lets the component that was visited last react in place, and returns what happened, if
+    /// anything did; then the component as it was is logged.
     ///
     /// # Errors
     ///
@@ -130,14 +132,14 @@ impl Components {
         former.react(moment, work, component, visit)
     }
 
-    /// How many visits there were.
+    /// The count of visits.
     pub fn visits(&self) -> u64
         ensures { result ≡ self.now.visits }
     {
         self.visits
     }
 
-    /// The count is not taken back any more.
+    /// Settles the count.
     pub fn settle(&mut self)
         ensures components { self.new.running ≡ self.old.running }
         ensures visits { self.new.visits ≡ self.old.visits }
@@ -146,7 +148,7 @@ impl Components {
         self.settled = self.visits;
     }
 
-    /// Takes back what was added to the count since all was settled.
+    /// Sets the count back to where it was settled.
     pub fn take_back(&mut self)
         ensures components { self.new.running ≡ self.old.running }
         ensures visits { self.new.visits ≡ self.old.settled }

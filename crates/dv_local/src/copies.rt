@@ -1,4 +1,4 @@
-//! What components of one model were before they reacted.
+//! Copies of components of one model, as they were before they reacted.
 
 ghost use Rattle.std.specs.Prelude.{◌≡◌, ◌-◌, ◌<◌, ◌≤◌, ◌↔◌, ◌++◌, [], List, Some, IfOk, IsSome, OnErr, OnOk, option_to_list, length, slice_get, take};
 ghost use Rattle.dv_bag.specs.Bag.{Counts};
@@ -18,12 +18,13 @@ use dv_share::{Indexed, Visit, react};
 use std::alloc::{AllocError, Global};
 use std::marker::Model;
 
-/// What components of one model were before they reacted, each with its index, the last one last. The memory of those that are let go
-/// serves again: states of one model take the same.
+/// Copies of components of one model before they reacted, each with its index, the last one last. A
+/// discarded copy keeps its memory for the next one: states of one model need the same.
 #[derive(Drop)]
 pub struct Copies {
-    // Those that stand, and behind them such as were let go.
+    // The copies, and after them those that were discarded.
     items: Vec<Indexed<Running>>,
+    // How many were not discarded.
     count: usize,
     alloc: Global,
 }
@@ -41,7 +42,7 @@ impl Model for Copies {
 }
 
 impl Copies {
-    /// None.
+    /// No copies. It takes no memory yet.
     pub fn new(alloc: Global) -> Self
         ensures { result ≡ [] }
     {
@@ -52,14 +53,14 @@ impl Copies {
         }
     }
 
-    /// Lets go of the last one.
+    /// Discards the last copy, but keeps its memory.
     pub fn let_go(&mut self)
         ensures { self.new ≡ take (length self.old - 1) self.old }
     {
         self.count = self.count.saturating_sub(1);
     }
 
-    /// Moves out the last one.
+    /// Moves out the last copy.
     pub fn pop(&mut self) -> Option<Indexed<Running>>
         ensures items { self.old ≡ self.new ++ option_to_list result }
         ensures some { IsSome result ↔ (0 < length self.old) }
@@ -70,11 +71,12 @@ impl Copies {
         last
     }
 
-    /// Lets a component react in place. Tells what happened, if anything did: then what the component was is the last one.
+    /// Lets a component react in place, and returns what happened, if anything did; then the last
+    /// copy is the component as it was.
     ///
     /// # Errors
     ///
-    /// No memory. The component is as before, and none was added.
+    /// No memory. The component is unchanged, and no copy was added.
     pub(crate) fn react<A: Atomic>(
         &mut self,
         moment: &Moment<'_, A>,
@@ -128,7 +130,7 @@ impl Copies {
     }
 }
 
-// Makes room for one behind so many.
+// Makes room for a copy after so many.
 fn make_room(
     alloc: Global,
     items: &mut Vec<Indexed<Running>>,

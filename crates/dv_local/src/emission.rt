@@ -1,4 +1,4 @@
-//! What the imminent components send.
+//! What the imminent components emit.
 
 ghost use Rattle.std.specs.Prelude.{◌≡◌, OnOk, length};
 ghost use Rattle.dv_proc.specs.Accesses.{IsCounted};
@@ -11,12 +11,14 @@ use dv_react::{Atomic, Instant};
 use dv_share::{Indexed, Tables, emit};
 use std::alloc::{AllocError, Global};
 
-/// Finds what the output functions of the components at the due indices give, each of which is visited once. The list is that
-/// of the instant before, whose memory serves again; no component changes.
+/// Fills `emitted` with what the output functions of the components at the due indices give. Each
+/// is visited once, and none changes. The old contents of the list are discarded, its memory is
+/// used again.
 ///
 /// # Errors
 ///
-/// No memory for what is sent. The list has what some of the components send then, and some were visited.
+/// No memory for what is sent. Some of the components were visited, and the list has what they
+/// send.
 pub(crate) fn emit_all<A: Atomic>(
     alloc: Global,
     tables: &Tables<A>,

@@ -1,4 +1,4 @@
-//! What events bring to an inbox, the events that deliveries are, and the deliveries that inputs are.
+//! From events to deliveries, from deliveries to events, and from inputs to deliveries.
 
 ghost use Rattle.std.specs.Prelude.{◌≡◌, ◌++◌, IfOk, filter, map};
 ghost use Rattle.std.specs.List.{take_while};
@@ -14,7 +14,7 @@ use dv_share::Delivery;
 use dv_time::Time;
 use std::alloc::{AllocError, Global};
 
-/// The delivery that an event is at its time.
+/// The delivery of an event.
 pub(crate) fn delivery_in(event: &Event) -> Delivery
     ensures { result ≡ delivery_in event.now }
 {
@@ -26,12 +26,11 @@ pub(crate) fn delivery_in(event: &Event) -> Delivery
     }
 }
 
-/// The events that bring something. One without copies brings nothing, and neither does one at a time that is none of the
-/// run.
+/// The events that bring something: those with copies, at times within the microstep limit.
 ///
 /// # Errors
 ///
-/// No memory for them.
+/// No memory for the list.
 pub(crate) fn bringing(
     alloc: Global,
     limit: u32,
@@ -46,11 +45,11 @@ pub(crate) fn bringing(
         .collect(alloc)
 }
 
-/// Adds the events that deliveries are at a time.
+/// Appends the events of deliveries at a time.
 ///
 /// # Errors
 ///
-/// No memory; some events may have been added then.
+/// No memory. Some events may have been added.
 pub(crate) fn add_events(
     into: &mut Vec<Event>,
     now: Time,
@@ -71,11 +70,11 @@ pub(crate) fn add_events(
     Ok(())
 }
 
-/// The inputs at a time that stand in front, as deliveries to the outside.
+/// The first inputs, as far as they are at a time, as deliveries to the outside.
 ///
 /// # Errors
 ///
-/// No memory for them.
+/// No memory for the list.
 pub(crate) fn entering_at(
     alloc: Global,
     inputs: &[Input],

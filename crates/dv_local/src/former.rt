@@ -1,4 +1,4 @@
-//! What components were before they reacted.
+//! The undo log of components: what they were before they reacted.
 
 ghost use Rattle.std.specs.Prelude.{◌≡◌, ◌<◌, ◌≤◌, ◌↔◌, ◌++◌, [], List, Some, IfOk, IsSome, OnErr, OnOk, option_to_list, length, replicate, slice_get};
 ghost use Rattle.dv_bag.specs.Bag.{Counts};
@@ -18,16 +18,16 @@ use dv_share::{Indexed, Tables, Visit};
 use std::alloc::{AllocError, Global};
 use std::marker::Model;
 
-// So many models have copies by themselves. Where a share has more, the last ones have theirs together.
+// So many models have their copies apart. If a share has more, the last ones have theirs together.
 const MODELS_APART: usize = 256;
 
-/// What components were before they reacted, each with its index, the last one last. Those of each model lie by themselves, so that the
-/// memory of one that is let go serves for one that takes the same.
+/// Components as they were before they reacted, each with its index, the last one last. The copies
+/// of each model are kept apart, so that the memory of a discarded one fits the next one.
 #[derive(Drop)]
 pub struct Former {
-    // Those of each model.
+    // The copies, by model.
     copies: Vec<Copies>,
-    // Among which of them each lies.
+    // Which of these has each copy, in the order in which they were made.
     order: Vec<usize>,
 }
 
@@ -44,7 +44,7 @@ impl Model for Former {
     ghost invariant = { λ f. (0 < length f.copies.items) × AreCounted f.order.items f.copies.items };
 }
 
-// No copies, of so many models.
+// Empty lists of copies, for so many models.
 fn no_copies(alloc: Global, models: usize) -> Result<Vec<Copies>, AllocError>
     ensures { IfOk result (λ copies. copies.items ≡ replicate models []) }
 {
@@ -55,7 +55,7 @@ fn no_copies(alloc: Global, models: usize) -> Result<Vec<Copies>, AllocError>
     Ok(copies)
 }
 
-// Which of the models of a share a component has.
+// The index of a component's model.
 fn model_of<A>(tables: &Tables<A>, index: u32) -> usize
     requires { index < length tables.now.members.items }
 {
@@ -63,11 +63,12 @@ fn model_of<A>(tables: &Tables<A>, index: u32) -> usize
 }
 
 impl Former {
-    /// None, of components of so many models, with room for so many in their order.
+    /// An empty log for components of so many models. It has room for the order of `count` copies;
+    /// room for a copy is made with it.
     ///
     /// # Errors
     ///
-    /// No memory for them.
+    /// No memory for the lists.
     pub fn with_room(alloc: Global, models: usize, count: usize) -> Result<Self, AllocError>
         ensures { IfOk result (λ former. former ≡ []) }
     {
@@ -77,7 +78,7 @@ impl Former {
         })
     }
 
-    /// Lets go of all.
+    /// Discards all copies, but keeps their memory.
     pub fn clear(&mut self)
         ensures { self.new ≡ [] }
     {
@@ -86,7 +87,7 @@ impl Former {
         }
     }
 
-    /// Moves out the last one.
+    /// Moves out the last copy.
     pub fn pop(&mut self) -> Option<Indexed<Running>>
         ensures items { self.old ≡ self.new ++ option_to_list result }
         ensures some { IsSome result ↔ (0 < length self.old) }
@@ -97,11 +98,12 @@ impl Former {
         }
     }
 
-    /// Lets a component react in place. Tells what happened, if anything did: then what the component was is the last one.
+    /// Lets a component react in place, and returns what happened, if anything did; then the
+    /// component as it was is the last in the log.
     ///
     /// # Errors
     ///
-    /// No memory. The component is as before, and none was added.
+    /// No memory. The component and the log are unchanged.
     pub(crate) fn react<A: Atomic>(
         &mut self,
         moment: &Moment<'_, A>,

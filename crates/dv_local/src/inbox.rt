@@ -14,7 +14,8 @@ use std::alloc::{AllocError, Global};
 use std::collections::BTreeMap;
 use std::marker::Model;
 
-/// What came from other processes and was not taken yet: the arrivals of each time, in the order in which they came.
+/// What came from other processes and is not committed yet: the arrivals of each time, in the order
+/// in which they came.
 #[derive(Drop)]
 pub struct Inbox {
     by_time: ByTime,
@@ -49,7 +50,8 @@ impl Inbox {
         }
     }
 
-    // Whether nothing arrives. In a process to which no link leads this is so, and is told without a search.
+    // Whether nothing arrives. In a process without incoming links this saves a search at each
+    // time.
     #[inline]
     fn is_empty(&self) -> bool
         ensures { IsTrue result → (t : Time) → arrivals_at t self.now ≡ [] }
@@ -70,7 +72,7 @@ impl Inbox {
         }
     }
 
-    /// The first time from one on at which something arrives.
+    /// The first time, not before `from`, at which something arrives.
     pub fn first_from(&self, from: dv_time::Time) -> Option<dv_time::Time>
         ensures there { MatchOption result
             ((t : Time) → is_before t from ≡ false → arrivals_at t self.now ≡ [])
@@ -101,11 +103,11 @@ impl Inbox {
         }
     }
 
-    /// Adds what events bring, each behind what arrives at its time.
+    /// Adds what events bring, each after what already arrives at its time.
     ///
     /// # Errors
     ///
-    /// No memory; then the inbox is as before.
+    /// No memory. The inbox is unchanged.
     pub fn add_all(&mut self, events: &[Event]) -> Result<(), AllocError>
         ensures added { OnOk result ((t : Time)
             → arrivals_at t self.new ≡ arrivals_at t self.old ++ coming_at t events.now) }
@@ -124,7 +126,7 @@ impl Inbox {
         Ok(())
     }
 
-    /// Takes away what arrives at a time.
+    /// Removes what arrives at a time.
     pub fn remove(&mut self, time: dv_time::Time)
         ensures { (t : Time) → arrivals_at t self.new
             ≡ (if same_time time t then [] else arrivals_at t self.old) }

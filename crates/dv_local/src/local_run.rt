@@ -1,4 +1,4 @@
-//! What a process asks of its components, over what they stand at.
+//! The implementation of `Local`.
 
 use crate::state::LocalState;
 use dv_bag::Response;
@@ -10,7 +10,7 @@ use dv_written::{HandsOver, OfJob, WrittenPart};
 use std::alloc::AllocError;
 use std::marker::Model;
 
-/// What the components of a process stand at, with all that is always so of it.
+/// The components of a process, in a state that keeps its invariant.
 #[derive(Drop)]
 pub struct LocalRun<A: Atomic, R: Record> {
     state: LocalState<A, R>,
@@ -35,7 +35,7 @@ impl<A: Atomic, R: Record> LocalRun<A, R> {
     ghost use Rattle.std.specs.Prelude.{◌≡◌};
     ghost use Rattle.dv_local.specs.States.{IsKept};
 
-    /// From what stands to be kept.
+    /// Takes a state that keeps the invariant.
     pub fn new(state: LocalState<A, R>) -> Self
         requires { IsKept A.behaviour A.fits A.comes state }
         ensures { result ≡ state }

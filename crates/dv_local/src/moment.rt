@@ -1,11 +1,11 @@
-//! What an instant is computed from.
+//! What the reactions of an instant are computed from.
 
 use dv_bag::{Fault, Sent};
 use dv_react::Instant;
 use dv_share::{Indexed, Tables};
 
-/// What an instant is computed from, beside the components: the tables, the instant itself, what was emitted at it, and
-/// what a component sent that emitted nothing.
+/// What the reactions of an instant are computed from, beside the components and what arrives: the
+/// tables, the instant, what was emitted, and, as `nothing`, what the other components sent.
 #[derive(Clone, Copy)]
 pub(crate) struct Moment<'a, A> {
     pub tables: &'a Tables<A>,

@@ -3,14 +3,14 @@
 use dv_share::{Delivery, Received};
 use std::alloc::Global;
 
-/// Lists that an instant fills anew. Their memory serves again at the next one.
+/// Lists that each instant fills anew, in the memory that they have.
 #[derive(Drop)]
 pub struct Scratch {
-    /// The indices of the components that are due.
+    /// The indices of the imminent components.
     pub due: Vec<u32>,
-    /// What comes to components, and what leaves.
+    /// What links carry, to components or to the outside.
     pub carried: Vec<Delivery>,
-    /// What comes to the components that emitted or receive something.
+    /// What arrives at the components that emitted something or receive a value.
     pub received: Received,
 }
 

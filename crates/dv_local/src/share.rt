@@ -3,7 +3,7 @@
 use dv_bag::{Inputs, Response};
 use dv_share::{Routes, Tables};
 
-/// A link that leads to another process: its number, and the links between components of which it is made.
+/// A link to another process.
 #[derive(Drop)]
 pub struct Way {
     /// The number of the link between processes.
@@ -12,9 +12,7 @@ pub struct Way {
     pub links: Routes,
 }
 
-/// The share of a process, which never changes: its components in their tables, the last tick of the run, a response of its
-/// components, the numbers of the links that lead here, the links that lead away, how many input ports the outside has, and
-/// those of the inputs from outside that lead to a component here.
+/// The share of a process. It never changes.
 #[derive(Drop)]
 pub struct Share<A> {
     /// The components, their code, and the links among them.

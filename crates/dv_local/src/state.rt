@@ -1,4 +1,4 @@
-//! What the components of a process stand at.
+//! The components of a process with all that changes in a run.
 
 ghost use Rattle.std.specs.Prelude.{◌≡◌, ◌++◌, ◌<◌, ◌≤◌, ◌^◌, ℕ, List, [], IfOk, length, map, None, OnErr, OnOk, Some, slice_get, true};
 ghost use Rattle.dv_time.specs.Time.{IsOfRun, rank};
@@ -41,42 +41,43 @@ use dv_time::{Time, earliest};
 use dv_written::{HandsOver, OfJob, WrittenPart};
 use std::alloc::{AllocError, Global};
 
-// What stands for each component of an instant has room for all components from the start, or for so many where there are more. Else
-// it would grow by doubling whenever more of them have something to do at once than ever before.
+// Lists with an item for each component of an instant have room for all components from the start,
+// or for so many if there are more. Otherwise they would double whenever more components than ever
+// before react at once, which may be late in a run.
 const ROOM_AT_FIRST: usize = 1_024;
 
-/// The components of one process with the links between them, what came for them, and the record that is told what happens
-/// to them. What they emitted at a time is kept until they change.
+/// The components of one process, with all that changes in a run.
 #[derive(Drop)]
 pub struct LocalState<A, R> {
     /// The share, which never changes.
     pub share: Share<A>,
-    /// The components as they stand.
+    /// The components as they are now.
     pub components: Components,
-    /// When the hold of each component runs out.
+    /// When the hold of each component ends.
     pub agenda: Agenda,
     /// What came from other processes and is not committed.
     pub inbox: Inbox,
-    /// What is told of all that happens.
+    /// The record, which is told all that happens.
     pub record: R,
-    /// What stood when all was settled.
+    /// What is needed to take back the changes since all was settled.
     pub undo: Undo,
     /// What the components emitted, or their faults, in the order of their indices.
     pub emitted: Vec<Indexed<Result<Sent, Fault>>>,
-    /// The time for which that was computed; none where it does not stand any more.
+    /// The time for which `emitted` was computed; `None` if components have changed since.
     pub emitted_at: Option<Time>,
-    /// Lists of an instant, whose memory serves again.
+    /// Lists of an instant, kept for their memory.
     pub scratch: Scratch,
     /// Where memory comes from.
     pub alloc: Global,
 }
 
 impl<A: Atomic + Drop, R: Record> LocalState<A, R> {
-    /// As a run begins: components of a share, for which nothing came yet, and a record that was told nothing.
+    /// Components of a share as a run begins: nothing came for them, and the record was told
+    /// nothing.
     ///
     /// # Errors
     ///
-    /// No memory for the agenda, or for lists of what components do at an instant.
+    /// No memory for the agenda, or for the lists of an instant.
     pub fn new(
         alloc: Global,
         share: Share<A>,
@@ -144,7 +145,7 @@ impl<A: Atomic, R: Record> LocalState<A, R> {
         }
     }
 
-    /// A response of the components.
+    /// The response: a lower bound on the holds that external rules of the components begin.
     pub fn response(&self) -> Response
         requires { IsKept A.behaviour A.fits A.comes self.now }
         ensures ticks { ticks_of result ≡ (view_by A.behaviour R.told self.now).share.response }
@@ -153,7 +154,7 @@ impl<A: Atomic, R: Record> LocalState<A, R> {
         self.share.response
     }
 
-    /// Whether there is such an input port of a component.
+    /// Whether a component with this number is here and has this input port.
     pub fn is_port(&self, component: u32, port: u32) -> bool
         requires { IsKept A.behaviour A.fits A.comes self.now }
         ensures { result
@@ -176,7 +177,7 @@ impl<A: Atomic, R: Record> LocalState<A, R> {
         self.agenda.first()
     }
 
-    /// The first time from one on at which something comes for them, of what is held and from outside.
+    /// The first time, not before `from`, at which an event or an input from outside arrives.
     pub fn first_input(&self, from: Time) -> Option<Time>
         requires kept { IsKept A.behaviour A.fits A.comes self.now }
         requires of_run { IsOfRun (view_by A.behaviour R.told self.now).share.limit from }
@@ -188,11 +189,11 @@ impl<A: Atomic, R: Record> LocalState<A, R> {
         earliest(held, outside)
     }
 
-    /// Keeps events until their time. It is settled at once.
+    /// Keeps events until their time. This is settled at once.
     ///
     /// # Errors
     ///
-    /// No memory; then nothing that is seen changes.
+    /// No memory. Nothing that contracts see has changed.
     pub fn keep(&mut self, events: &[Event]) -> Result<(), AllocError>
         requires kept { IsKept A.behaviour A.fits A.comes self.old }
         requires settled { settled_by A.behaviour R.settled self.old
@@ -213,12 +214,13 @@ impl<A: Atomic, R: Record> LocalState<A, R> {
         self.inbox.add_all(&brought)
     }
 
-    /// Finds what they send at a time, from their states alone. Each that is due is visited once; what was found for the
-    /// time already is found again without a visit.
+    /// Computes what the components send at a time, from their states alone. Each imminent
+    /// component is visited once. If this was already computed for the time, it is kept, without
+    /// visits.
     ///
     /// # Errors
     ///
-    /// No memory; nothing that is seen has changed.
+    /// No memory. No component has changed.
     pub fn emit(&mut self, work: &mut A::Work, now: Time) -> Result<(), AllocError>
         requires kept { IsKept A.behaviour A.fits A.comes self.old }
         requires of_run { IsOfRun (view_by A.behaviour R.told self.old).share.limit now }
@@ -263,13 +265,14 @@ impl<A: Atomic, R: Record> LocalState<A, R> {
         Ok(())
     }
 
-    /// The instant at a time, which is after all that was committed: components react, what happened is told, and then what
-    /// left. Each component that is due is visited once, if what it emits was not found already, and each to which something
-    /// happens once more.
+    /// Commits the instant at a time, which is after all that was committed: the components react,
+    /// and the record is told what happened and then what left the model. Each imminent component
+    /// is visited once, unless what it emits was computed before, and each that emitted something
+    /// or receives a value once more.
     ///
     /// # Errors
     ///
-    /// No memory; nothing that is seen has changed.
+    /// No memory. `roll_back` is to be called.
     pub fn react(&mut self, work: &mut A::Work, now: Time) -> Result<(), AllocError>
         requires kept { IsKept A.behaviour A.fits A.comes self.old }
         requires settled { settled_by A.behaviour R.settled self.old
@@ -335,11 +338,12 @@ impl<A: Atomic, R: Record> LocalState<A, R> {
         Ok(())
     }
 
-    /// Adds the events of what they send by the outgoing link at an index, at the time that was last asked about.
+    /// Appends the events of what the components send on the outgoing link at an index, at the time
+    /// of the last `emit`.
     ///
     /// # Errors
     ///
-    /// No memory; some events may have been added then.
+    /// No memory. Some events may have been added.
     pub fn send(&self, index: usize, now: Time, into: &mut Vec<Event>) -> Result<(), AllocError>
         requires { IsKept A.behaviour A.fits A.comes self.now }
         ensures { OnOk result ((out : Outgoing)
@@ -358,7 +362,8 @@ impl<A: Atomic, R: Record> LocalState<A, R> {
         add_events(into, now, &deliveries)
     }
 
-    /// Lets what they stood at before go.
+    /// Makes all changes final: empties the undo log, and removes the arrivals of the committed
+    /// time.
     pub fn settle(&mut self)
         requires { IsKept A.behaviour A.fits A.comes self.old }
         ensures kept { IsKept A.behaviour A.fits A.comes self.new }
@@ -375,7 +380,7 @@ impl<A: Atomic, R: Record> LocalState<A, R> {
         self.components.settle();
     }
 
-    /// Makes them stand again where they were settled.
+    /// Takes back all changes since the last `settle`.
     pub fn roll_back(&mut self)
         requires { IsKept A.behaviour A.fits A.comes self.old }
         ensures kept { IsKept A.behaviour A.fits A.comes self.new }
@@ -395,7 +400,7 @@ impl<A: Atomic, R: Record> LocalState<A, R> {
         self.undo.taken = None;
     }
 
-    /// Lets go of the bytes of the record, which were handed over, when all is settled.
+    /// Discards the bytes of the record, which were handed over. All has to be settled.
     pub fn let_go(&mut self)
         requires kept { IsKept A.behaviour A.fits A.comes self.old }
         requires settled { settled_by A.behaviour R.settled self.old
@@ -413,7 +418,7 @@ impl<A: Atomic, R: Record> LocalState<A, R> {
 }
 
 impl<A: Atomic, R: Record> LocalState<A, R> {
-    /// How many bytes the lines have together that were committed and not moved out yet.
+    /// How many bytes the lines have that were committed and not handed over yet.
     pub fn rest_length<N: OfJob>(&self) -> usize
     where
         R: HandsOver<N>,
@@ -423,7 +428,7 @@ impl<A: Atomic, R: Record> LocalState<A, R> {
         self.record.rest_length()
     }
 
-    /// Moves out what was committed beyond what was moved out before, as the lines that its entries print, when all is settled.
+    /// Moves out what was committed and not handed over yet, as lines. All has to be settled.
     pub fn hand_over<N: OfJob>(&mut self) -> WrittenPart<N>
     where
         R: HandsOver<N>,

@@ -1,4 +1,4 @@
-//! How what was done is taken back.
+//! How changes are taken back.
 
 ghost use Rattle.std.specs.Prelude.{◌≡◌, ◌<◌, ◌≤◌, ◌+◌, ◌-◌, ◌^◌, [], IfOk, length, slice_set};
 ghost use Rattle.dv_local.specs.Arrivals.{arrivals_at};
@@ -13,17 +13,17 @@ use dv_react::{Running, Wait};
 use dv_time::Time;
 use std::alloc::{AllocError, Global};
 
-/// What stood when all was settled: what the components were that changed since, and the time whose arrivals are let go when
-/// all is settled again. What was told since, the record knows, and what was visited the components.
+/// What is needed to take back the changes since all was settled. What was told since then is known
+/// to the record, and the count of visits to the components.
 #[derive(Drop)]
 pub struct Undo {
-    /// What the components were that changed since.
+    /// The components that changed, as they were.
     pub before: Former,
-    /// The time whose arrivals are let go when all is settled again.
+    /// The committed time, whose arrivals are removed when all is settled again.
     pub taken: Option<Time>,
 }
 
-/// The time that a component waits for.
+/// The time that a component waits for: its next time.
 pub(crate) fn time_of(wait: Wait) -> Option<Time>
     ensures { result ≡ time_of_wait wait }
 {
@@ -33,7 +33,7 @@ pub(crate) fn time_of(wait: Wait) -> Option<Time>
     }
 }
 
-/// Lets go what arrives at a time, if there is one.
+/// Removes what arrives at a time, if there is one.
 pub(crate) fn let_go(inbox: &mut Inbox, taken: Option<Time>)
     ensures { (t : TimeOfCode) → arrivals_at t inbox.new ≡ arrivals_but taken t inbox.old }
 {
@@ -42,8 +42,8 @@ pub(crate) fn let_go(inbox: &mut Inbox, taken: Option<Time>)
     }
 }
 
-/// Puts the components back that stood before, the last first, and takes back what was added to their count of visits. It
-/// wants no memory.
+/// Puts all components in the log back, the last one first, and sets the count of visits back. It
+/// needs no memory.
 pub(crate) fn put_all_back(components: &mut Components, agenda: &mut Agenda, before: &mut Former)
     requires within { AreWithin (length components.old.running) before.old }
     requires agenda { agenda.old ≡ waits_of components.old.running }
@@ -61,7 +61,7 @@ pub(crate) fn put_all_back(components: &mut Components, agenda: &mut Agenda, bef
     components.take_back();
 }
 
-// Puts a component back where it stood.
+// Puts a component back at its index.
 fn put_back(components: &mut Components, index: u32, component: Running)
     requires { index < length components.old.running }
     ensures components { components.new.running
@@ -72,11 +72,11 @@ fn put_back(components: &mut Components, index: u32, component: Running)
     components.replace(component);
 }
 
-/// The agenda of components: what each of them waits for.
+/// The agenda of components: the next time of each.
 ///
 /// # Errors
 ///
-/// No memory for a wait and 641 bits a component, and for 641 waits.
+/// No memory for a wait and 641 bits of each component, and for 641 waits.
 pub fn agenda_of(alloc: Global, running: &[Running]) -> Result<Agenda, AllocError>
     requires { length running.now < 2 ^ 32 }
     ensures { IfOk result (λ agenda. agenda ≡ waits_of running.now) }

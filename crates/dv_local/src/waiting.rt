@@ -1,4 +1,4 @@
-//! When something comes.
+//! When events and inputs arrive.
 
 ghost use Rattle.std.specs.Prelude.{◌≡◌, ◌<◌, ◌≤◌, ℕ, [], IfOk, IfSome, MatchOption, false, length, true};
 ghost use Rattle.dv_time.specs.Limits.{greatest_limit};
@@ -17,7 +17,8 @@ use dv_share::arrival::bags_of;
 use dv_time::Time;
 use std::alloc::{AllocError, Global};
 
-/// The first time from one on at which something arrives, but for a time that is taken.
+/// The first time, not before `from`, at which an event arrives. The arrivals of the time `taken`
+/// are committed and do not count.
 pub(crate) fn first_held(inbox: &Inbox, taken: Option<Time>, from: Time) -> Option<Time>
     requires small { (t : TimeOfCode) → 0 < length (arrivals_at t inbox.now)
         → t.micro ≤ greatest_limit }
@@ -39,7 +40,7 @@ pub(crate) fn first_held(inbox: &Inbox, taken: Option<Time>, from: Time) -> Opti
     inbox.first_from(next)
 }
 
-/// Whether a time is the one that is taken.
+/// Whether a time is the one that is taken, if one is.
 pub(crate) fn is_taken(taken: Option<Time>, time: Time) -> bool
     ensures { result ≡ is_taken taken time }
 {
@@ -49,7 +50,7 @@ pub(crate) fn is_taken(taken: Option<Time>, time: Time) -> bool
     }
 }
 
-/// The first time from one on at which inputs come in, of inputs that are all at times of the run.
+/// The time of the first input that is not before `from`.
 pub(crate) fn first_outside(inputs: &[Input], from: Time) -> Option<Time>
     requires { IsByTime inputs.now }
     ensures { (limit : ℕ) → AreOfRun limit inputs.now → result ≡ next_from limit inputs.now from }
@@ -65,12 +66,12 @@ fn time_at(inputs: &[Input], index: usize) -> Option<Time>
     inputs.get(index).map(|input| input.time)
 }
 
-/// What comes in from outside at a time of the run, a bag for each of so many ports, of inputs that are all at times of it.
-/// What comes in is sorted first, so that each value goes to the end of its bag.
+/// The inputs from outside at a time, as a bag for each of so many ports. They are sorted first, so
+/// that each value goes to the end of its bag.
 ///
 /// # Errors
 ///
-/// No memory for what comes in, or for the bags.
+/// No memory for the sorted list, or for the bags.
 pub(crate) fn outside_at(
     alloc: Global,
     inputs: &Inputs,
@@ -91,7 +92,7 @@ pub(crate) fn outside_at(
     bags_of(alloc, 0, ports, &entering)
 }
 
-// The index of the first input at a time or after it, by a binary search.
+// The index of the first input that is not before a time, by a binary search.
 fn inputs_before(inputs: &[Input], time: Time) -> usize
     requires { IsByTime inputs.now }
     ensures index { (limit : ℕ) → AreOfRun limit inputs.now
