@@ -1,4 +1,4 @@
-//! The conservative process as a process of a world.
+//! `Process` of `dv_proc` as a process of a world.
 
 ghost use Rattle.dv_core.specs.Conservative.{IsConservative, state_by};
 

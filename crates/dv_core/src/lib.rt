@@ -1,26 +1,28 @@
 //! The world of logical processes, and the driver that runs them in rounds on one thread.
 //!
-//! A `World` has the processes of a job and the links between them, with the packets on their way. A `Step` is a turn
-//! of a process, a packet put on a link or taken from it, or a process stopped; steps may come in any order. After
-//! any of them every packet is true, each process has committed its part of the trace before its clock, and no packet
-//! on its way is refused. Rounds take all steps in turn: with room on each link, one round more than there are times
-//! before the end brings every clock to the end, unless memory is refused.
+//! A `World` has the processes of a job and the links between them, with the packets on their way.
+//! A `Step` is a turn of a process, a packet put on a link or taken from it, or a process stopped.
+//! Steps may come in any order. After each of them every packet is true, each process has committed
+//! its part of the trace before its clock, and no packet on its way will be refused. A round is a
+//! turn of each process, then a put and a take on each link. If links have room for a packet, one
+//! round more than there are times before the end brings every clock to the end, unless memory runs
+//! out.
 //!
-//! `LogicalProcess` and `PlannedJob` are what a world asks of processes and jobs; `dv_plan` makes a world of a plan,
-//! `dv_stream` drives its rounds, and `dv_work` takes the same processes to threads. Nothing here starts a thread or
-//! writes a trace.
+//! `LogicalProcess` and `PlannedJob` are the traits of processes and jobs. `dv_plan` makes a world
+//! of a plan, `dv_stream` runs its rounds, and `dv_work` runs the same processes on threads.
+//! Nothing in this crate starts a thread or writes a trace.
 #![tactic(auto)]
 
-/// What a world asks of its processes and of their job.
+/// The traits of a world's processes and of their job.
 pub mod process;
 
-/// The conservative process as a process of a world.
+/// `Process` of `dv_proc` as a process of a world.
 pub mod conservative;
 
-/// What may be done to a world, and what it answers.
+/// The steps of a world, and their replies.
 pub mod step;
 
-/// What a world keeps, and what steps do to it.
+/// The state of a world, and what steps do to it.
 pub mod state;
 
 /// Logical processes, the links between them, and their steps.

@@ -9,14 +9,14 @@ use dv_record::{PartRecord, parts_of};
 use dv_time::Time;
 use std::alloc::{AllocError, Global};
 
-/// What a process has committed.
+/// What a process committed.
 pub fn committed<P: LogicalProcess<Record = PartRecord>>(process: &P) -> &Part
     ensures { result.now ≡ (P.state process.now).part }
 {
     process.record().part()
 }
 
-/// What a process has committed, moved out, and its clock.
+/// What a process committed, moved out, and its clock.
 pub fn into_part<P: LogicalProcess<Record = PartRecord>>(process: P) -> (Part, Time)
     ensures part { result.0 ≡ (P.state process).part }
     ensures clock { result.1 ≡ (P.state process).position.clock }
@@ -25,11 +25,11 @@ pub fn into_part<P: LogicalProcess<Record = PartRecord>>(process: P) -> (Part, T
     (told.into_part(), clock)
 }
 
-/// What each process of a world has committed, moved out, and the clock of each, by their numbers.
+/// What each process of a world committed, moved out, and the clock of each, by their numbers.
 ///
 /// # Errors
 ///
-/// No memory.
+/// No memory for the lists. What was committed is lost.
 pub fn into_parts<J: PlannedJob, P: LogicalProcess<Record = PartRecord>>(
     alloc: Global,
     world: World<J, P>,

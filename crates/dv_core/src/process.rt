@@ -1,4 +1,4 @@
-//! What a world asks of its processes and of their job.
+//! The traits of a world's processes and of their job.
 
 ghost use Rattle.std.specs.Prelude.{◌≡◌, ◌≢◌, ◌≤◌, ℕ, None, Some, IfOk, IfErr, OnErr, OnOk, MatchOption};
 ghost use Rattle.dv_bag.specs.Part.{joined};
@@ -18,28 +18,30 @@ use dv_time::Time;
 use dv_written::{OfJob, WrittenPart};
 use std::alloc::AllocError;
 
-/// A logical process, as a world sees it: its share of the model, the components of it as they stand, the packets that it
-/// received, its position and what it has committed.
+/// A logical process, as a world sees it.
 pub trait LogicalProcess: Drop {
-    /// What a turn works with and leaves nothing in, as the stack machine; one serves all processes.
+    /// What a turn works with, such as the stack machine. A turn leaves nothing in it, so one
+    /// serves all processes.
     type Work;
 
-    /// What is told what it commits.
+    /// The record that is told what the process commits.
     type Record: Record;
 
+    /// Its state for contracts: the share, the components, the packets received, the position, and
+    /// what was committed.
     ghost state: { Self → ProcessState };
 
-    /// How its record writes what is told, and what of that was handed over.
+    /// How the record writes what it is told, and what of that was handed over.
     ghost handed: { Self → Handed };
 
-    /// What holds of it from one call to the next.
+    /// The invariant that holds between calls.
     ghost valid: { Self → Type 0 };
 
-    /// One turn: commits at most one instant, raises the clock and prepares packets.
+    /// Takes a turn: commits at most one instant, raises the clock and prepares packets.
     ///
     /// # Errors
     ///
-    /// No memory; the process is as before.
+    /// No memory. The process is unchanged.
     fn turn(&mut self, work: &mut Self::Work) -> Result<Turned, AllocError>
         requires { valid self.old }
         ensures valid { valid self.new }
@@ -48,11 +50,12 @@ pub trait LogicalProcess: Drop {
         ensures err { OnErr result (state self.new ≡ state self.old) }
         ensures handed { handed self.new ≡ handed self.old };
 
-    /// Takes a packet from a link that leads here.
+    /// Receives a packet.
     ///
     /// # Errors
     ///
-    /// The first test that the packet fails, or no memory, with the packet; the process is as before.
+    /// The first test that the packet fails, or no memory. The packet is returned with it, and the
+    /// process is unchanged.
     fn receive(&mut self, packet: Packet) -> Result<(), (Refused, Packet)>
         requires { valid self.old }
         ensures valid { valid self.new }
@@ -65,12 +68,12 @@ pub trait LogicalProcess: Drop {
         ensures handed_back { IfErr result (λ e. e.1 ≡ packet) }
         ensures handed { handed self.new ≡ handed self.old };
 
-    /// The packet that stands for a link that leads away.
+    /// The packet that is prepared for an outgoing link, if there is one.
     fn out(&self, link: u32) -> Option<&Packet>
         ensures { MatchOption result ((state self.now).position.standing link ≡ None)
             (λ p. (state self.now).position.standing link ≡ Some (meant_packet p.now)) };
 
-    /// Gives away the packet that stands for a link; none stands there then.
+    /// Takes the packet that is prepared for an outgoing link. There has to be one.
     fn sent(&mut self, link: u32) -> Packet
         requires valid { valid self.old }
         requires stands { (state self.old).position.standing link ≢ None }
@@ -88,7 +91,7 @@ pub trait LogicalProcess: Drop {
         ensures told { Self.Record.told result.now ≡ (state self.now).part }
         ensures handed { Self.Record.handed result.now ≡ handed self.now };
 
-    /// Lets go of the bytes of the record, which were handed over.
+    /// Discards the bytes of the record, which were handed over.
     fn let_go(&mut self)
         requires { valid self.old }
         ensures valid { valid self.new }
@@ -97,19 +100,19 @@ pub trait LogicalProcess: Drop {
           text = (handed self.old).text_of (state self.old).part;
         } };
 
-    /// The record, and the clock.
+    /// The record, moved out, and the clock.
     fn finish(self) -> (Self::Record, Time)
         ensures told { Self.Record.told result.0 ≡ (state self).part }
         ensures clock { result.1 ≡ (state self).position.clock };
 }
 
-/// A logical process of whose record a part is moved out while it commits more.
+/// A logical process whose record hands over what it was told while the run goes on, as lines.
 pub trait ProcessHandsOver<N: OfJob>: LogicalProcess {
-    /// How many bytes the lines have together that it committed and that were not moved out yet.
+    /// How many bytes the lines have that were committed and not handed over yet.
     fn rest_length(&self) -> usize
         ensures { result ≡ rest_length N.line (Self.handed self.now).past (Self.state self.now).part };
 
-    /// Moves out what it committed beyond what was moved out before, as the lines that its entries print.
+    /// Moves out what was committed and not handed over yet.
     fn hand_over(&mut self) -> WrittenPart<N>
         requires { Self.valid self.old }
         ensures valid { Self.valid self.new }
@@ -119,8 +122,9 @@ pub trait ProcessHandsOver<N: OfJob>: LogicalProcess {
             ≡ record (Self.handed self.old) { past = (Self.state self.old).part } };
 }
 
-/// What a plan says of its job: the model that is run in parts, and until when.
+/// What is planned: a job, with its horizon.
 pub trait PlannedJob: Drop {
+    /// The job for contracts: a flat model, its processes, inputs and horizon.
     ghost means: { Self → Job };
 
     /// The last tick of the run.

@@ -1,4 +1,4 @@
-//! What a world keeps, and what steps do to it.
+//! The state of a world, and what steps do to it.
 
 ghost use Rattle.std.specs.Prelude.{◌≡◌, ◌≢◌, ◌+◌, ◌^◌, ◌≤◌, ◌<◌, ℕ, ◌↔◌, IsTrue, IfOk, OnErr, OnOk, map, [], length};
 ghost use Rattle.std.specs.Prelude.{replicate, slice_get, slice_set, Some, vec_len, true, false};
@@ -21,12 +21,12 @@ use dv_written::{OfJob, WrittenPart};
 use std::alloc::{AllocError, Global};
 use std::collections::VecDeque;
 
-/// What a world keeps: a job, its processes and the links between them, each by their numbers.
+/// The state of a world. Processes and links are in the order of their numbers.
 #[derive(Drop)]
 pub struct WorldState<J, P> {
-    /// What is run.
+    /// The job.
     pub job: J,
-    /// Between which processes each link leads.
+    /// Which processes each link joins.
     pub channels: Vec<Channel>,
     /// The processes.
     pub processes: Vec<P>,
@@ -39,12 +39,12 @@ pub struct WorldState<J, P> {
 }
 
 impl<J: PlannedJob, P: LogicalProcess> WorldState<J, P> {
-    /// A new world: no packet is on its way, and nobody is stopped. The links are in the order of their numbers, and so many
-    /// packets may be on their way on each.
+    /// A new world: no packet is on its way, and no process is stopped. `capacity` is how many
+    /// packets may be on their way on each link.
     ///
     /// # Errors
     ///
-    /// No memory.
+    /// No memory for the world.
     pub fn new(
         alloc: Global,
         job: J,
@@ -70,11 +70,11 @@ impl<J: PlannedJob, P: LogicalProcess> WorldState<J, P> {
         })
     }
 
-    /// The record of each process, which was told what it committed, and the clock of each, by their numbers.
+    /// The record of each process, moved out, and the clock of each, by their numbers.
     ///
     /// # Errors
     ///
-    /// No memory.
+    /// No memory for the lists. The records are lost.
     pub fn finish(self, alloc: Global) -> Result<(Vec<P::Record>, Vec<Time>), AllocError>
         ensures told { IfOk result (λ r. map P.Record.told r.0.items
             ≡ map (λ x. (P.state x).part) self.processes.items) }
@@ -99,7 +99,7 @@ impl<J: PlannedJob, P: LogicalProcess> WorldState<J, P> {
         Ok((records, clocks))
     }
 
-    /// A turn of a process.
+    /// Lets a process take a turn.
     fn turn(&mut self, work: &mut P::Work, process: u32) -> Reply
         requires { Stands J.means P.state P.valid self.old }
         ensures stepped { IsStepped J.means P.state P.valid (step.Turn process) result
@@ -121,7 +121,7 @@ impl<J: PlannedJob, P: LogicalProcess> WorldState<J, P> {
         Reply::Done
     }
 
-    /// The packet that stands at a link's sender goes to the link's end.
+    /// Puts the packet that the sender of a link prepared at the end of the link's queue.
     fn put(&mut self, link: u32) -> Reply
         requires { Stands J.means P.state P.valid self.old }
         ensures stepped { IsStepped J.means P.state P.valid (step.Put link) result
@@ -153,7 +153,7 @@ impl<J: PlannedJob, P: LogicalProcess> WorldState<J, P> {
         Reply::Done
     }
 
-    /// The front packet of a link goes to its receiver.
+    /// Takes the first packet of a link's queue to the receiver.
     fn take(&mut self, link: u32) -> Reply
         requires { Stands J.means P.state P.valid self.old }
         ensures stepped { IsStepped J.means P.state P.valid (step.Take link) result
@@ -177,7 +177,7 @@ impl<J: PlannedJob, P: LogicalProcess> WorldState<J, P> {
         match receiver.receive(packet) {
             Ok(()) => return Reply::Done,
             Err((refused, packet)) => {
-                // What is on its way is true, so no test refuses it.
+                // A packet on its way is true, so no test refuses it.
                 let Refused::NoMemory = refused else {
                     unreachable!()
                 };
@@ -187,7 +187,7 @@ impl<J: PlannedJob, P: LogicalProcess> WorldState<J, P> {
         }
     }
 
-    /// A process is stopped for good.
+    /// Stops a process for the rest of the run.
     fn stop(&mut self, process: u32) -> Reply
         requires { Stands J.means P.state P.valid self.old }
         ensures { IsStepped J.means P.state P.valid (step.Stop process) result
@@ -201,7 +201,7 @@ impl<J: PlannedJob, P: LogicalProcess> WorldState<J, P> {
         Reply::Done
     }
 
-    /// One step.
+    /// Takes one step.
     pub fn step(&mut self, work: &mut P::Work, step: Step) -> Reply
         requires { Stands J.means P.state P.valid self.old }
         ensures { IsStepped J.means P.state P.valid step result self.old self.new }
@@ -214,13 +214,14 @@ impl<J: PlannedJob, P: LogicalProcess> WorldState<J, P> {
         }
     }
 
-    /// Steps, one after the other, with their replies; each turn that is done makes progress. In the world that they leave
-    /// every packet is true, each process has committed its part of the model's trace before its clock, and its components
-    /// stand as they do in the model just before its clock.
+    /// Takes steps one after the other, and returns their replies. Each turn that is done makes
+    /// progress. Afterwards every packet is true, each process has committed its part of the
+    /// model's trace before its clock, and its components are as they are in the model just before
+    /// its clock.
     ///
     /// # Errors
     ///
-    /// No memory for the replies; no step is made then.
+    /// No memory for the replies. No step was taken.
     pub fn run(
         &mut self,
         alloc: Global,
@@ -245,7 +246,8 @@ impl<J: PlannedJob, P: LogicalProcess> WorldState<J, P> {
         Ok(replies)
     }
 
-    /// Whether every clock is at the end. The parts of the processes together are then the model's whole trace.
+    /// Whether every clock is at the end. Then the parts of all processes are the model's whole
+    /// trace.
     pub fn whole(&self) -> bool
         requires { Stands J.means P.state P.valid self.now }
         ensures whole { IsTrue result
@@ -266,7 +268,7 @@ impl<J: PlannedJob, P: LogicalProcess> WorldState<J, P> {
         true
     }
 
-    /// Makes one turn of each process in order. Returns whether memory sufficed for all of them.
+    /// Lets each process take a turn, in order. Returns whether memory sufficed for all of them.
     fn turns(&mut self, work: &mut P::Work) -> bool
         requires { Stands J.means P.state P.valid self.old }
         ensures done { result ≡ true → Continues (J.means self.old.job)
@@ -289,7 +291,8 @@ impl<J: PlannedJob, P: LogicalProcess> WorldState<J, P> {
         true
     }
 
-    /// Makes one put and one take for each link in order. Returns whether memory sufficed for all of them.
+    /// Makes a put and a take on each link, in order. Returns whether memory sufficed for all of
+    /// them.
     fn moves(&mut self) -> bool
         requires { Stands J.means P.state P.valid self.old }
         ensures done { result ≡ true → IsDriven (J.means self.old.job)
@@ -315,7 +318,7 @@ impl<J: PlannedJob, P: LogicalProcess> WorldState<J, P> {
         true
     }
 
-    /// One round; whether nothing in it wanted memory.
+    /// Makes one round. Returns whether memory sufficed for it.
     fn round(&mut self, work: &mut P::Work) -> bool
         requires { Stands J.means P.state P.valid self.old }
         ensures done { result ≡ true → IsDriven (J.means self.old.job)
@@ -335,8 +338,9 @@ impl<J: PlannedJob, P: LogicalProcess> WorldState<J, P> {
         self.moves()
     }
 
-    /// Rounds, so many at most, until every clock is at the end. From a new world one round more than there are times
-    /// before the end is enough. Where memory is refused the last round is cut; what was done stands.
+    /// Makes rounds, at most so many, until every clock is at the end. From a new world one round
+    /// more than there are times before the end is enough. If memory runs out, the rest of the
+    /// round is left out; what was done stays.
     pub fn serial(&mut self, work: &mut P::Work, limit: u64) -> Ended
         requires { Stands J.means P.state P.valid self.old }
         ensures rounds { EndsAs (J.means self.old.job) limit result
@@ -367,7 +371,7 @@ impl<J: PlannedJob, P: LogicalProcess> WorldState<J, P> {
         Ended::Stalled
     }
 
-    /// The record of a process lets go of the bytes that were handed over.
+    /// Discards the bytes of a process's record, which were handed over.
     pub fn let_go(&mut self, process: u32)
         requires stands { Stands J.means P.state P.valid self.old }
         requires process { process < vec_len self.old.processes }
@@ -383,7 +387,7 @@ impl<J: PlannedJob, P: LogicalProcess> WorldState<J, P> {
         owner.let_go();
     }
 
-    /// The process of a number.
+    /// The process with a number.
     pub fn process(&self, process: u32) -> &P
         requires { process < vec_len self.now.processes }
         ensures { slice_get self.now.processes.items process ≡ Some result.now }
@@ -391,7 +395,7 @@ impl<J: PlannedJob, P: LogicalProcess> WorldState<J, P> {
         &self.processes[process as usize]
     }
 
-    /// The job that is run.
+    /// The job.
     pub fn job(&self) -> &J
         ensures { result.now ≡ self.now.job }
     {
@@ -400,7 +404,7 @@ impl<J: PlannedJob, P: LogicalProcess> WorldState<J, P> {
 }
 
 impl<J: PlannedJob, P: LogicalProcess> WorldState<J, P> {
-    /// Moves out what a process committed beyond what was moved out of it before, as the lines that its entries print.
+    /// Moves out what a process committed and did not hand over yet, as lines.
     pub fn hand_over<N: OfJob>(&mut self, process: u32) -> WrittenPart<N>
     where
         P: ProcessHandsOver<N>,
@@ -421,7 +425,7 @@ impl<J: PlannedJob, P: LogicalProcess> WorldState<J, P> {
     }
 }
 
-/// So many queues, all empty.
+// So many empty queues.
 fn empty_queues(alloc: Global, count: usize) -> Result<Vec<VecDeque<Packet>>, AllocError>
     ensures { IfOk result (λ queues. map (λ q. meant_packets q.items) queues.items
         ≡ replicate count []) }

@@ -1,32 +1,33 @@
-//! What may be done to a world, and what it answers.
+//! The steps of a world, and their replies.
 
-/// What may happen in a world. Processes and links are said by their numbers.
+/// A step of a world. Processes and links are given by their numbers.
 #[derive(Clone, Copy, PartialEq, Eq)]
 pub enum Step {
-    /// A turn of a process.
+    /// A process takes a turn.
     Turn(u32),
-    /// The packet that stands at a link's sender goes to the link's end.
+    /// The packet that a link's sender prepared is put at the end of the link's queue.
     Put(u32),
-    /// The front packet of a link goes to its receiver.
+    /// The first packet of a link's queue is taken to the receiver.
     Take(u32),
-    /// A process is stopped for good: it takes no more turns, and neither sends nor receives.
+    /// A process is stopped: from now on it takes no turns, and neither sends nor receives.
     Stop(u32),
 }
 
-/// What a step is answered: it is done, or the first of the others that holds is the answer, and nothing changes.
+/// The reply to a step. If it is not `Done`, nothing has changed. If several of the others hold,
+/// the first one in this order is the reply.
 #[derive(Clone, Copy, PartialEq, Eq)]
 pub enum Reply {
-    /// It is done.
+    /// The step is done.
     Done,
-    /// There is no such process or link.
+    /// There is no process or link with this number.
     Refused,
     /// The process that would act is stopped.
     Stopped,
-    /// No packet stands at the sender, or none is on its way.
+    /// The sender prepared no packet, or the queue is empty.
     Empty,
-    /// As many packets are on their way as the link holds.
+    /// The queue has as many packets as it may have.
     Full,
-    /// No memory.
+    /// There is no memory for the step.
     Memory,
 }
 
@@ -35,8 +36,8 @@ pub enum Reply {
 pub enum Ended {
     /// Every clock is at the end.
     Whole,
-    /// The rounds are used up.
+    /// The limit of rounds is reached, and some clock is not at the end.
     Stalled,
-    /// No memory.
+    /// Memory ran out.
     Memory,
 }

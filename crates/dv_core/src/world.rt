@@ -9,8 +9,8 @@ use dv_written::{OfJob, WrittenPart};
 use std::alloc::{AllocError, Global};
 use std::marker::Model;
 
-/// Logical processes of a job, the links between them with the packets on their way, and which processes are stopped. Only
-/// steps lead to it, from a new world.
+/// The world of a job: its logical processes, the links between them with the packets on their way,
+/// and which processes are stopped. Only steps change it.
 #[derive(Drop)]
 pub struct World<J: PlannedJob, P: LogicalProcess> {
     state: WorldState<J, P>,
@@ -36,12 +36,12 @@ impl<J: PlannedJob, P: LogicalProcess> World<J, P> {
     ghost use Rattle.dv_core.specs.Worlds.{IsRunWithProgress, with_replies};
     ghost use Rattle.dv_core.specs.declared.step.Ended.TheVariants as ended;
 
-    /// A new world: no packet is on its way, and nobody is stopped. The links are in the order of their numbers, and so many
-    /// packets may be on their way on each.
+    /// A new world: no packet is on its way, and no process is stopped. Links and processes are in
+    /// the order of their numbers. `capacity` is how many packets may be on their way on each link.
     ///
     /// # Errors
     ///
-    /// No memory.
+    /// No memory for the world.
     pub fn new(
         alloc: Global,
         job: J,
@@ -58,20 +58,21 @@ impl<J: PlannedJob, P: LogicalProcess> World<J, P> {
         Ok(World { state })
     }
 
-    /// One step. The answer says why it changed nothing, if it did not.
+    /// Takes one step. The reply says whether it was done, and if not, why.
     pub fn step(&mut self, work: &mut P::Work, step: Step) -> Reply
         ensures { IsAnswered J.means P.state step result self.old self.new }
     {
         self.state.step(work, step)
     }
 
-    /// Steps, one after the other, with their replies; each turn that is done makes progress. In the world that they leave
-    /// every packet is true, each process has committed its part of the model's trace before its clock, and its components
-    /// stand as they do in the model just before its clock.
+    /// Takes steps one after the other, and returns their replies. Each turn that is done makes
+    /// progress. Afterwards every packet is true, each process has committed its part of the
+    /// model's trace before its clock, and its components are as they are in the model just before
+    /// its clock.
     ///
     /// # Errors
     ///
-    /// No memory for the replies; no step is made then.
+    /// No memory for the replies. No step was taken.
     pub fn run(
         &mut self,
         alloc: Global,
@@ -89,7 +90,8 @@ impl<J: PlannedJob, P: LogicalProcess> World<J, P> {
         self.state.run(alloc, work, steps)
     }
 
-    /// Whether every clock is at the end. The parts of the processes together are then the model's whole trace.
+    /// Whether every clock is at the end. Then the parts of all processes are the model's whole
+    /// trace.
     pub fn whole(&self) -> bool
         ensures whole { IsTrue result
             ↔ IsWhole (J.means self.now.job) (shown J.means P.state self.now) }
@@ -99,9 +101,10 @@ impl<J: PlannedJob, P: LogicalProcess> World<J, P> {
         self.state.whole()
     }
 
-    /// Rounds, so many at most, until every clock is at the end. A round is a turn of each process, and then for each link
-    /// one put and one take. From a new world one round more than there are times before the end is enough. Where memory is
-    /// refused the last round is cut; what was done stands, and rounds can go on.
+    /// Makes rounds, at most so many, until every clock is at the end. A round is a turn of each
+    /// process, then a put and a take on each link. From a new world one round more than there are
+    /// times before the end is enough. If memory runs out, the rest of the round is left out; what
+    /// was done stays, and more rounds can be made.
     pub fn serial(&mut self, work: &mut P::Work, limit: u64) -> Ended
         ensures rounds { EndsAs (J.means self.old.job) limit result
             (shown J.means P.state self.old) (shown J.means P.state self.new) }
@@ -119,7 +122,8 @@ impl<J: PlannedJob, P: LogicalProcess> World<J, P> {
         self.state.serial(work, limit)
     }
 
-    /// The record of a process lets go of the bytes that were handed over. Nothing else changes that is seen.
+    /// Discards the bytes of a process's record, which were handed over. Contracts see no other
+    /// change.
     pub fn let_go(&mut self, process: u32)
         requires { process < (J.means self.old.job).processes }
         ensures job { self.new.job ≡ self.old.job }
@@ -132,7 +136,7 @@ impl<J: PlannedJob, P: LogicalProcess> World<J, P> {
         self.state.let_go(process);
     }
 
-    /// The process of a number.
+    /// The process with a number.
     pub fn process(&self, process: u32) -> &P
         requires { process < (J.means self.now.job).processes }
         ensures process { slice_get self.now.processes.items process ≡ Some result.now }
@@ -148,18 +152,18 @@ impl<J: PlannedJob, P: LogicalProcess> World<J, P> {
         self.state.processes.as_slice()
     }
 
-    /// The job that is run.
+    /// The job.
     pub fn job(&self) -> &J
         ensures { result.now ≡ self.now.job }
     {
         self.state.job()
     }
 
-    /// The record of each process, which was told what it committed, and the clock of each, by their numbers.
+    /// The record of each process, moved out, and the clock of each, by their numbers.
     ///
     /// # Errors
     ///
-    /// No memory.
+    /// No memory for the lists. The records are lost.
     pub fn finish(self, alloc: Global) -> Result<(Vec<P::Record>, Vec<Time>), AllocError>
         ensures told { IfOk result (λ r. map P.Record.told r.0.items
             ≡ map (λ x. (P.state x).part) self.processes.items) }
@@ -175,8 +179,8 @@ impl<J: PlannedJob, P: LogicalProcess> World<J, P> {
     ghost use Rattle.dv_bag.specs.Part.{joined};
     ghost use Rattle.dv_core.specs.Worlds.{kept_by};
 
-    /// Moves out what a process committed beyond what was moved out of it before, as the lines that its entries print. Nothing else
-    /// changes that is seen.
+    /// Moves out what a process committed and did not hand over yet, as lines. Contracts see no
+    /// other change.
     pub fn hand_over<N: OfJob>(&mut self, process: u32) -> WrittenPart<N>
     where
         P: ProcessHandsOver<N>,
