@@ -18,32 +18,33 @@ use std::sync::Wait;
 
 type Line<N> = RuledArrayQueue<Packet, EndView, Relay<N>>;
 
-/// A link of a job, which threads share by reference: so many packets may be on their way on it.
+/// A link of a job, which threads share by reference. It is a queue of a fixed capacity, in
+/// packets.
 #[derive(Drop)]
 pub struct Link<N: OfJob> {
     line: Line<N>,
 }
 
-/// The pass of the one who puts. It takes no memory.
+/// The right to put packets on a link. It takes no memory.
 #[derive(Drop)]
 pub struct SendPass {
     pass: Pass<Packet, EndView>,
 }
 
-/// The pass of the one who takes. It takes no memory.
+/// The right to take packets from a link. It takes no memory.
 #[derive(Drop)]
 pub struct TakePass {
     pass: Pass<Packet, EndView>,
 }
 
-/// The packet that a full link did not take.
+/// A packet for which a link had no room.
 #[derive(Drop)]
 pub struct Full<T> {
     /// The packet.
     pub value: T,
 }
 
-// Makes of the one pass of a new queue its two ends.
+// Splits the pass of a new queue into those of its two ends.
 fn ends<N: OfJob, L: OfLink>(
     line: &Line<N>,
     mut pass: Pass<Packet, EndView>,
@@ -60,12 +61,12 @@ fn ends<N: OfJob, L: OfLink>(
 }
 
 impl<N: OfJob> Link<N> {
-    /// The link of a number that the job has, with room for so many packets, and the passes of its two ends, which have put and
-    /// taken nothing.
+    /// An empty link with a number that the job has, with room for so many packets, and the passes
+    /// of its two ends.
     ///
     /// # Errors
     ///
-    /// No memory.
+    /// No memory for the queue.
     pub fn new(
         alloc: Global,
         link: u32,
@@ -87,12 +88,12 @@ impl<N: OfJob> Link<N> {
         ))
     }
 
-    /// Puts a packet at the end. It has to be the next true one: its window joins the last one that was put, and its events are
-    /// exactly those that cross within it.
+    /// Puts a packet at the end of the queue. It has to be the next true one: its window begins
+    /// where that of the last packet ended, and its events are exactly those that cross within it.
     ///
     /// # Errors
     ///
-    /// `Full`: there is no room for it. It is handed back.
+    /// `Full`, with the packet, if there is no room for it.
     pub fn put<R: Wait>(
         &self,
         rt: &R,
@@ -112,7 +113,8 @@ impl<N: OfJob> Link<N> {
         }
     }
 
-    /// Takes the packet at the front, if there is one. All that was taken is true, and its windows join from the start.
+    /// Takes the first packet of the queue, if there is one. All packets that were taken are true,
+    /// and their windows follow one another from 0.0 on.
     pub fn take<R: Wait>(&self, rt: &R, pass: &mut TakePass) -> Option<Packet>
         requires link { IsTakePassOf self.now pass.old }
         requires channel { IsLinkOf N.job (receiver pass.old).link }

@@ -1,4 +1,4 @@
-//! The rule of a link's queue, and what a step tells.
+//! The rule that a link's queue keeps, and what its users learn from it, for contracts alone.
 
 ghost use Rattle.std.specs.Prelude.{◌≡◌, ⊤, true, false, [], ◌∷◌, ◌++◌};
 ghost use Rattle.dv_link.specs.Views.{end_view};
@@ -10,22 +10,21 @@ use dv_written::OfJob;
 use std::collections::LinkedList;
 use std::marker::{Brand, PhantomData};
 
-/// What an end of a link knows: the link's number, whether it puts and takes, and what it has put and taken. No value of it is
-/// made.
+/// What an end of a link knows, for contracts alone: no value of it is made.
 pub struct EndView {
     /// The number of the link.
     pub link: u32,
-    /// Whether the end puts packets.
+    /// Whether the end may put packets.
     pub puts: bool,
-    /// Whether the end takes packets.
+    /// Whether the end may take packets.
     pub takes: bool,
-    /// The packets that it has put, in their order.
+    /// The packets that it put, in order.
     pub put: LinkedList<Packet>,
-    /// The packets that it has taken, in their order.
+    /// The packets that it took, in order.
     pub taken: LinkedList<Packet>,
 }
 
-/// The rule of the links of a job.
+/// The rule of the links of a job: every packet is true.
 pub struct Relay<N> {
     of: PhantomData<N>,
 }
@@ -40,7 +39,7 @@ impl<N: OfJob> Protocol<Packet, EndView> for Relay<N> {
     ghost first = { end_view 0 true true [] [] };
 }
 
-/// The number of a link, which a call picks.
+/// The number of a link, which the caller chooses.
 pub trait OfLink {
     ghost use Rattle.std.specs.Prelude.{ℕ};
 
@@ -51,7 +50,7 @@ impl OfLink for Brand {
     ghost link = { 0 };
 }
 
-/// The two ends of a link that has carried nothing.
+/// The two ends of a link on which nothing was put.
 pub struct Ends<L> {
     of: PhantomData<L>,
 }
