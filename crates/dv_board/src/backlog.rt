@@ -1,4 +1,4 @@
-//! What was taken off a board and not written yet.
+//! The backlog: what was taken off a board and not written yet.
 
 ghost use Rattle.std.specs.Prelude.{◌≡◌, ◌<◌, ◌≤◌, IfErr, IfNone, IfOk, IfSome, OnErr, OnOk, OnSome, length, map, replicate, set};
 ghost use Rattle.std.specs.List.{All};
@@ -22,8 +22,8 @@ use dv_written::OfJob;
 use std::alloc::{AllocError, Global};
 use std::marker::Model;
 
-/// What the processes of a job have committed from a mark on, each before its clock. It lends the pieces of the trace up to the
-/// least clock. Whoever has it needs no lock.
+/// What the processes of a job committed from a mark on, each up to its clock. It lends the pieces
+/// of the trace up to the least clock. It is owned by the writer's thread and needs no lock.
 #[derive(Drop)]
 pub struct Backlog<N: OfJob> {
     mark: Time,
@@ -44,13 +44,13 @@ impl<N: OfJob> Model for Backlog<N> {
 /// Why a piece was not joined.
 #[derive(Drop)]
 pub enum Unjoined<N: OfJob> {
-    /// Its process is kept up to a time that is before the piece begins. The piece is handed back.
+    /// The piece begins after the time up to which its process is kept. The piece is returned.
     Gap { kept: Time, piece: Piece<N> },
-    /// There is no memory for what the piece adds. The piece is gone.
+    /// There is no memory for what the piece adds. The piece is lost.
     Memory,
 }
 
-// So many processes at 0.0, which have committed nothing.
+// Entries for so many processes at 0.0, which committed nothing.
 fn none_held<N: OfJob>(alloc: Global, processes: u32) -> Result<Vec<Held<N>>, AllocError>
     ensures { IfOk result (λ held. held.items
         ≡ replicate processes nothing_held) }
@@ -62,7 +62,7 @@ fn none_held<N: OfJob>(alloc: Global, processes: u32) -> Result<Vec<Held<N>>, Al
     Ok(held)
 }
 
-// No clock is before it.
+// The least clock.
 fn least_clock<N: OfJob>(held: &[Held<N>]) -> Time
     requires { 0 < length held.now }
     ensures { IsLeast result (map (λ h. h.clock) held.now) }
@@ -77,7 +77,7 @@ fn least_clock<N: OfJob>(held: &[Held<N>]) -> Time
     least
 }
 
-// The clocks of what is kept.
+// The clock of each process.
 fn clocks_of<N: OfJob>(alloc: Global, held: &[Held<N>]) -> Result<Vec<Time>, AllocError>
     ensures { IfOk result (λ clocks. clocks.items ≡ map (λ h. h.clock) held.now) }
 {
@@ -88,7 +88,7 @@ fn clocks_of<N: OfJob>(alloc: Global, held: &[Held<N>]) -> Result<Vec<Time>, All
     Ok(clocks)
 }
 
-// What each process committed from one time on and before another, where it lies.
+// References to what each process committed from one time on and before another.
 fn pieces_between<'h, N: OfJob>(
     alloc: Global,
     held: &'h [Held<N>],
@@ -106,7 +106,7 @@ fn pieces_between<'h, N: OfJob>(
     Ok(pieces)
 }
 
-// Lets go of what ends no later than a time.
+// Discards what ends at a time or before.
 fn let_go_all<N: OfJob>(held: &mut Vec<Held<N>>, time: Time)
     ensures { held.new.items ≡ map (rest_of time) held.old.items }
 {
@@ -116,7 +116,7 @@ fn let_go_all<N: OfJob>(held: &mut Vec<Held<N>>, time: Time)
 }
 
 impl<N: OfJob> Backlog<N> {
-    /// At 0.0, with nothing in it.
+    /// An empty backlog, with its mark and all clocks at 0.0.
     ///
     /// # Errors
     ///
@@ -134,7 +134,7 @@ impl<N: OfJob> Backlog<N> {
         })
     }
 
-    /// Up to when a process is kept.
+    /// The clock up to which a process is kept.
     pub fn clock(&self, process: u32) -> Time
         requires { process < N.job.processes }
         ensures kept { result ≡ clock_of self.now process }
@@ -143,7 +143,7 @@ impl<N: OfJob> Backlog<N> {
         self.held[process as usize].clock()
     }
 
-    /// Up to when each process is kept, by their numbers.
+    /// The clock up to which each process is kept, by their numbers.
     ///
     /// # Errors
     ///
@@ -159,8 +159,8 @@ impl<N: OfJob> Backlog<N> {
         Ok(clocks)
     }
 
-    /// How many bytes the lines have that are kept of a process; 0 for a number that is none of the job's. Of a process with the least
-    /// clock there are none after `let_go`.
+    /// How many bytes the lines have that are kept of a process; 0 if the job has no process with
+    /// this number. Of a process with the least clock there are none after `let_go`.
     pub fn byte_count(&self, process: u32) -> usize {
         match self.held.get(process as usize) {
             Some(held) => held.byte_count(),
@@ -168,12 +168,14 @@ impl<N: OfJob> Backlog<N> {
         }
     }
 
-    /// Joins a piece. What is kept already is not joined again, and the clock that is kept becomes the later of the two.
+    /// Joins a piece. What it repeats is left out; the clock of the process becomes the later of
+    /// its own and the piece's.
     ///
     /// # Errors
     ///
-    /// `Gap` tells the clock that is kept, where that is before the piece begins, and hands the piece back. `Memory` comes only
-    /// where the piece reaches past that clock; the piece is gone. The backlog is as before.
+    /// `Gap` if the piece begins after the clock of its process; it has that clock and the piece.
+    /// `Memory` only if the piece ends after that clock; the piece is lost. The backlog is
+    /// unchanged.
     pub fn extend(&mut self, piece: Piece<N>) -> Result<(), Unjoined<N>>
         requires { IsPiece N.job piece }
         ensures mark { self.new.mark ≡ self.old.mark }
@@ -194,12 +196,12 @@ impl<N: OfJob> Backlog<N> {
         Ok(())
     }
 
-    /// Joins pieces in turn, until one is refused.
+    /// Joins pieces one after the other, until one is refused.
     ///
     /// # Errors
     ///
-    /// The first piece that is refused, as `extend` tells it. Those before it were joined, and those after it are gone. What is
-    /// before the clock of its process stays, but nothing past that clock can be written any more.
+    /// The error of `extend` for the first piece that is refused. Those before it were joined,
+    /// those after it are lost. From now on nothing past the clock of its process can be written.
     pub fn extend_all(&mut self, pieces: Vec<Piece<N>>) -> Result<(), Unjoined<N>>
         requires { All (IsPiece N.job) pieces.items }
         ensures mark { self.new.mark ≡ self.old.mark }
@@ -212,12 +214,12 @@ impl<N: OfJob> Backlog<N> {
         Ok(())
     }
 
-    /// What each process has committed from the mark on and before the least clock, where it lies, and that clock. Put
-    /// together, that is the trace in between. `None` if the mark is not at `from`.
+    /// References to what each process committed from the mark on and before the least clock, and
+    /// that clock. Merged, this is the trace in between. `None` if the mark is not `from`.
     ///
     /// # Errors
     ///
-    /// No memory for references to it, or for copies of what left.
+    /// No memory for the references, or for copies of output lines.
     pub fn known(
         &self,
         alloc: Global,
@@ -241,7 +243,7 @@ impl<N: OfJob> Backlog<N> {
         Ok(Some((pieces, least)))
     }
 
-    /// Lets go of what is before the least clock, which becomes the mark.
+    /// Discards what is before the least clock, which becomes the mark: it is written.
     pub fn let_go(&mut self, least: Time)
         requires { IsLeast least self.old.clocks }
         ensures mark { self.new.mark ≡ least }

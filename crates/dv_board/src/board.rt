@@ -1,4 +1,4 @@
-//! The board under its lock.
+//! The board: posts behind a lock.
 
 ghost use Rattle.std.specs.List.{All};
 ghost use Rattle.dv_board.specs.Posts.{IsPiece};
@@ -8,16 +8,16 @@ use dv_written::OfJob;
 use std::alloc::{AllocError, Global};
 use std::sync::{Mutex, Wait};
 
-/// A board that threads share by reference; a function that is generic over the job needs `N: Send` for that. No clause
-/// can say what is on the board at a call, but its type says that it is of the job. Under its lock nothing is copied
-/// and nothing is put together.
+/// A board that threads share by reference; a function that is generic over the job needs `N: Send`
+/// for that. What is on it at a call depends on the other threads, but all of it is of the job.
+/// While the lock is held, nothing is copied or merged.
 #[derive(Drop)]
 pub struct Board<N: OfJob> {
     posts: Mutex<Posts<N>>,
 }
 
 impl<N: OfJob> Board<N> {
-    /// A board on which nothing was posted.
+    /// An empty board.
     pub fn new(alloc: Global) -> Self {
         Board {
             posts: Mutex::new(Posts::new(alloc)),
@@ -28,7 +28,7 @@ impl<N: OfJob> Board<N> {
     ///
     /// # Errors
     ///
-    /// No memory. Nothing is posted, and the piece is gone.
+    /// No memory. Nothing is posted, and the piece is lost.
     pub fn post<R: Wait>(&self, rt: &R, piece: Piece<N>) -> Result<(), AllocError>
         requires { IsPiece N.job piece }
     {

@@ -17,26 +17,30 @@ use std::collections::VecDeque;
 use std::marker::Model;
 use std::mem;
 
-// Pieces are joined to stretches of so many entries at most, so that of two neighbours one is long. What is joined is copied, and takes
-// some 5 kilobytes.
+// Short pieces are joined to stretches of at most so many entries. To join copies an entry once; a
+// full stretch takes some 5 kilobytes.
 const ENTRIES_OF_A_STRETCH: usize = 64;
 
-/// What a process committed from the end of the stretch before it on, and before its own end.
+/// What a process committed from the end of the stretch before on, and before its own end.
 #[derive(Drop)]
 pub struct Stretch<N: OfJob> {
     /// Its end.
     pub upto: Time,
-    /// The entries and what left.
+    /// The entries and the output lines.
     pub part: WrittenPart<N>,
 }
 
-/// What one process committed from one time on and before its clock, in stretches that follow one another. A long piece is a stretch as
-/// it comes, and a stretch is let go as a whole. So what waits takes the memory of its pieces, and long ones are not copied.
+/// What one process committed from some time on and before its clock, in stretches that follow one
+/// another. A long piece is a stretch by itself, and a stretch is discarded as a whole. So what
+/// waits takes the memory of its pieces, and long ones are not copied.
 #[derive(Drop)]
 pub struct Held<N: OfJob> {
+    // Where the first stretch begins.
     from: Time,
     clock: Time,
+    // The stretches to which nothing is joined any more.
     ended: VecDeque<Stretch<N>>,
+    // The last stretch, up to the clock.
     last: WrittenPart<N>,
 }
 
@@ -49,7 +53,7 @@ impl<N: OfJob> Model for Held<N> {
         { from = h.from; clock = h.clock; ended = h.ended.items; last = h.last } };
 }
 
-// Whether a part is joined to the last stretch.
+// Whether a part is short enough to be joined to the last stretch.
 fn is_joined<N: OfJob>(last: &WrittenPart<N>, more: &WrittenPart<N>) -> bool
     ensures { result ≡ is_joined last.now more.now }
 {
@@ -57,8 +61,9 @@ fn is_joined<N: OfJob>(last: &WrittenPart<N>, more: &WrittenPart<N>) -> bool
     entries == 0 || more.entry_count() <= ENTRIES_OF_A_STRETCH.saturating_sub(entries)
 }
 
-// What stretches have from one time on and before another, where it lies. Those that begin no sooner than the latter are not looked at:
-// there may be very many, of a process that is far ahead.
+// References to what stretches have from one time on and before another. The search ends at the
+// first stretch that begins at the latter or later: a process that is far ahead has very many of
+// these.
 fn ended_between<'h, N: OfJob>(
     alloc: Global,
     ended: &'h VecDeque<Stretch<N>>,
@@ -81,7 +86,8 @@ fn ended_between<'h, N: OfJob>(
     Ok(part)
 }
 
-// Lets go of the stretches in front that end no later than a time, and tells where the others begin.
+// Discards the first stretches, as far as they end at a time or before, and returns where the
+// others begin.
 fn let_go_ended<N: OfJob>(ended: &mut VecDeque<Stretch<N>>, from: Time, time: Time) -> Time
     ensures start { result ≡ start_past time from ended.old.items }
     ensures ended { ended.new.items ≡ ended_past time ended.old.items }
@@ -97,7 +103,7 @@ fn let_go_ended<N: OfJob>(ended: &mut VecDeque<Stretch<N>>, from: Time, time: Ti
     start
 }
 
-// What a piece has from a time on. Mostly it begins there, and is not looked at.
+// What a piece has from a time on. Mostly it begins there, and is taken as it is.
 fn since<N: OfJob>(alloc: Global, piece: Piece<N>, time: Time) -> Result<WrittenPart<N>, AllocError>
     requires { IsPiece N.job piece }
     ensures { IfOk result (λ part. part ≡ since time piece.part) }
@@ -109,7 +115,7 @@ fn since<N: OfJob>(alloc: Global, piece: Piece<N>, time: Time) -> Result<Written
 }
 
 impl<N: OfJob> Held<N> {
-    /// Of a process at 0.0.
+    /// Nothing, of a process at 0.0.
     pub fn new(alloc: Global) -> Self
         ensures { result ≡ nothing_held }
     {
@@ -121,7 +127,7 @@ impl<N: OfJob> Held<N> {
         }
     }
 
-    /// The clock of the process: all before it is kept, from some time on.
+    /// The clock up to which the process is kept.
     pub fn clock(&self) -> Time
         ensures { result ≡ self.now.clock }
     {
@@ -137,11 +143,11 @@ impl<N: OfJob> Held<N> {
         bytes
     }
 
-    /// What is kept from one time on and before another, where it lies.
+    /// References to what is kept from one time on and before another.
     ///
     /// # Errors
     ///
-    /// No memory for references to it, or for copies of what left.
+    /// No memory for the references, or for copies of output lines.
     pub fn between(
         &self,
         alloc: Global,
@@ -173,11 +179,12 @@ impl<N: OfJob> Held<N> {
         Ok(())
     }
 
-    /// Joins what a piece has from the clock on, and the clock becomes the later of the two.
+    /// Joins what a piece has from the clock on. The clock becomes the later of its own and the
+    /// piece's.
     ///
     /// # Errors
     ///
-    /// No memory for what is joined. Nothing has changed.
+    /// No memory for what is joined. Nothing has changed, and the piece is lost.
     pub fn join(&mut self, piece: Piece<N>) -> Result<(), AllocError>
         requires { IsPiece N.job piece }
         ensures ok { OnOk result (self.new ≡ with_piece self.old piece.part piece.clock) }
@@ -198,7 +205,7 @@ impl<N: OfJob> Held<N> {
         Ok(())
     }
 
-    /// Lets go of the stretches that end no later than a time.
+    /// Discards the stretches that end at a time or before.
     pub fn let_go(&mut self, time: Time)
         ensures { self.new ≡ rest_of time self.old }
     {

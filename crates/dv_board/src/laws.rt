@@ -10,8 +10,9 @@ ghost use Rattle.dv_conservative.specs.Process.{first_time};
 ghost use Rattle.dv_conservative.specs.World.{Job};
 ghost use Rattle.dv_board.specs.Marks.{RiseSince, last_mark, written_by};
 
-/// The pieces of the trace between neighbouring marks that rise from 0.0, joined in turn, are the trace before the last mark. So
-/// what a backlog lends from mark to mark, `known` before each `let_go`, is in turn a beginning of the trace.
+/// For marks that rise from 0.0, the pieces of the trace between one mark and the next, joined, are
+/// the trace before the last mark. So what a backlog lends by `known` before each `let_go`, one
+/// after the other, is a beginning of the trace.
 pub fn pieces_in_turn_begin_the_trace()
     ensures { (job : Job) (marks : List Time) → RiseSince job first_time marks
         → written_by job nothing first_time marks

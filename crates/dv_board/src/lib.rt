@@ -1,23 +1,35 @@
 //! What the processes of a job have committed, on its way from workers to the writer of the trace.
 //!
-//! On a `Board`, under its lock, workers post a `Piece` of what a process committed since its last post, and the loop
-//! beside them takes all `Posts` at once. A `Backlog` keeps what was taken until the trace is known that far: it
-//! lends the pieces up to the least clock, which put together are exactly the trace from the mark on, and then lets
-//! go of them. A piece that leaves a gap is refused and handed back, and an error changes nothing.
+//! A `Board` is a list of pieces behind a lock. A worker posts a `Piece`: what a process committed
+//! from its last post up to its clock. The loop that writes the trace takes all pieces at once, in
+//! the order in which they were posted. Under the lock pieces change owners; nothing is copied or
+//! merged, so no worker waits for the writer. A board wakes nobody: who posts rings a bell of
+//! `dv_work`.
 //!
-//! `dv_work` posts here; `dv_stream` takes, merges and writes. Under the lock nothing is copied or merged. Nobody
-//! waits at a board but for its lock: who posts rings a bell of `dv_work`.
+//! What is on a board depends on the threads, so no contract says when a piece arrives. The type of
+//! a board says that each piece is true: it has exactly the part of the job's trace that its
+//! process has between its two times. From that the reader may conclude what it can write. It joins
+//! the pieces to a `Backlog`, which has a clock for each process, the end of its last piece, and a
+//! mark, up to which all is written. What is kept from the mark up to the least clock is, merged,
+//! exactly the trace in between (`known`). After it is written, `let_go` discards it and raises the
+//! mark.
+//!
+//! A piece has to begin at or before the clock of its process; one that leaves a gap is refused and
+//! returned. A piece that is lost for want of memory leaves a gap for the next one of its process,
+//! so the trace may end early, but never lacks a line in between. `Held` keeps the pieces of a
+//! process in stretches: long pieces as they are, short ones joined to at most 64 entries. So an
+//! entry is moved at most once while it waits.
 #![tactic(auto)]
 
-/// What was taken off a board and not written yet.
+/// The backlog: what was taken off a board and not written yet.
 pub mod backlog;
-/// The board under its lock.
+/// The board: posts behind a lock.
 pub mod board;
 /// What a backlog keeps of one process.
 mod held;
 /// Laws of what is written from mark to mark.
 pub mod laws;
-/// What workers posted and nobody has taken yet.
+/// Pieces, and the list of those that were posted and not taken yet.
 pub mod posts;
 
 pub use backlog::{Backlog, Unjoined};

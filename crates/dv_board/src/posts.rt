@@ -1,4 +1,5 @@
-//! What workers posted and nobody has taken yet: the value under a board's lock.
+//! Pieces, and the list of those that were posted and not taken yet: the value behind a board's
+//! lock.
 
 ghost use Rattle.std.specs.Prelude.{◌≡◌, ◌++◌, [], ◌∷◌, OnErr, OnOk};
 ghost use Rattle.std.specs.List.{All};
@@ -10,16 +11,16 @@ use std::alloc::{AllocError, Global};
 use std::marker::Model;
 use std::mem;
 
-/// What one process committed from one time on and before its clock.
+/// What one process committed from some time on and before its clock.
 #[derive(Drop)]
 pub struct Piece<N: OfJob> {
     /// The number of the process.
     pub process: u32,
-    /// Nothing before this time is in the part.
+    /// Where the piece begins: the part has nothing before this time.
     pub from: Time,
-    /// The clock of the process: all before it is in the part, from `from` on.
+    /// The clock of the process: the part has all from `from` on and before this time.
     pub clock: Time,
-    /// The entries and what left, in between.
+    /// The entries and the output lines in between.
     pub part: WrittenPart<N>,
 }
 
@@ -41,7 +42,7 @@ impl<N: OfJob> Model for Posts<N> {
 }
 
 impl<N: OfJob> Posts<N> {
-    /// Nothing was posted.
+    /// No pieces.
     pub fn new(alloc: Global) -> Self
         ensures { result.pieces ≡ [] }
     {
@@ -54,7 +55,7 @@ impl<N: OfJob> Posts<N> {
     ///
     /// # Errors
     ///
-    /// No memory. Nothing has changed, and the piece is gone.
+    /// No memory. Nothing has changed, and the piece is lost.
     pub fn post(&mut self, piece: Piece<N>) -> Result<(), AllocError>
         requires { IsPiece N.job piece }
         ensures ok { OnOk result (self.new.pieces ≡ self.old.pieces ++ piece ∷ []) }
@@ -63,7 +64,7 @@ impl<N: OfJob> Posts<N> {
         Ok(self.pieces.push(piece)?)
     }
 
-    /// Gives out all pieces.
+    /// Takes out all pieces.
     pub fn take(&mut self, alloc: Global) -> Vec<Piece<N>>
         ensures pieces { result.items ≡ self.old.pieces }
         ensures none { self.new.pieces ≡ [] }
