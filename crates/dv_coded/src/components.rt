@@ -36,24 +36,23 @@ use dv_tree::Tree;
 use law_accepted::laws::start_states_fit;
 use std::alloc::{AllocError, Global};
 
-/// The components of a text by number: the programs of each model that has one, once; the components with the indices of
-/// their models there; and the response of each component.
+/// The components of a text, with the programs of their models.
 #[derive(Drop)]
 pub struct Components {
     /// The programs of each model that has a component, once.
     pub models: Vec<Programs>,
-    /// The components, in the order of their numbers.
+    /// The components, in the order of their numbers, with indices into `models`.
     pub members: Vec<Member>,
     /// The response of each component, in the order of their numbers.
     pub responses: Vec<Response>,
 }
 
-/// The components of a text, as a run under a microstep limit has them. The programs and the response of a model are
-/// made once, however many components it has.
+/// The components of a text as they start under a microstep limit. The programs and the response of
+/// a model are made once, however many components it has.
 ///
 /// # Errors
 ///
-/// No memory for them.
+/// No memory for the components or programs.
 pub fn components_of(bench: &mut Bench, tree: &Tree, limit: u32) -> Result<Components, AllocError>
     requires compilable { All (λ (m : ModelTree). IsCompilableModel m)
         (file_of tree.now.file).models }
@@ -86,7 +85,7 @@ pub fn components_of(bench: &mut Bench, tree: &Tree, limit: u32) -> Result<Compo
     })
 }
 
-// The components in the order of their numbers, with the models that they have.
+// The components in the order of their numbers. Their models are added to `models`.
 fn members(
     bench: &mut Bench,
     tree: &Tree,
@@ -113,7 +112,7 @@ fn members(
     Ok(members)
 }
 
-// A component, with the index of its model among those that have components, and with the model's programs.
+// One component. `model` is the index of its model, `programs` are the model's.
 fn member(
     bench: &mut Bench,
     tree: &Tree,
@@ -166,6 +165,7 @@ fn start(
     ensures fits { IfOk result (λ r.
         Fits (tables_of (scope_of (atomic_of model.now))).slots r.state.variables) }
 {
+    // For the prover alone.
     start_states_fit();
     states_fit_the_tables();
     let state = start_state(bench.alloc, model, scope)?;
@@ -173,7 +173,7 @@ fn start(
     Running::start(&lent, bench, limit, state)
 }
 
-// The response of each component, from those of the models.
+// The response of each component, by those of the models.
 fn responses_of(
     alloc: Global,
     responses: &[Response],

@@ -1,4 +1,4 @@
-//! Programs where they lie, for those who only run them.
+//! References to the programs of models, as code for the kernel.
 
 ghost use Rattle.std.specs.Option.{option_copied};
 ghost use Rattle.std.specs.Prelude.{◌≡◌, IfOk, IfSome, map, slice_get};
@@ -11,18 +11,18 @@ use dv_gen::PhaseCode;
 use dv_react::Atomic;
 use std::alloc::{AllocError, Global};
 
-/// The programs of an atomic model, where they lie. A copy is the same programs.
+/// A reference to the programs of an atomic model, which implements `Atomic`.
 #[derive(Clone, Copy)]
 pub struct Lent<'m> {
     /// The programs.
     pub programs: &'m Programs,
-    // Where the programs lie by phase, so that a turn finds them at once.
+    // The programs by phase, so that a reaction finds them at once.
     phases: &'m [PhaseCode],
     ghost same: { phases.now ≡ programs.now.code.phases.items },
 }
 
 impl<'m> Lent<'m> {
-    /// These programs, where they lie.
+    /// Refers to these programs.
     #[inline]
     pub fn of(programs: &'m Programs) -> Self
         ensures { result.programs.now ≡ programs.now }
@@ -45,7 +45,7 @@ impl<'m> Lent<'m> {
     }
 }
 
-/// Programs, each where it lies.
+/// A reference to each of the programs.
 ///
 /// # Errors
 ///

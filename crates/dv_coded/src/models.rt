@@ -16,23 +16,24 @@ use dv_syntax::{Atomic, Model};
 use dv_tree::Tree;
 use std::alloc::{AllocError, Global};
 
-/// The programs and the response of each atomic model that was asked for, once, in the order of the first asking. By
-/// the index of a model in the text stands its index here.
+/// The programs and the response of each atomic model that was asked for, in the order in which
+/// they were first asked for.
 #[derive(Drop)]
 pub struct Models {
-    /// The programs of each model, in the order of the first asking.
+    /// The programs of each model.
     pub programs: Vec<Programs>,
     /// The response of each model, in the same order.
     pub responses: Vec<Response>,
+    // The index here of each model of the text, if it was asked for.
     indices: Vec<Option<u32>>,
 }
 
 impl Models {
-    /// None yet, of a text.
+    /// No models yet, of a text.
     ///
     /// # Errors
     ///
-    /// No memory for their indices.
+    /// No memory for the list of indices.
     pub fn new(alloc: Global, tree: &Tree) -> Result<Self, AllocError>
         ensures known { IfOk result (λ all. AreModelsOf (file_of tree.now.file).models all) }
         ensures none { IfOk result (λ all. all.programs.items ≡ []) }
@@ -44,11 +45,12 @@ impl Models {
         })
     }
 
-    /// The index of the model of a component, whose programs and response are made where it has none yet.
+    /// The index of a component's model. Its programs and response are made if it was not asked for
+    /// before.
     ///
     /// # Errors
     ///
-    /// No memory for them.
+    /// No memory for the programs.
     pub fn of_component(
         &mut self,
         alloc: Global,
@@ -77,7 +79,7 @@ impl Models {
         Ok(added)
     }
 
-    // The programs and the response of a model more.
+    // Adds the programs and the response of a model, and returns its index.
     fn add(&mut self, alloc: Global, model: &Atomic, scope: &Scope) -> Result<u32, AllocError>
         requires scope { scope.now ≡ scope_of (atomic_of model.now) }
         requires compilable { IsCompilable (atomic_of model.now) }
@@ -93,7 +95,7 @@ impl Models {
     }
 }
 
-// For each model of a text that it has no index yet.
+// No index for each model of a text.
 fn no_indices(alloc: Global, models: &[Model]) -> Result<Vec<Option<u32>>, AllocError>
     ensures { IfOk result (λ indices. indices.items ≡ map (λ _. None) models.now) }
 {

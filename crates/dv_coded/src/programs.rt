@@ -13,7 +13,7 @@ use dv_gen::{ModelCode, generate};
 use dv_syntax::Atomic;
 use std::alloc::{AllocError, Global};
 
-/// The programs of an atomic model, over its tables.
+/// The programs of an atomic model, all over its tables.
 #[derive(Drop)]
 pub struct Programs {
     /// The programs and the tables that they share.
@@ -22,7 +22,7 @@ pub struct Programs {
 }
 
 impl Programs {
-    /// The programs of an atomic model, whose names are in this scope.
+    /// Makes the programs of an atomic model with this scope.
     ///
     /// # Errors
     ///
@@ -35,6 +35,7 @@ impl Programs {
         ensures phases { IfOk result
             (λ p. p.code.phases.items ≡ phase_codes (atomic_of model.now)) }
     {
+        // For the prover alone.
         programs_stand_over_their_tables();
         let code = generate(alloc, model, scope)?;
         Ok(Programs { code })
