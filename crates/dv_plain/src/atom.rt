@@ -1,4 +1,4 @@
-//! The behaviour of an atomic model: what its rules give.
+//! The behaviour of an atomic model, by the trees of its rules.
 
 ghost use Rattle.std.specs.Prelude.{◌≡◌, ◌<◌, ◌^◌, length, map, option_map, slice_get, IfOk, IfSome, Some};
 ghost use Rattle.std.specs.Option.{option_copied};
@@ -17,12 +17,12 @@ use dv_syntax::{Atomic as AtomicModel, RuleSort, Stmt};
 use dv_tree::Tree;
 use std::alloc::Global;
 
-/// An atomic model of a text, with what it declares.
+/// An atomic model of a text, with its scope.
 #[derive(Clone, Copy)]
 pub struct Atom<'m> {
     /// The tree of the model.
     pub model: &'m AtomicModel,
-    /// What its names stand for.
+    /// What its names mean.
     pub scope: &'m Scope,
     ghost of_model: { scope.now ≡ scope_of (atomic_of model.now) },
 }
@@ -40,7 +40,7 @@ impl<'m> Atom<'m> {
         }
     }
 
-    // The statements of the confluent rule for the phase of a state, if there is one.
+    // The statements of the confluent rule for the phase of a state, if the phase has one.
     fn confluent_rule(&self, state: &State) -> Option<&'m [Stmt]>
         ensures { option_map statements_of (option_copied result) ≡ rule_of sort.Confluent
             (phase_name (scope_of (atomic_of self.now.model.now)) state.now.phase)
@@ -49,7 +49,7 @@ impl<'m> Atom<'m> {
         rule_of(self.model, RuleSort::Confluent, self.phase_name(state))
     }
 
-    // Changes a state as statements do. Tells whether a `goto` ran.
+    // Changes a state as statements do. Returns whether a `goto` ran.
     fn change_by(
         &self,
         alloc: Global,
@@ -65,7 +65,8 @@ impl<'m> Atom<'m> {
         Ok(go_to(state, effect.goto))
     }
 
-    // The hold of a state, in ticks, or forever. One below 0 is the fault `Negative`.
+    // The hold of a state's phase, in ticks; `None` is forever. One below 0 is the fault
+    // `Negative`.
     fn hold_of(&self, state: &State) -> Result<Option<u64>, Fault>
         ensures value { result ≡ (behaviour_of (atomic_of self.now.model.now)).hold state.now }
         ensures bound { IfOk result (λ ticks. IfSome ticks (λ n. n < 2 ^ 63)) }
@@ -130,7 +131,7 @@ impl Atomic for Atom<'_> {
     }
 }
 
-// Puts a state in the phase of the last `goto`, if one ran. Tells whether one did.
+// Puts a state in the phase of the last `goto`, if one ran. Returns whether one did.
 fn go_to(state: &mut State, goto: Option<u32>) -> bool
     ensures { change_to state.new result ≡ state_by_goto state.old goto }
 {

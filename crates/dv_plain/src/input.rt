@@ -1,4 +1,4 @@
-//! What comes in from outside, and when.
+//! Inputs from outside, and their times.
 
 ghost use Rattle.std.specs.Prelude.{◌≡◌, ℕ, ◌≤◌, IfOk};
 ghost use Rattle.dv_time.specs.Time.{IsOfRun, next_rank, succ};
@@ -12,7 +12,7 @@ use dv_react::Instant;
 use dv_time::Next;
 use std::alloc::{AllocError, Global};
 
-/// When the input at an index comes in.
+/// The time of the input at an index; never, if there are no more inputs.
 pub fn next_input(inputs: &Inputs, index: usize) -> Next
     ensures rank { (limit : ℕ)
         → next_rank limit result ≡ rank_if limit (time_at inputs.now index) }
@@ -25,8 +25,8 @@ pub fn next_input(inputs: &Inputs, index: usize) -> Next
     }
 }
 
-/// What comes in at an instant, a bag for each of so many ports, and the index of the first input to which the run comes
-/// past it. The index that is given is that of the first to which it comes then or later.
+/// The inputs of an instant, a bag for each of so many ports, and the index of the first input
+/// after it. `index` is that of the first input at the instant or later.
 ///
 /// # Errors
 ///

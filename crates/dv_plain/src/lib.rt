@@ -1,16 +1,16 @@
 //! The resultant of a checked text, and the plain run that computes it.
 //!
-//! The definitions make a behaviour of each atomic model's tree and a network of the file; the trace of a text is the
-//! run of that network. `resultant_run` computes the whole trace, as a `Trace` in memory: at every instant it looks
-//! at every component, reads rules off trees, and routes from level to level. Its result is the trace of the text,
-//! which is proved.
+//! The definitions make a behaviour of the tree of each atomic model, and a network of the file.
+//! The trace of a text is the run of that network. `resultant_run` computes the whole trace in
+//! memory: it visits every component at every instant, evaluates rules on trees, and routes values
+//! from level to level. It is proved that its result is the trace of the text.
 //!
-//! It is the slow side, beside which tests hold the run in processes; `dv_job` offers it as `run_plain`. The
-//! definitions are the ones that the claims of `law_compiled`, `law_sound`, `dv_run` and `dv_job` rest on. The program
-//! runs no model with this code.
+//! This is the slow and simple way to run a model. Tests compare the run in processes with it, and
+//! `dv_job` offers it as `run_plain`; the program runs no model with it. The claims of
+//! `law_compiled`, `law_sound`, `dv_run` and `dv_job` use its definitions.
 #![tactic(auto)]
 
-/// The door: the trace of a text's resultant.
+/// The plain run.
 pub mod run;
 
 /// Laws of the networks of texts.

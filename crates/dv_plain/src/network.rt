@@ -20,10 +20,10 @@ use dv_tree::laws::each_component_receives;
 use std::alloc::{AllocError, Global};
 use std::mem;
 
-/// What the output functions give at an instant, component by component: what is sent, and the faults.
+/// What the output functions of all components give at an instant, by component.
 #[derive(Drop)]
 pub struct Outputs {
-    /// What each component sends; nothing where it does not emit, or has a fault.
+    /// What each component sends: nothing if it is not imminent or its output function has a fault.
     pub sent: Vec<Sent>,
     /// The fault of each component's output function, if it has one.
     pub faults: Vec<Option<Fault>>,
@@ -49,7 +49,7 @@ impl Outputs {
         Ok(())
     }
 
-    // Takes out what a component sent. Nothing is left in its place.
+    // Takes out what a component sent, and leaves nothing in its place.
     fn take(&mut self, alloc: Global, k: usize) -> Sent
         requires { k < vec_len self.old.sent }
         ensures result { result ≡ slice_index_or self.old.sent.items k [] }
@@ -60,11 +60,7 @@ impl Outputs {
     }
 }
 
-/// What the output functions of all components give at an instant.
-///
-/// # Errors
-///
-/// No memory for what is sent.
+// What the output functions of all components give at an instant.
 fn emit_all(
     alloc: Global,
     tree: &Tree,
@@ -90,7 +86,8 @@ fn emit_all(
     Ok(emitted)
 }
 
-// What happens to a component at an instant, from what it receives and the fault of its output function, if it has one.
+// Lets a component react at an instant to what it receives, and returns what happens to it. `fault`
+// is that of its output function, if it had one.
 fn react(
     alloc: Global,
     atom: &Atom,
@@ -126,7 +123,7 @@ fn react(
     what_of(component, happened)
 }
 
-// A component without variables, as the index of what another one was.
+// A component without variables, in whose place another one is copied before it reacts.
 fn empty_component(alloc: Global) -> Running {
     Running {
         state: State {
@@ -138,7 +135,7 @@ fn empty_component(alloc: Global) -> Running {
     }
 }
 
-// What happened to a component, which stands as it is after it. The state is copied.
+// What happened to a component, with a copy of its state after that.
 fn what_of(component: &Running, happened: Option<Happened>) -> Result<Option<What>, AllocError>
     ensures { IfOk result (λ what. what ≡ happened_in (outcome_of component.now happened)) }
 {
@@ -152,7 +149,7 @@ fn what_of(component: &Running, happened: Option<Happened>) -> Result<Option<Wha
     }
 }
 
-// The entry of a component, where something happened to it.
+// Adds the entry of a component, if something happened to it.
 fn push_event(
     instant: &Instant,
     component: u32,
@@ -176,7 +173,7 @@ fn push_event(
     Ok(())
 }
 
-// What happens to each component at an instant, with its entry.
+// Lets each component react at an instant, and adds its entry.
 fn react_all(
     alloc: Global,
     tree: &Tree,
@@ -219,12 +216,12 @@ fn react_all(
     Ok(())
 }
 
-/// One instant, at which these values come from outside: the imminent components send, what they send travels, and
-/// each component reacts.
+/// Runs one instant, with these inputs from outside: the imminent components emit, what they send
+/// is routed, each component reacts, and what leaves the model is added to the trace.
 ///
 /// # Errors
 ///
-/// No memory for what travels or the entries. The components and the trace may have changed.
+/// No memory for the bags or the entries. The components and the trace may have changed.
 pub fn run_instant(
     alloc: Global,
     tree: &Tree,
@@ -243,6 +240,7 @@ pub fn run_instant(
         (rank_of instant.now) input.now (components_of instant.now.limit components.old))) }
     ensures waits { OnOk result (AreWaitsOfRun instant.now.limit components.new) }
 {
+    // For the prover alone.
     each_component_receives();
     let mut emitted = emit_all(alloc, tree, instant, components)?;
     let routed = tree.route(alloc, &emitted.sent, input)?;

@@ -27,12 +27,13 @@ use dv_time::{Next, Time};
 use dv_tree::Tree;
 use std::alloc::{AllocError, Global};
 
-/// The trace of the resultant of a text with these inputs, to a horizon, under a microstep limit. Inputs past the
-/// horizon are not played. It goes from event to event and from input to input, and looks at every component at each.
+/// The trace of the resultant of a text with these inputs, up to a horizon in ticks, under a
+/// microstep limit. Inputs past the horizon are ignored. The run goes from one time at which a hold
+/// ends or an input arrives to the next, and visits every component there.
 ///
 /// # Errors
 ///
-/// No memory for the components, what travels or the trace.
+/// No memory for the components, the bags or the trace.
 pub fn resultant_run(
     alloc: Global,
     tree: &Tree,
@@ -46,12 +47,11 @@ pub fn resultant_run(
     ensures { IfOk result (λ trace.
         trace ≡ trace_of (file_of tree.now.file) inputs.now horizon limit) }
 {
+    // For the prover alone: between two times of the run nothing happens, and no input arrives.
     the_end_follows_the_horizon();
-    // Between two events nothing happens, and none is missed: these are laws of every network.
     networks_of_texts();
     runs::next_times_rise::<Bags>();
     runs::next_instant_is_the_least_next_time::<Bags>();
-    // Nor does an input come in between, nor is one missed, since times never fall.
     indices_follow_times();
     nothing_comes_in_between();
     let _ = inputs.as_slice();
@@ -76,7 +76,7 @@ pub fn resultant_run(
     Ok(trace)
 }
 
-// One instant, with what comes in then. It gives the index of the first input to which the run comes past it.
+// Runs one instant with its inputs, and returns the index of the first input after it.
 fn play(
     alloc: Global,
     tree: &Tree,
@@ -136,8 +136,8 @@ fn start(alloc: Global, limit: u32, atom: &Atom) -> Result<Running, AllocError>
     Running::start(atom, &mut work, limit, state)
 }
 
-// The next instant at which anything may happen: the least of the components' next times and that of the input at a
-// index.
+// The next time at which anything can happen: the least of the components' next times and the time
+// of the input at an index.
 fn next_instant(components: &[Running], inputs: &Inputs, index: usize) -> Next
     ensures least { (limit : ℕ) → AreWaitsOfRun limit components.now
         → IsOfRunIf limit (time_at inputs.now index) → next_rank limit result
