@@ -8,15 +8,14 @@ use Rattle.dv_board.specs.declared.posts.Piece.{Piece}
 use Rattle.dv_board.specs.Backlogs.{BacklogOf, clock_of, clocks_with}
 use Rattle.dv_board.specs.Clocks.{IsNoLater, IsSooner}
 
--- the clock that is kept is before the piece, and is told, and the piece comes back; or memory was wanted, where there was no gap and
--- something to join
+-- the clock is before the piece, and is returned with it; or memory was refused, and there was no gap and something to join
 abbrev pub IsRefused : {N : Type 0} → Job → BacklogOf → Piece N → Unjoined N → Type 0
 IsRefused job b piece (Gap kept back) =
     (back ≡ piece) × (kept ≡ clock_of b piece.process) × IsOfRun job.limit kept × IsSooner job kept piece.from
 IsRefused job b piece Memory =
     IsNoLater job piece.from (clock_of b piece.process) × IsSooner job (clock_of b piece.process) piece.clock
 
--- of pieces in turn: the one at an index was refused, and the clocks are as those before it make them
+-- of pieces one after the other, the one at an index was refused, and the clocks are as those before it make them
 pub record IsCutAt {N : Type 0} (job : Job) (before after : BacklogOf) (pieces : List (Piece N)) (why : Unjoined N) : Type 0 where
   pub index : ℕ
   pub piece : Piece N

@@ -10,16 +10,16 @@ use Rattle.dv_board.specs.Clocks.{IsNoLater, later}
 use Rattle.dv_board.specs.Jobs.{IsMergeable, committed}
 use Rattle.dv_board.specs.Stretches.{HeldOf}
 
--- from when on the trace was not written yet, and up to when each process is kept
+-- the time up to which the trace is written, and the clock up to which each process is kept
 pub record BacklogOf : Type 0 where
   pub mark : Time
   pub clocks : List Time
 
--- up to when a process is kept
+-- the clock up to which a process is kept
 abbrev pub clock_of : BacklogOf → ℕ → Time
 clock_of backlog p = slice_index_or backlog.clocks p first_time
 
--- the clocks of processes after pieces in turn, each of which makes its process's clock the later of that clock and its own
+-- the clocks of processes after pieces one after the other: each makes its process's clock the later of that clock and its own
 abbrev pub clocks_with : {N : Type 0} → List Time → List (Piece N) → List Time
 clocks_with clocks [] = clocks
 clocks_with clocks (piece ∷ pieces) =

@@ -6,7 +6,7 @@ use Rattle.dv_board.specs.declared.posts.Piece.{Piece}
 use Rattle.dv_board.specs.Clocks.{IsNoLater}
 use Rattle.dv_board.specs.Jobs.{committed}
 
--- the pieces that nobody has taken yet
+-- the pieces that were not taken yet
 pub record PostsOf (N : Type 0) : Type 0 where
   pub pieces : List (Piece N)
 

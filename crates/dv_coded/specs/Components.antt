@@ -18,13 +18,13 @@ use Rattle.dv_coded.specs.Models.{AreProgramsOf, TakesState}
 use Rattle.dv_coded.specs.declared.models.Models.{Models}
 use Rattle.dv_coded.specs.declared.programs.Programs.{Programs}
 
--- its model is there, and takes the state in which the component starts; it waits for a time of the run
+-- its model is there, and accepts the state in which the component starts; its next time is of the run
 pub record StandsAmong (limit : ℕ) (programs : List Programs) (x : Member) : Type 0 where
   pub model : x.model < length programs
   pub wait : IsWaitOfRun limit x.start.wait
   pub fits : FitsAt TakesState programs x.model x.start.state
 
--- at an index stand the programs and the response of a model
+-- the programs and the response of a model are at an index
 pub record IsModelAt (all : List Programs) (answers : List Response) (k : ℕ) (m : AtomicTree) : Type 0 where
   pub programs : Programs
   pub response : Response
@@ -34,7 +34,7 @@ pub record IsModelAt (all : List Programs) (answers : List Response) (k : ℕ) (
   pub soonest : ticks_of response ≡ response_of m
   pub short : IsShort (ticks_of response)
 
--- the same in what stands for the models of a text
+-- the same among the models of a text
 abbrev pub HasModelAt : Models → ℕ → AtomicTree → Type 0
 HasModelAt all k m = IsModelAt all.programs.items all.responses.items k m
 
@@ -44,7 +44,7 @@ indexed_count [] = 0
 indexed_count (None ∷ indices) = indexed_count indices
 indexed_count (Some k ∷ indices) = suc (indexed_count indices)
 
--- what stands for the models of a text: of each that has an index the programs and the response, once
+-- the models of a text: the programs and the response of each one that has an index, once
 pub record AreModelsOf (models : List ModelTree) (all : Models) : Type 0 where
   pub count : length all.indices.items ≡ length models
   pub both : length all.responses.items ≡ length all.programs.items
@@ -64,7 +64,7 @@ pub record Adds (m : AtomicTree) (before after : Models) (k : ℕ) : Type 0 wher
   pub short : IsShort (ticks_of response)
   pub indices : after.indices.items ≡ before.indices.items
 
--- what stands at an index still stands there
+-- what was at an index is still there
 abbrev pub KeepsModels : Models → Models → Type 0
 KeepsModels before after = (k : ℕ) (m : AtomicTree) → HasModelAt before k m → HasModelAt after k m
 

@@ -1,4 +1,4 @@
--- Programs where they lie, as code of a model.
+-- References to programs, as code of a model.
 use Rattle.dv_bag.specs.declared.state.State.{State}
 use Rattle.dv_devs.specs.Behaviour.{Behaviour}
 use Rattle.dv_coded.specs.Models.{TakesState, behaviour_of}

@@ -6,7 +6,7 @@ use Rattle.dv_devs.specs.Behaviour.{Component}
 use Rattle.dv_conservative.specs.Process.{Packet, Share, components_by, events_by, first_time, part_by, refusal_of, with_packet}
 use Rattle.dv_conservative.specs.Turn.{IsTurnOf, Position, Turned, turned}
 
--- its share of the model, the components of it as they stand, what it received by link, its position, and what it has committed
+-- its share of the model, its components, what it received by link, its position, and what it committed
 pub record ProcessState : Type 0 where
   pub share : Share
   pub components : List Component
@@ -18,7 +18,7 @@ pub record ProcessState : Type 0 where
 abbrev pub HasCommitted : ProcessState → Type 0
 HasCommitted x = x.part ≡ part_by x.share (events_by x.received) (rank x.share.limit x.position.clock)
 
--- its components stand where those of its local run stand at its clock
+-- its components are those of its local run at its clock
 abbrev pub StandsAtClock : ProcessState → Type 0
 StandsAtClock x = x.components ≡ components_by x.share (events_by x.received) (rank x.share.limit x.position.clock)
 
@@ -31,7 +31,7 @@ pub record IsNew (x : ProcessState) : Type 0 where
   pub committed : HasCommitted x
   pub components : StandsAtClock x
 
--- a turn that is made: share and received stay, and what it changes is what the theory asks of a turn
+-- a turn: share and received packets stay, and the rest changes as a turn of the theory does
 pub record IsTurned (answer : Turned) (before after : ProcessState) : Type 0 where
   pub share : after.share ≡ before.share
   pub received : after.received ≡ before.received
@@ -49,7 +49,7 @@ pub record IsReceived (packet : Packet) (before after : ProcessState) : Type 0 w
   pub committed : HasCommitted after
   pub components : StandsAtClock after
 
--- the packet that stood on a link stands no more, and all else stays
+-- the packet that was prepared on a link is gone, and all else stays
 pub record IsSent (link : ℕ) (before after : ProcessState) : Type 0 where
   pub share : after.share ≡ before.share
   pub components : after.components ≡ before.components

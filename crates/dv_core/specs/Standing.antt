@@ -23,8 +23,8 @@ pub record IsReached (job : Job) (w : World) : Type 0 where
   pub steps : List (theory.Step × theory.Reply)
   pub run : IsRun job steps (new_world capacity) w
 
--- What is kept stands for a world of a job: there are its processes and its links; each process has a share that runs as its
--- share of the job, stands at its clock and has committed its part; and where the last window on a link ends is what its sender has
+-- What is kept represents a world of a job. It has the job's processes and links. Each process has a share that runs as its share of
+-- the job, has components as they are at its clock, and has committed its part. The last window on a link ends at what its sender
 -- promised.
 pub record StandsFor (job : Job) (k : Kept) : Type 0 where
   pub processes : length k.states ≡ job.processes
@@ -38,7 +38,7 @@ pub record StandsFor (job : Job) (k : Kept) : Type 0 where
       → slice_get job.channels l ≡ Some c → slice_get k.states c.source ≡ Some x
       → x.position.promised l ≡ promised_on (link_of k l (Some c))
 
--- a world of the code, of valid processes, stands for one that steps of its job lead to
+-- a world of the code, of valid processes, represents one that steps of its job lead to
 pub record Stands {J P : Type 0} (means : J → Job) (state : P → ProcessState) (IsValid : P → Type 0) (w : WorldState J P) : Type 0 where
   pub valid : AllValid IsValid w.processes.items
   pub kept : StandsFor (means w.job) (kept_by state w)
@@ -46,13 +46,13 @@ pub record Stands {J P : Type 0} (means : J → Job) (state : P → ProcessState
   pub channels : map meant_channel w.channels.items ≡ (means w.job).channels
   pub few : (vec_len w.processes < 2 ^ 32) × (vec_len w.channels < 2 ^ 32)
 
--- a step that was answered, and the world that it leaves stands again
+-- a step with its reply, after which the world is again such a one
 pub record IsStepped {J P : Type 0} (means : J → Job) (state : P → ProcessState) (IsValid : P → Type 0) (step : Step) (reply : Reply)
     (before after : WorldState J P) : Type 0 where
   pub answered : IsAnswered means state step reply before after
   pub stands : Stands means state IsValid after
 
--- Where steps lead to a world from which the rest of a list of steps is still to be made: what the rest does, all of it does.
+-- Steps lead to a world in which the rest of a list of steps is still to be made: what the rest does from there, the whole list does.
 pub record Continues (job : Job) (all rest : List theory.Step) (start now : World) : Type 0 where
   pub driven : (v : World) → IsDriven job rest now v → IsDriven job all start v
   pub cut : (v : World) → IsCut job rest now v → IsCut job all start v

@@ -61,34 +61,34 @@ end_time job = record { tick = job.horizon + 1; micro = 0 }
 abbrev pub IsWhole : Job → World → Type 0
 IsWhole job w = (p : ℕ) → p < job.processes → w.clock p ≡ end_time job
 
--- steps one after the other, of which one, the last that is made, is answered that a growth was refused
+-- steps one after the other, up to the first one that memory was refused
 abbrev pub IsCut : Job → List theory.Step → World → World → Type 0
 IsCut job [] w v = ⊥
 IsCut job (s ∷ ss) w v =
     (IsStep job s Memory w v)
     ⊎ ((u : World) × (reply : theory.Reply) × IsStep job s reply w u × HadMemory reply × Progressed job s reply w u × IsCut job ss u v)
 
--- whole rounds, so many at most, of which the last is cut where memory is wanted
+-- at most so many whole rounds; if memory is refused, the last one is cut
 abbrev pub EndsAs : Job → ℕ → Ended → World → World → Type 0
 EndsAs job limit ended.Whole w v = (k : ℕ) × (k ≤ limit) × AreRounds job k w v × IsWhole job v
 EndsAs job limit ended.Stalled w v = AreRounds job limit w v × (IsWhole job v → ⊥)
 EndsAs job limit ended.Memory w v = (k : ℕ) × (k < limit) × ((u : World) × AreRounds job k w u × IsCut job (round job) u v)
 
--- a run whose turns, where they are done, make the progress that they must
+-- a run in which each turn that is done makes progress
 abbrev pub IsRunWithProgress : Job → List (theory.Step × theory.Reply) → World → World → Type 0
 IsRunWithProgress job [] w v = v ≡ w
 IsRunWithProgress job (s ∷ ss) w v =
     (u : World) × IsStep job s.0 s.1 w u × Progressed job s.0 s.1 w u × IsRunWithProgress job ss u v
 
--- steps with what they were answered
+-- steps with their replies
 abbrev pub with_replies : List Step → List Reply → List (theory.Step × theory.Reply)
 with_replies [] rs = []
 with_replies (s ∷ ss) [] = []
 with_replies (s ∷ ss) (r ∷ rs) = (meant_step s, meant_reply r) ∷ with_replies ss rs
 
--- The headline: all processes are there; every packet that stands, is on its way or was received is true, and the windows of each
--- link join from the start; no clock passes a channel clock or the end; each process has committed exactly its part of the whole run
--- before its clock, and its components stand as they do in the whole run just before its clock.
+-- What holds of every world. All processes are there. Every packet that is prepared, on its way or received is true, and the windows of
+-- each link follow one another from 0.0 on. No clock passes a channel clock or the end. Each process has committed exactly its part of the
+-- whole run before its clock, and its components are as they are in the whole run just before its clock.
 pub record IsTrueToModel (job : Job) (k : Kept) : Type 0 where
   pub count : length k.states ≡ job.processes
   pub packets : (l : ℕ) (c : Channel) → slice_get job.channels l ≡ Some c → AreTrue job l c first_time (all_of ((world_of job k).link l))
@@ -111,8 +111,8 @@ abbrev pub outer_of : Option ProcessState → List Outer
 outer_of None = []
 outer_of (Some x) = x.part.outer
 
--- The parts together are the whole trace: each process has its part, with the entries of its components, and what leaves of all of
--- them, united by time and port, is what leaves the model, wherever the model's outputs are linear in what is sent.
+-- The parts together are the whole trace. Each process has the entries of its components. Their output lines, united by time and port,
+-- are those of the model, if what leaves the model is linear in what is sent.
 pub record AreTheTrace (job : Job) (states : List ProcessState) : Type 0 where
   pub parts : HaveAllParts job states
   pub entries : (p : ℕ) (x : ProcessState) → slice_get states p ≡ Some x
@@ -124,8 +124,8 @@ pub record AreTheTrace (job : Job) (states : List ProcessState) : Type 0 where
       → united (λ p. outer_of (slice_get states p)) job.processes
       ≡ (trace_before job.limit (whole job.flat) job.outside (end_of job.limit job.horizon)).outer
 
--- What a world is made of: a job that can be run in parts, its links, and for each of its shares a new and valid process that has
--- one which runs alike.
+-- What a world is made of: a job that can be run in parts, its links, and for each of its shares a new and valid process, whose share
+-- runs as that one.
 pub record AreMadeFor {J P : Type 0} (means : J → Job) (state : P → ProcessState) (IsValid : P → Type 0)
     (job : J) (channels : List ChannelOfCode) (processes : List P) : Type 0 where
   pub valid : AllValid IsValid processes

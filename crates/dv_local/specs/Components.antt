@@ -1,4 +1,4 @@
--- The components of a process, of which each visit is counted.
+-- The components of a process, with a count of visits.
 use Rattle.std.specs.Prelude.{ℕ, List}
 use Rattle.dv_react.specs.declared.running.Running.{Running}
 

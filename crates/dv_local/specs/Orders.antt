@@ -1,19 +1,19 @@
--- Items that lie in lists, in an order of their own.
+-- Items of several lists, in an order of their own.
 use Rattle.std.specs.Prelude.{◌≡◌, ℕ, ◌+◌, ◌<◌, if◌then◌else◌, nat_eq, List, [], ◌∷◌, ◌++◌, drop, length, slice_index_or, slice_set, take}
 use Rattle.std.specs.List.{All}
 
--- the items of lists, one after the other, each the first one left of the list whose number comes
+-- the items in an order of list numbers: each number gives the next item of its list
 abbrev pub in_order : {X : Type 0} → List ℕ → List (List X) → List X
 in_order [] lists = []
 in_order (n ∷ order) lists =
     take 1 (slice_index_or lists n []) ++ in_order order (slice_set lists n (drop 1 (slice_index_or lists n [])))
 
--- how often a number comes
+-- how often a number occurs
 abbrev pub times_of : ℕ → List ℕ → ℕ
 times_of n [] = 0
 times_of n (m ∷ order) = (if nat_eq n m then 1 else 0) + times_of n order
 
--- each number is that of a list, and comes as often as that list has items
+-- each number is that of a list, and occurs as often as that list has items
 pub record AreCounted {X : Type 0} (order : List ℕ) (lists : List (List X)) : Type 0 where
   pub within : All (λ (n : ℕ). n < length lists) order
   pub each : (n : ℕ) → n < length lists → length (slice_index_or lists n []) ≡ times_of n order

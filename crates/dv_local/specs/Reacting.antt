@@ -1,4 +1,4 @@
--- How a component reacts where it stands, and what it was before.
+-- How a component reacts in its place, and what it was before.
 use Rattle.std.specs.Prelude.{◌≡◌, ℕ, List, [], ◌∷◌, ◌++◌, Option, Some, None, Result, slice_get, slice_set}
 use Rattle.dv_bag.specs.Bag.{Counts}
 use Rattle.dv_bag.specs.declared.fault.Fault.{Fault}
@@ -17,7 +17,7 @@ abbrev pub former_of : ℕ → Running → Option Happened → List (Indexed Run
 former_of p r None = []
 former_of p r (Some h) = (record { index = p; what = r }) ∷ []
 
--- The component at the index of an arrival reacted there: the others are as they were, and what it was is kept where something
+-- The component at the index of an arrival reacted in its place. The others are as they were, and what it was is logged if something
 -- happened to it.
 pub record ReactsAt {S : Type 0} (behaviour : S → Behaviour) (fits : S → State → Type 0) (t : Tables S) (now : ℕ)
     (es : List (Indexed (Result (List Counts) Fault))) (x : Indexed (List Counts)) (rs ss : List Running) (old new : List (Indexed Running))

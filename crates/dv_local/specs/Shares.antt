@@ -19,7 +19,7 @@ use Rattle.dv_local.specs.declared.share.Way.{Way}
 abbrev pub outgoing_of : Way → Outgoing
 outgoing_of w = record { number = w.number; links = w.links }
 
--- the share that it stands for
+-- the share of the theory
 abbrev pub share_by : {S : Type 0} → (S → Behaviour) → Share S → ShareAsMeant
 share_by behaviour p = record {
   limit = p.tables.limit;
@@ -31,7 +31,7 @@ share_by behaviour p = record {
   response = ticks_of p.response;
 }
 
--- the numbers of links that lead away
+-- the numbers of links to other processes
 abbrev pub numbers_of_ways : List Way → List ℕ
 numbers_of_ways ws = map (λ (w : Way). w.number) ws
 

@@ -1,4 +1,4 @@
--- What the components of a process stand at.
+-- The state of a process's components, as contracts see it.
 use Rattle.std.specs.Prelude.{◌≡◌, ℕ, ◌<◌, ◌≤◌, List, [], length, count_by, Option, None, Some}
 use Rattle.std.specs.List.{All}
 use Rattle.dv_time.specs.Time.{IsOfRun, rank, time_of}
@@ -24,7 +24,7 @@ use Rattle.dv_local.specs.declared.state.LocalState.{LocalState}
 abbrev pub held_by : ℕ → Option Time → Arrivals → ℕ → List Meant
 held_by limit taken inbox n = deliveries_of (arrivals_but taken (time_of limit n) inbox)
 
--- what is seen of it
+-- what contracts see of a state
 abbrev pub view_by : {S R : Type 0} → (S → Behaviour) → (R → PartOf) → LocalState S R → View
 view_by behaviour told x = record {
   share = share_by behaviour x.share;
@@ -34,7 +34,7 @@ view_by behaviour told x = record {
   visits = x.components.visits;
 }
 
--- what was seen when all was settled
+-- what contracts saw when all was settled
 abbrev pub settled_by : {S R : Type 0} → (S → Behaviour) → (R → PartOf) → LocalState S R → View
 settled_by behaviour settled x = record {
   share = share_by behaviour x.share;
@@ -44,7 +44,7 @@ settled_by behaviour settled x = record {
   visits = x.components.settled;
 }
 
--- what was sent at the time that was last asked about
+-- what was sent at the time of the last emission
 abbrev pub sent_of : {S R : Type 0} → LocalState S R → List (List Counts)
 sent_of x = sents_by 0 x.share.tables.members.items x.emitted.items
 
@@ -69,7 +69,7 @@ AreEmittedIf behaviour x (Some t) =
     × AreEmitted behaviour x.share.tables (rank x.share.tables.limit t) x.components.running x.emitted.items
     × (length x.emitted.items ≤ imminent_of x.share.tables.limit t x.components.running)
 
--- what is always so
+-- the invariant of a state
 pub record IsKept {S R : Type 0} (behaviour : S → Behaviour) (fits : S → State → Type 0) (comes : S → List Counts → Type 0)
     (x : LocalState S R) : Type 0 where
   pub share : IsShare fits x.share
@@ -82,7 +82,7 @@ pub record IsKept {S R : Type 0} (behaviour : S → Behaviour) (fits : S → Sta
   pub emitted : StandByIndex (length x.share.tables.members.items) x.emitted.items
   pub still : AreEmittedIf behaviour x x.emitted_at
 
--- nothing was put in since all was settled
+-- nothing has changed since all was settled
 pub record IsAtRest {S R : Type 0} (told settled : R → PartOf) (x : LocalState S R) : Type 0 where
   pub before : x.undo.before ≡ []
   pub committed : settled x.record ≡ told x.record

@@ -1,4 +1,4 @@
--- Visits of components, one for each look at one: as it emits, and as it is committed. What keeps the components counts its accesses.
+-- Visits of components: one as a component emits, and one as it reacts. They are counted by what keeps the components.
 use Rattle.std.specs.Prelude.{◌≡◌, ℕ, ◌+◌, ◌-◌, ◌*◌, ◌^◌, ◌<◌, ◌≤◌, not, if◌then◌else◌, nat_lt, List, length, count_by}
 use Rattle.dv_bag.specs.Bag.{Counts}
 use Rattle.dv_devs.specs.Behaviour.{all_empty, is_imminent}

@@ -1,4 +1,4 @@
--- The links that lead away: what stands and is promised by the number of a link, and what waits to be sent.
+-- The links that lead away: what is prepared and promised, by the number of a link, and what waits to be sent.
 use Rattle.std.specs.Prelude.{◌≡◌, ℕ, zero, suc, ◌+◌, true, false, nat_eq, nat_lt, Bool, ◌&&◌, is_none, if◌then◌else◌, List, []}
 use Rattle.std.specs.Prelude.{◌∷◌, ◌++◌, map, option_map, Option, Some, None}
 use Rattle.dv_time.specs.Time.{is_before, rank}
@@ -18,7 +18,7 @@ abbrev pub standing_on : Option PacketOfCode → Option Packet
 standing_on None = None
 standing_on (Some p) = Some (meant_packet p)
 
--- the packet that stands on the link of a number
+-- the packet that is prepared on the link with a number
 abbrev pub standing_by : List Outgoing → ℕ → Option Packet
 standing_by [] l = None
 standing_by (o ∷ os) l = if nat_eq l o.number then standing_on o.standing else standing_by os l
@@ -45,7 +45,7 @@ ArePending s events upto (out ∷ outs) (o ∷ os) = IsPending s events upto out
 ArePending s events upto [] (o ∷ os) = ⊥
 ArePending s events upto (out ∷ outs) [] = ⊥
 
--- a window is prepared where no packet stands and more is promised
+-- whether a window is prepared: no packet is waiting, and more is promised
 abbrev pub is_prepared : Time → Outgoing → Bool
 is_prepared upto o = is_none o.standing && is_before o.promised upto
 

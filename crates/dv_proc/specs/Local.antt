@@ -1,5 +1,5 @@
--- What a local run stands at: the components of a share, what was committed, what came and is not committed, and how many
--- visits of components were counted.
+-- The state of a local run: the components of a share, what was committed, what came and is not committed, and how many visits of
+-- components were counted.
 use Rattle.std.specs.Prelude.{◌≡◌, ℕ, ◌<◌, ◌≤◌, Bool, true, false, not, List, ◌++◌, Option, Some, None}
 use Rattle.dv_time.specs.Time.{IsOfRun, rank}
 use Rattle.dv_time.specs.declared.time.Time.{Time}
@@ -14,8 +14,8 @@ use Rattle.dv_conservative.specs.Links.{Delivery, Link, carried, delivered, sent
 use Rattle.dv_conservative.specs.Process.{Share, all_events, components_by, is_port_of, part_by}
 use Rattle.std.specs.List.{list_all}
 
--- the share, its components, what they committed, at each rank what came for them and is not committed, in any order, and how
--- many visits of them were counted
+-- the share, its components, what they committed, at each rank what came for them and is not committed, in any order, and the count
+-- of visits
 pub record View : Type 0 where
   pub share : Share
   pub components : List Component
@@ -27,7 +27,7 @@ pub record View : Type 0 where
 abbrev pub input_at : View → ℕ → List Counts × List Delivery
 input_at v n = (v.share.outside n, v.held n)
 
--- comes anything at a rank, if nobody in the share sends
+-- whether anything comes at a rank, if no component of the share sends
 abbrev pub brings_at : View → ℕ → Bool
 brings_at v n = not (no_values ((network v.share.flat).arrives (nothing_sent (network v.share.flat)) (input_at v n)))
 
@@ -38,7 +38,7 @@ IsFirstInput v k (Some t) =
     IsOfRun v.share.limit t × (k ≤ rank v.share.limit t) × (brings_at v (rank v.share.limit t) ≡ true)
     × ((n : ℕ) → k ≤ n → n < rank v.share.limit t → brings_at v n ≡ false)
 
--- The instant at a rank took place: the components reacted and the part grew; what is held for later ranks stays.
+-- The instant at a rank was committed: the components reacted and the part grew; what is held for later ranks stays.
 pub record IsAfterInstant (n : ℕ) (before after : View) : Type 0 where
   pub share : after.share ≡ before.share
   pub components : after.components
@@ -47,11 +47,11 @@ pub record IsAfterInstant (n : ℕ) (before after : View) : Type 0 where
       ≡ joined before.committed (part_of_instant before.share.limit (network before.share.flat) n (input_at before n) before.components)
   pub held : (m : ℕ) → n < m → after.held m ≡ before.held m
 
--- nobody can tell two lists of deliveries apart
+-- two lists of deliveries make the same bags
 abbrev pub DeliverAlike : List Delivery → List Delivery → Type 0
 DeliverAlike ds es = (k port : ℕ) (bag : Counts) → delivered k port ds bag ≡ delivered k port es bag
 
--- events came: at each rank they stand beside what was held
+-- events came: at each rank they are held with what was held before
 pub record IsAfterEvents (events : List Event) (before after : View) : Type 0 where
   pub share : after.share ≡ before.share
   pub components : after.components ≡ before.components
@@ -67,8 +67,8 @@ sent_at v n = emissions (behaviours v.share.flat.members) n v.components
 abbrev pub carried_away : View → List Link → List (List Counts) → List Delivery
 carried_away v links sent = in_order (carried links (sent_of (numbers v.share.flat.members) sent))
 
--- It is the local run of events at a rank: the components stand there, what is before is committed, and from there on what is
--- held is what the events bring.
+-- The state is the local run of some events at a rank: the components are those of that rank, what is before it is committed, and from
+-- there on what is held is what the events bring.
 pub record IsLocalRun (v : View) (events : ℕ → List Event) (k : ℕ) : Type 0 where
   pub components : v.components ≡ components_by v.share events k
   pub committed : v.committed ≡ part_by v.share events k

@@ -1,4 +1,4 @@
--- A process in the midst of a turn: what was computed stands, and no packet is prepared yet.
+-- A process in the middle of a turn: what is sent was computed, and no packet is prepared yet.
 use Rattle.std.specs.Prelude.{◌≡◌, ℕ, suc, ◌≤◌, min, Bool, List, [], ◌∷◌}
 use Rattle.dv_time.specs.Time.{rank}
 use Rattle.dv_time.specs.declared.time.Time.{Time}
@@ -58,7 +58,7 @@ AllStand x (out ∷ outs) (o ∷ os) = StandsAt x out o × AllStand x outs os
 AllStand x [] (o ∷ os) = ⊥
 AllStand x (out ∷ outs) [] = ⊥
 
--- the answer of a turn that is meant
+-- what a turn did, in the words of the theory
 abbrev pub meant_turned : Turned → TurnedAsMeant
 meant_turned turned.Moved = Moved
 meant_turned turned.Waiting = Waiting

@@ -1,4 +1,4 @@
--- What a process is: its share, what was received, its position, what it committed, and what stands behind them.
+-- What a process is: its share, what was received, its position, what it committed, and the invariant of all these.
 use Rattle.std.specs.Prelude.{◌≡◌, ℕ, suc, ◌<◌, ◌≤◌, length, None, ◌⊎◌, min, true, Bool, IsTrue, List, []}
 use Rattle.dv_time.specs.Time.{IsOfRun, rank}
 use Rattle.dv_time.specs.declared.time.Time.{Time}
@@ -38,7 +38,7 @@ abbrev pub IsDue : Share → (ℕ → List Packet) → ℕ → Type 0
 IsDue s received k =
     (IsTrue (is_at k (least_next (components_by s (events_by received) k)))) ⊎ (brings s (events_by received) k ≡ true)
 
--- the clock that a turn leaves is the least channel clock, or a rank at which something is due
+-- the clock after a turn is the least channel clock, or a rank at which something is due
 abbrev pub IsFar : Share → (ℕ → List Packet) → ℕ → Type 0
 IsFar s received k = (k ≡ least_clock s received) ⊎ IsDue s received k
 

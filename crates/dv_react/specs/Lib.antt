@@ -1,6 +1,6 @@
--- What serves proofs: what code for an atomic model gives, against its behaviour.
+-- What serves proofs: what code for an atomic model gives, compared with its behaviour.
 pub mod Given
--- And what the instants, the waits, the components and the outcomes of the code stand for.
+-- And the instants, waits, components and outcomes of the code, in the words of the formalism.
 pub mod Committed
 pub mod Components
 pub mod Outcomes

@@ -1,9 +1,9 @@
--- What stands at indices of a share, and lists of indices that rise.
+-- Items by the index of a component, and lists of indices that rise.
 use Rattle.std.specs.Prelude.{ℕ, suc, ◌<◌, ◌≤◌, Bool, nat_eq, if◌then◌else◌, List, [], ◌∷◌, length, map, Option, Some, None, slice_index_or}
 use Rattle.std.specs.List.{AllWithin, list_any}
 use Rattle.dv_share.specs.declared.index.Indexed.{Indexed}
 
--- what stands at an index, if something does
+-- the item at an index, if there is one
 abbrev pub found : {X : Type 0} → ℕ → List (Indexed X) → Option X
 found p [] = None
 found p (x ∷ xs) = if nat_eq x.index p then Some x.what else found p xs
@@ -22,7 +22,7 @@ RiseFrom low (p ∷ ps) = (low ≤ p) × RiseFrom (suc p) ps
 abbrev pub AreRising : List ℕ → Type 0
 AreRising ps = RiseFrom 0 ps
 
--- The cursor is that of the first item that does not stand before an index.
+-- The cursor is that of the first item that is not before an index.
 pub record IsNext {X : Type 0} (p : ℕ) (xs : List (Indexed X)) (cursor : ℕ) : Type 0 where
   pub within : cursor ≤ length xs
   pub before : AllWithin (λ (x : Indexed X). x.index < p) xs 0 cursor

@@ -1,4 +1,4 @@
--- What comes to components by index, while deliveries come in one after the other.
+-- What arrives at components by index, while deliveries are put in one after the other.
 use Rattle.std.specs.Prelude.{◌≡◌, ℕ, ◌<◌, false, if◌then◌else◌, nat_eq, List, [], ◌∷◌, ◌++◌, length, map, replicate, slice_get}
 use Rattle.std.specs.Prelude.{slice_index_or, slice_set, Some}
 use Rattle.std.specs.List.{All, sum_by}
@@ -35,13 +35,13 @@ abbrev pub met_of : List Receipt → List ℕ
 met_of [] = []
 met_of (r ∷ rs) = if r.is_met then r.indexed.index ∷ met_of rs else met_of rs
 
--- Each receipt stands at its own index. The indices are those of the receipts that are met, each once.
+-- Each receipt is at its own index. The indices are those of the receipts that are met, each once.
 pub record AreMet (receipts : List Receipt) (ps : List ℕ) : Type 0 where
   pub own : (p : ℕ) → p < length receipts → (receipt_at receipts p).indexed.index ≡ p
   pub once : (p : ℕ) → p < length receipts → count_in p ps ≡ (if (receipt_at receipts p).is_met then 1 else 0)
   pub within : All (λ p. p < length receipts) ps
 
--- with empty bags for so many ports at an index where nothing stands yet
+-- with empty bags for so many ports at an index, if it has no item yet
 abbrev pub with_index : ℕ → ℕ → List (Indexed (List Counts)) → List (Indexed (List Counts))
 with_index p ports xs = if is_in p (indices_of xs) then xs else xs ++ record { index = p; what = replicate ports [] } ∷ []
 
@@ -51,7 +51,7 @@ with_delivery_at p d x =
     if nat_eq x.index p
     then record { index = x.index; what = slice_set x.what d.port (with_copies d.value d.copies (bag_at x.what d.port)) } else x
 
--- At some indices stand the bags that deliveries make so far; elsewhere nothing is delivered.
+-- Each item has the bags that the deliveries so far make at its index; elsewhere nothing is delivered.
 pub record AreGathered (ms : List Member) (ds : List Delivery) (xs : List (Indexed (List Counts))) : Type 0 where
   pub within : All (λ (x : Indexed (List Counts)). x.index < length ms) xs
   pub bags : All (λ (x : Indexed (List Counts)). (m : Member) → slice_get ms x.index ≡ Some m → x.what ≡ inbox_of m ds) xs

@@ -19,7 +19,7 @@ use Rattle.dv_share.specs.declared.index.Indexed.{Indexed}
 use Rattle.dv_share.specs.declared.tables.Member.{Member as MemberOfTables}
 use Rattle.dv_share.specs.declared.tables.Tables.{Tables}
 
--- the behaviour of a model that is not there: it does nothing
+-- the behaviour for a missing model: it does nothing
 abbrev pub resting : Behaviour
 resting = record {
   output = λ s. Ok [];
@@ -42,7 +42,7 @@ member_by behaviour limit models m = record {
   start = component_of limit m.start;
 }
 
--- the flat model that tables stand for
+-- the flat model of tables
 abbrev pub flat_by : {S : Type 0} → (S → Behaviour) → Tables S → Flat
 flat_by behaviour t = record {
   members = map (member_by behaviour t.limit t.models.items) t.members.items;
@@ -72,7 +72,7 @@ pub record AreTables {S : Type 0} (fits : S → State → Type 0) (t : Tables S)
   pub models : All (λ (m : MemberOfTables). m.model < length t.models.items) t.members.items
   pub starts : AreComponents fits t (starts_of t.members.items)
 
--- what stands by index: indices that rise, below a count
+-- items by index: their indices rise, and are below a count
 pub record StandByIndex {X : Type 0} (count : ℕ) (xs : List (Indexed X)) : Type 0 where
   pub rise : AreRising (indices_of xs)
   pub within : All (λ (x : Indexed X). x.index < count) xs
@@ -88,7 +88,7 @@ pub record AreDue (limit now : ℕ) (rs : List Running) (due : List ℕ) : Type 
   pub within : All (λ p. p < length rs) due
   pub imminent : HasImminent limit now rs due
 
--- what the output function gave at an index; where none ran, nothing is sent
+-- what the output function gave at an index; if none was applied, nothing is sent
 abbrev pub given_at : ℕ → List (Indexed (Result (List Counts) Fault)) → Result (List Counts) Fault
 given_at p es = unwrap_or (found p es) (Ok [])
 
@@ -104,7 +104,7 @@ numbers_of ms = map (λ (m : MemberOfTables). m.number) ms
 abbrev pub sent_in : List MemberOfTables → List (Indexed (Result (List Counts) Fault)) → ℕ → List Counts
 sent_in ms es = sent_from (numbers_of ms) (sents_by 0 ms es)
 
--- At each index that is due stands what its output function gives; elsewhere nothing is sent.
+-- There is an item for each index that is due, with what its output function gives; the others send nothing.
 pub record AreEmitted {S : Type 0} (behaviour : S → Behaviour) (t : Tables S) (now : ℕ) (rs : List Running)
     (es : List (Indexed (Result (List Counts) Fault))) : Type 0 where
   pub indices : StandByIndex (length rs) es
@@ -121,7 +121,7 @@ coming t es outside ds = carried t.entrances (λ k. outside) ++ (carried t.links
 abbrev pub inbox_of : MemberOfTables → List Delivery → List Counts
 inbox_of m ds = inbox m.number ds 0 m.inputs
 
--- At each index stand the bags that deliveries make; where nothing stands, they bring no values.
+-- Each item has the bags that deliveries make at its index; at an index without an item they bring no values.
 pub record AreReceived (ms : List MemberOfTables) (ds : List Delivery) (xs : List (Indexed (List Counts))) : Type 0 where
   pub indices : StandByIndex (length ms) xs
   pub bags : All (λ (x : Indexed (List Counts)). (m : MemberOfTables) → slice_get ms x.index ≡ Some m → x.what ≡ inbox_of m ds) xs
@@ -136,7 +136,7 @@ AreTouched emitted xs = All (λ (x : Indexed (List Counts)). IsTrue (is_in x.ind
 abbrev pub AreAmong : List ℕ → List ℕ → Type 0
 AreAmong ps qs = (p : ℕ) → IsTrue (is_in p ps) → IsTrue (is_in p qs)
 
--- the outcome at an index; where none stands, nothing happens
+-- the outcome at an index; without one nothing happens
 abbrev pub outcome_at : ℕ → List (Indexed Outcome) → Outcome
 outcome_at p os = unwrap_or (found p os) Nothing
 
@@ -151,7 +151,7 @@ abbrev pub left_from : ℕ → List Running → List (Indexed Outcome) → List 
 left_from p [] os = []
 left_from p (r ∷ rs) os = left_by r (outcome_at p os) ∷ left_from (suc p) rs os
 
--- At each index stands the outcome of its component; where none stands, nothing happens. Together they are the instant.
+-- Each item is the outcome of the component at its index; without one nothing happens. Together they are the instant.
 pub record AreOutcomes {S : Type 0} (behaviour : S → Behaviour) (t : Tables S) (now : ℕ) (rs : List Running) (outside : List Counts)
     (ds : List Delivery) (es : List (Indexed (Result (List Counts) Fault))) (os : List (Indexed Outcome)) : Type 0 where
   pub indices : StandByIndex (length rs) os
