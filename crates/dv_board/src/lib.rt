@@ -2,9 +2,9 @@
 //!
 //! A `Board` is a list of pieces behind a lock. A worker posts a `Piece`: what a process committed
 //! from its last post up to its clock. The loop that writes the trace takes all pieces at once, in
-//! the order in which they were posted. Under the lock pieces change owners; nothing is copied or
-//! merged, so no worker waits for the writer. A board wakes nobody: who posts rings a bell of
-//! `dv_work`.
+//! the order in which they were posted. While the lock is held nothing is copied or merged, so no
+//! worker waits while the trace is put together. A board wakes no thread: a worker that posts also
+//! rings a bell of `dv_work`.
 //!
 //! What is on a board depends on the threads, so no contract says when a piece arrives. The type of
 //! a board says that each piece is true: it has exactly the part of the job's trace that its
