@@ -127,7 +127,7 @@ fn commit_one<A: Atomic, R: Record>(
     ensures handed { R.handed to.new ≡ R.handed to.old }
 {
     components.visit(visit.arrival.index);
-    let Some(happened) = components.react(moment, work, visit, before)? else {
+    let Some(happened) = components.react_visited(moment, work, visit, before)? else {
         return Ok(());
     };
     let component = components.visited();

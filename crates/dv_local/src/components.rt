@@ -102,7 +102,7 @@ impl Components {
     /// # Errors
     ///
     /// No memory. Nothing has changed.
-    pub(crate) fn react<A: Atomic>(
+    pub(crate) fn react_visited<A: Atomic>(
         &mut self,
         moment: &Moment<'_, A>,
         work: &mut A::Work,
@@ -129,7 +129,7 @@ impl Components {
         ensures settled { self.new.settled ≡ self.old.settled }
     {
         let component = &mut self.running[self.visited as usize];
-        former.react(moment, work, component, visit)
+        former.react_logged(moment, work, component, visit)
     }
 
     /// The count of visits.

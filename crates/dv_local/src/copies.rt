@@ -77,7 +77,7 @@ impl Copies {
     /// # Errors
     ///
     /// No memory. The component is unchanged, and no copy was added.
-    pub(crate) fn react<A: Atomic>(
+    pub(crate) fn react_copied<A: Atomic>(
         &mut self,
         moment: &Moment<'_, A>,
         work: &mut A::Work,

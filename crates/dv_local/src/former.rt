@@ -104,7 +104,7 @@ impl Former {
     /// # Errors
     ///
     /// No memory. The component and the log are unchanged.
-    pub(crate) fn react<A: Atomic>(
+    pub(crate) fn react_logged<A: Atomic>(
         &mut self,
         moment: &Moment<'_, A>,
         work: &mut A::Work,
@@ -141,7 +141,7 @@ impl Former {
         self.order.reserve(1)?;
         let last = self.copies.len() - 1;
         let model = model_of(moment.tables, visit.arrival.index).min(last);
-        let happened = self.copies[model].react(moment, work, component, visit)?;
+        let happened = self.copies[model].react_copied(moment, work, component, visit)?;
         if happened.is_some() {
             self.order.push_reserved(model);
         }

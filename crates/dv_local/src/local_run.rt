@@ -84,7 +84,7 @@ impl<A: Atomic + Drop, R: Record> Local for LocalRun<A, R> {
     }
 
     fn react(&mut self, work: &mut A::Work, now: Time) -> Result<(), AllocError> {
-        self.state.react(work, now)
+        self.state.react_components(work, now)
     }
 
     fn emit(&mut self, work: &mut A::Work, now: Time) -> Result<(), AllocError> {

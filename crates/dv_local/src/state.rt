@@ -273,7 +273,7 @@ impl<A: Atomic, R: Record> LocalState<A, R> {
     /// # Errors
     ///
     /// No memory. `roll_back` is to be called.
-    pub fn react(&mut self, work: &mut A::Work, now: Time) -> Result<(), AllocError>
+    pub fn react_components(&mut self, work: &mut A::Work, now: Time) -> Result<(), AllocError>
         requires kept { IsKept A.behaviour A.fits A.comes self.old }
         requires settled { settled_by A.behaviour R.settled self.old
             ≡ view_by A.behaviour R.told self.old }

@@ -26,9 +26,9 @@ returns-in_default-clause-agenda g c =
     let es = c.args.moment.now.emitted.now in
     let x = c.args.visit.now.arrival.now in
     let rs = c.args.components.now.running in
-    let ss = c.react.new.self.running in
+    let ss = c.react_visited.new.self.running in
     let old = c.args.before.now in
-    let new = c.react.new.former in
+    let new = c.react_visited.new.former in
     let reacts : ReactsAt b fits t now es x rs ss old new None =
     subst (λ (h : Option Happened). ReactsAt b fits t now es x rs ss old new h) c.in_default.is
     (subst (λ (us : List Running). ReactsAt b fits t now es x us ss old new c.in_ok-happened.field-0) c.visit.ensures.components
@@ -44,9 +44,9 @@ returns-in_default-clause-before g c =
     let es = c.args.moment.now.emitted.now in
     let x = c.args.visit.now.arrival.now in
     let rs = c.args.components.now.running in
-    let ss = c.react.new.self.running in
+    let ss = c.react_visited.new.self.running in
     let old = c.args.before.now in
-    let new = c.react.new.former in
+    let new = c.react_visited.new.former in
     let reacts : ReactsAt b fits t now es x rs ss old new None =
     subst (λ (h : Option Happened). ReactsAt b fits t now es x rs ss old new h) c.in_default.is
     (subst (λ (us : List Running). ReactsAt b fits t now es x us ss old new c.in_ok-happened.field-0) c.visit.ensures.components
@@ -62,17 +62,17 @@ returns-in-Err-clause-components g c =
     let es = c.args.moment.now.emitted.now in
     let x = c.args.visit.now.arrival.now in
     let rs = c.args.components.now.running in
-    let ss = c.react.new.self.running in
+    let ss = c.react_visited.new.self.running in
     let old = c.args.before.now in
-    let new = c.react.new.former in
+    let new = c.react_visited.new.former in
     let reacts : ReactsAt b fits t now es x rs ss old new (Some c.in-Some.happened) =
     subst (λ (h : Option Happened). ReactsAt b fits t now es x rs ss old new h) c.in-Some.is
     (subst (λ (us : List Running). ReactsAt b fits t now es x us ss old new c.in_ok-happened.field-0) c.visit.ensures.components
     c.in_ok-happened.ensures.reacted) in
-    let at : c.react.new.self.visited ≡ x.index = c.react.ensures.visited ∙ c.visit.ensures.visited in
+    let at : c.react_visited.new.self.visited ≡ x.index = c.react_visited.ensures.visited ∙ c.visit.ensures.visited in
     let back = c.take_back.ensures.back old (record { index = x.index; what = reacts.before }) reacts.former in
     let same : c.take_back.new.components.running ≡ rs =
-    back.1 ∙ taken_back b fits t now es x rs ss old new (Some c.in-Some.happened) reacts c.react.new.self.visited at in
+    back.1 ∙ taken_back b fits t now es x rs ss old new (Some c.in-Some.happened) reacts c.react_visited.new.self.visited at in
     subst (AreComponents fits t) (sym same) c.requires.components
 
 pub returns-in-Err-clause-agenda : goal.returns-in-Err-clause-agenda
@@ -84,17 +84,17 @@ returns-in-Err-clause-agenda g c =
     let es = c.args.moment.now.emitted.now in
     let x = c.args.visit.now.arrival.now in
     let rs = c.args.components.now.running in
-    let ss = c.react.new.self.running in
+    let ss = c.react_visited.new.self.running in
     let old = c.args.before.now in
-    let new = c.react.new.former in
+    let new = c.react_visited.new.former in
     let reacts : ReactsAt b fits t now es x rs ss old new (Some c.in-Some.happened) =
     subst (λ (h : Option Happened). ReactsAt b fits t now es x rs ss old new h) c.in-Some.is
     (subst (λ (us : List Running). ReactsAt b fits t now es x us ss old new c.in_ok-happened.field-0) c.visit.ensures.components
     c.in_ok-happened.ensures.reacted) in
-    let at : c.react.new.self.visited ≡ x.index = c.react.ensures.visited ∙ c.visit.ensures.visited in
+    let at : c.react_visited.new.self.visited ≡ x.index = c.react_visited.ensures.visited ∙ c.visit.ensures.visited in
     let back = c.take_back.ensures.back old (record { index = x.index; what = reacts.before }) reacts.former in
     let same : c.take_back.new.components.running ≡ rs =
-    back.1 ∙ taken_back b fits t now es x rs ss old new (Some c.in-Some.happened) reacts c.react.new.self.visited at in
+    back.1 ∙ taken_back b fits t now es x rs ss old new (Some c.in-Some.happened) reacts c.react_visited.new.self.visited at in
     c.requires.agenda ∙ ap (λ (us : List Running). waits_of us) (sym same)
 
 pub returns-in-Err-clause-before : goal.returns-in-Err-clause-before
@@ -106,17 +106,17 @@ returns-in-Err-clause-before g c =
     let es = c.args.moment.now.emitted.now in
     let x = c.args.visit.now.arrival.now in
     let rs = c.args.components.now.running in
-    let ss = c.react.new.self.running in
+    let ss = c.react_visited.new.self.running in
     let old = c.args.before.now in
-    let new = c.react.new.former in
+    let new = c.react_visited.new.former in
     let reacts : ReactsAt b fits t now es x rs ss old new (Some c.in-Some.happened) =
     subst (λ (h : Option Happened). ReactsAt b fits t now es x rs ss old new h) c.in-Some.is
     (subst (λ (us : List Running). ReactsAt b fits t now es x us ss old new c.in_ok-happened.field-0) c.visit.ensures.components
     c.in_ok-happened.ensures.reacted) in
-    let at : c.react.new.self.visited ≡ x.index = c.react.ensures.visited ∙ c.visit.ensures.visited in
+    let at : c.react_visited.new.self.visited ≡ x.index = c.react_visited.ensures.visited ∙ c.visit.ensures.visited in
     let back = c.take_back.ensures.back old (record { index = x.index; what = reacts.before }) reacts.former in
     let same : c.take_back.new.components.running ≡ rs =
-    back.1 ∙ taken_back b fits t now es x rs ss old new (Some c.in-Some.happened) reacts c.react.new.self.visited at in
+    back.1 ∙ taken_back b fits t now es x rs ss old new (Some c.in-Some.happened) reacts c.react_visited.new.self.visited at in
     ap₂ (λ (ys : List (Indexed Running)) (us : List Running). undone ys us) back.0 same
 
 pub returns-in-Ok-clause-reacted : goal.returns-in-Ok-clause-reacted
@@ -128,16 +128,17 @@ returns-in-Ok-clause-reacted g c =
     let es = c.args.moment.now.emitted.now in
     let x = c.args.visit.now.arrival.now in
     let rs = c.args.components.now.running in
-    let ss = c.react.new.self.running in
+    let ss = c.react_visited.new.self.running in
     let old = c.args.before.now in
-    let new = c.react.new.former in
+    let new = c.react_visited.new.former in
     let reacts : ReactsAt b fits t now es x rs ss old new (Some c.in-Some.happened) =
     subst (λ (h : Option Happened). ReactsAt b fits t now es x rs ss old new h) c.in-Some.is
     (subst (λ (us : List Running). ReactsAt b fits t now es x us ss old new c.in_ok-happened.field-0) c.visit.ensures.components
     c.in_ok-happened.ensures.reacted) in
-    let at : c.react.new.self.visited ≡ x.index = c.react.ensures.visited ∙ c.visit.ensures.visited in
+    let at : c.react_visited.new.self.visited ≡ x.index = c.react_visited.ensures.visited ∙ c.visit.ensures.visited in
     let stands : c.visited-component.result.now ≡ reacts.after =
-    stands_there b fits t now es x rs ss old new (Some c.in-Some.happened) reacts c.react.new.self.visited c.visited-component.result.now at c.visited-component.ensures in
+    stands_there b fits t now es x rs ss old new (Some c.in-Some.happened) reacts
+    c.react_visited.new.self.visited c.visited-component.result.now at c.visited-component.ensures in
     let given = given_at x.index es in
     let k = number_of (slice_get t.members.items x.index) in
     record {
@@ -162,9 +163,9 @@ returns-in-Ok-clause-components g c =
     let es = c.args.moment.now.emitted.now in
     let x = c.args.visit.now.arrival.now in
     let rs = c.args.components.now.running in
-    let ss = c.react.new.self.running in
+    let ss = c.react_visited.new.self.running in
     let old = c.args.before.now in
-    let new = c.react.new.former in
+    let new = c.react_visited.new.former in
     let reacts : ReactsAt b fits t now es x rs ss old new (Some c.in-Some.happened) =
     subst (λ (h : Option Happened). ReactsAt b fits t now es x rs ss old new h) c.in-Some.is
     (subst (λ (us : List Running). ReactsAt b fits t now es x us ss old new c.in_ok-happened.field-0) c.visit.ensures.components
@@ -180,16 +181,17 @@ returns-in-Ok-clause-agenda g c =
     let es = c.args.moment.now.emitted.now in
     let x = c.args.visit.now.arrival.now in
     let rs = c.args.components.now.running in
-    let ss = c.react.new.self.running in
+    let ss = c.react_visited.new.self.running in
     let old = c.args.before.now in
-    let new = c.react.new.former in
+    let new = c.react_visited.new.former in
     let reacts : ReactsAt b fits t now es x rs ss old new (Some c.in-Some.happened) =
     subst (λ (h : Option Happened). ReactsAt b fits t now es x rs ss old new h) c.in-Some.is
     (subst (λ (us : List Running). ReactsAt b fits t now es x us ss old new c.in_ok-happened.field-0) c.visit.ensures.components
     c.in_ok-happened.ensures.reacted) in
-    let at : c.react.new.self.visited ≡ x.index = c.react.ensures.visited ∙ c.visit.ensures.visited in
+    let at : c.react_visited.new.self.visited ≡ x.index = c.react_visited.ensures.visited ∙ c.visit.ensures.visited in
     let stands : c.visited-component.result.now ≡ reacts.after =
-    stands_there b fits t now es x rs ss old new (Some c.in-Some.happened) reacts c.react.new.self.visited c.visited-component.result.now at c.visited-component.ensures in
+    stands_there b fits t now es x rs ss old new (Some c.in-Some.happened) reacts
+    c.react_visited.new.self.visited c.visited-component.result.now at c.visited-component.ensures in
     c.set.ensures
     ∙ ap (λ (ws : List (Option Time)). slice_set ws x.index c.time_of-time.result) c.requires.agenda
     ∙ ap (λ (w : Option Time). slice_set (waits_of rs) x.index w)
@@ -205,9 +207,9 @@ returns-in-Ok-clause-within g c =
     let es = c.args.moment.now.emitted.now in
     let x = c.args.visit.now.arrival.now in
     let rs = c.args.components.now.running in
-    let ss = c.react.new.self.running in
+    let ss = c.react_visited.new.self.running in
     let old = c.args.before.now in
-    let new = c.react.new.former in
+    let new = c.react_visited.new.former in
     let reacts : ReactsAt b fits t now es x rs ss old new (Some c.in-Some.happened) =
     subst (λ (h : Option Happened). ReactsAt b fits t now es x rs ss old new h) c.in-Some.is
     (subst (λ (us : List Running). ReactsAt b fits t now es x us ss old new c.in_ok-happened.field-0) c.visit.ensures.components
@@ -223,9 +225,9 @@ returns-in-Ok-clause-before g c =
     let es = c.args.moment.now.emitted.now in
     let x = c.args.visit.now.arrival.now in
     let rs = c.args.components.now.running in
-    let ss = c.react.new.self.running in
+    let ss = c.react_visited.new.self.running in
     let old = c.args.before.now in
-    let new = c.react.new.former in
+    let new = c.react_visited.new.former in
     let reacts : ReactsAt b fits t now es x rs ss old new (Some c.in-Some.happened) =
     subst (λ (h : Option Happened). ReactsAt b fits t now es x rs ss old new h) c.in-Some.is
     (subst (λ (us : List Running). ReactsAt b fits t now es x us ss old new c.in_ok-happened.field-0) c.visit.ensures.components

@@ -11,5 +11,6 @@ returns-clause-visits g c =
     let b = g.A.Atomic.behaviour in
     let told = g.R.Record.told in
     subst (λ (y : LocalState _ _).
-    OnOk c.react.result (CountsInstant (rank y.share.tables.limit c.args.now) (view_by b told y) (view_by b told c.react.new.self)))
-    c.self.view_is c.react.ensures.visits
+    OnOk c.react_components.result
+    (CountsInstant (rank y.share.tables.limit c.args.now) (view_by b told y) (view_by b told c.react_components.new.self)))
+    c.self.view_is c.react_components.ensures.visits

@@ -29,7 +29,7 @@ use Rattle.dv_local.specs.States.{held_by, imminent_of, view_by}
 use Rattle.dv_local.proofs.Accesses.{instant_counted, reacted_few, receiving_found}
 use Rattle.dv_local.proofs.Visited.{received_few}
 use Rattle.dv_local.proofs.TakesIndex.{input_is, took_index}
-use Rattle.dv_local.proofs.state.LocalState.react.Goals as goal
+use Rattle.dv_local.proofs.state.LocalState.react_components.Goals as goal
 
 pub returns-clause-reacted : goal.returns-clause-reacted
 returns-clause-reacted g c =

@@ -8,8 +8,8 @@ use Rattle.dv_share.specs.declared.index.Indexed.{Indexed}
 use Rattle.dv_local.specs.Orders.{AreCounted, in_order}
 use Rattle.dv_local.specs.Reacting.{former_of}
 use Rattle.dv_local.proofs.Orders.{IsPushed, pushed}
-use Rattle.dv_local.proofs.former.Former.react.Given.{Over}
-use Rattle.dv_local.proofs.former.Former.react.Goals as goal
+use Rattle.dv_local.proofs.former.Former.react_logged.Given.{Over}
+use Rattle.dv_local.proofs.former.Former.react_logged.Goals as goal
 
 one_former : (p : ℕ) (r : Running) (h : Option Happened)
     → is_some h ≡ true → former_of p r h ≡ (record { index = p; what = r }) ∷ []
@@ -42,8 +42,8 @@ module _ (g : Over) (c : goal.After-push_reserved g) where
   at = get_or_default lists n [] c.index_mut.result.now within ∙ sym c.index_mut.ensures.value
 
   -- what the component was lies behind the others of its model
-  pushed_here : IsPushed c.self.inside.order.items lists n c.react.new.self copy
-  pushed_here = pushed c.self.inside.order.items lists n c.index_mut.result.now c.react.new.self copy within c.self.invariant.1 at
+  pushed_here : IsPushed c.self.inside.order.items lists n c.react_copied.new.self copy
+  pushed_here = pushed c.self.inside.order.items lists n c.index_mut.result.now c.react_copied.new.self copy within c.self.invariant.1 at
       (c.in_ok-happened.ensures.copies ∙ ap (λ (l : List (Indexed Running)). c.index_mut.result.now ++ l) one)
 
   order : c.push_reserved.new.self.items ≡ c.self.inside.order.items ++ n ∷ []
@@ -51,14 +51,14 @@ module _ (g : Over) (c : goal.After-push_reserved g) where
 
 pub invariant_of-self-then-is_some : goal.invariant_of-self-then-is_some
 invariant_of-self-then-is_some g c =
-    let after = set (lists g c) (n g c) c.react.new.self in
+    let after = set (lists g c) (n g c) c.react_copied.new.self in
     let here = pushed_here g c in
     (here.some, subst (λ (o : List ℕ). AreCounted o after) (sym (order g c)) here.counted)
 
 pub returns-then-is_some-clause-former : goal.returns-then-is_some-clause-former
 returns-then-is_some-clause-former g c =
     let former = former_of c.args.visit.now.arrival.now.index c.args.component.now c.in_ok-happened.happened in
-    ap (λ (o : List ℕ). in_order o (set (lists g c) (n g c) c.react.new.self)) (order g c)
+    ap (λ (o : List ℕ). in_order o (set (lists g c) (n g c) c.react_copied.new.self)) (order g c)
     ∙ (pushed_here g c).items
     ∙ ap (λ (l : List (Indexed Running)). in_order c.self.inside.order.items (lists g c) ++ l) (sym (one g c))
     ∙ ap (λ (l : List (Indexed Running)). l ++ former) c.self.view_is
