@@ -14,7 +14,7 @@ ghost use Rattle.dv_local.specs.Reacting.{former_of};
 use crate::moment::Moment;
 use dv_bag::{State, Variables};
 use dv_react::{Atomic, Happened, Running, Wait};
-use dv_share::{Indexed, Visit, react};
+use dv_share::{Indexed, Visit, react_member};
 use std::alloc::{AllocError, Global};
 use std::marker::Model;
 
@@ -113,7 +113,7 @@ impl Copies {
     {
         make_room(self.alloc, &mut self.items, self.count)?;
         let copy = &mut self.items[self.count];
-        let happened = react(
+        let happened = react_member(
             moment.tables,
             work,
             moment.instant,

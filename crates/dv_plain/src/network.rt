@@ -88,7 +88,7 @@ fn emit_all(
 
 // Lets a component react at an instant to what it receives, and returns what happens to it. `fault`
 // is that of its output function, if it had one.
-fn react(
+fn react_atom(
     alloc: Global,
     atom: &Atom,
     instant: &Instant,
@@ -111,7 +111,7 @@ fn react(
 {
     let mut work = alloc;
     let mut before = empty_component(alloc);
-    let happened = dv_react::react(
+    let happened = dv_react::react_component(
         atom,
         &mut work,
         instant,
@@ -203,7 +203,7 @@ fn react_all(
     for k in 0..tree.component_count() {
         let atom = Atom::of(tree, k);
         let fault = emitted.faults[k];
-        let happened = react(
+        let happened = react_atom(
             alloc,
             &atom,
             instant,

@@ -3,7 +3,7 @@
 //!
 //! `Atomic` is the trait of such code: output, the three kinds of transition, and the hold.
 //! `Running` is a component of a run: its state, the tick of its last transition, and when its hold
-//! ends. `react` finds which transition takes place, makes it, and returns what happened.
+//! ends. `react_component` finds which transition takes place, makes it, and returns what happened.
 //! This is the reaction of `dv_devs` for the behaviour of the code, also in which fault comes first
 //! if there are several.
 //!
@@ -46,6 +46,6 @@ pub use atomic::Atomic;
 pub use happened::Happened;
 pub use instant::Instant;
 pub use leaving::commit_outer;
-pub use reaction::react;
+pub use reaction::react_component;
 pub use running::Running;
 pub use wait::{Hold, Wait};

@@ -23,7 +23,7 @@ use std::alloc::AllocError;
 /// # Errors
 ///
 /// No memory for a state. The component is unchanged, and `before` is unspecified.
-pub fn react<A: Atomic>(
+pub fn react_member<A: Atomic>(
     tables: &Tables<A>,
     work: &mut A::Work,
     instant: &Instant,
@@ -58,7 +58,7 @@ pub fn react<A: Atomic>(
     let member = &tables.members[visit.arrival.index as usize];
     let atomic = &tables.models[member.model as usize];
     let fault = fault_at(emitted, visit.cursor, visit.arrival.index);
-    dv_react::react(
+    dv_react::react_component(
         atomic,
         work,
         instant,

@@ -37,8 +37,8 @@ index-fault-requires c =
       c.component_count-k-end.ensures.value,
     )
 
-pub react-requires-clause-fault : goal.react-requires-clause-fault
-react-requires-clause-fault c =
+pub react_atom-requires-clause-fault : goal.react_atom-requires-clause-fault
+react_atom-requires-clause-fault c =
     let is = instances (file_of c.args.tree.now.file) in
     let limit = c.args.instant.now.limit in
     let now = rank_of c.args.instant.now in
@@ -112,10 +112,10 @@ loop-k-preserved c =
     c.take.ensures.result ∙ same_at left sent k [] within_left within_sent c.loop-k.invariant.sent
     ∙ sym (given-at sent_of limit is now first k m r sent [] c.of-atom.ensures within_first same.0 c.requires.sent) in
     record {
-      waits = waits-turn limit xs k c.react.new.component c.loop-k.invariant.waits c.in_ok-happened.ensures.wait;
-      rest = rest-turn xs first k c.react.new.component same.1;
+      waits = waits-turn limit xs k c.react_atom.new.component c.loop-k.invariant.waits c.in_ok-happened.ensures.wait;
+      rest = rest-turn xs first k c.react_atom.new.component same.1;
       components =
-          components-turn limit xs k c.react.new.component happened (reactions_from limit is now first received k)
+          components-turn limit xs k c.react_atom.new.component happened (reactions_from limit is now first received k)
           (reactions_from limit is now first received (k + 1))
           (map (λ (q : Reaction). q.component) (reactions_from limit is now first received 0)) within
           (sym (ap (λ (q : Reaction). q.component) c.in_ok-happened.ensures.reaction)) step c.loop-k.invariant.components;

@@ -5,7 +5,7 @@ use Rattle.dv_react.specs.Components.{component_of, rank_of}
 use Rattle.dv_react.specs.Outcomes.{fault_of}
 use Rattle.dv_share.specs.Share.{behaviour_of}
 use Rattle.dv_share.specs.declared.tables.Member.{Member}
-use Rattle.dv_share.proofs.reaction.react.Goals as goal
+use Rattle.dv_share.proofs.reaction.react_member.Goals as goal
 
 -- three facts of what is answered make a fourth
 joined : {X E : Type 0} (P Q R T : X → Type 0) (r : Result X E) → IfOk r P → IfOk r Q → IfOk r R → ((x : X) → P x → Q x → R x → T x)
@@ -13,8 +13,8 @@ joined : {X E : Type 0} (P Q R T : X → Type 0) (r : Result X E) → IfOk r P �
 joined P Q R T (Ok x) p q s f = f x p q s
 joined P Q R T (Err e) p q s f = tt
 
-pub react-requires-clause-fault : goal.react-requires-clause-fault
-react-requires-clause-fault g c =
+pub react_component-requires-clause-fault : goal.react_component-requires-clause-fault
+react_component-requires-clause-fault g c =
     let b = g.A.Atomic.behaviour in
     let t = c.args.tables.now in
     let now = rank_of c.args.instant.now in
