@@ -1,4 +1,4 @@
--- What a run by workers is made of.
+-- The parts of a run by workers.
 use Rattle.std.specs.Prelude.{◌≡◌, ◌<◌, length}
 use Rattle.std.specs.List.{All}
 use Rattle.dv_bag.specs.Part.{nothing}
@@ -8,7 +8,7 @@ use Rattle.dv_core.specs.Worlds.{AreMadeFor}
 use Rattle.dv_record.specs.Told.{Handed}
 use Rattle.dv_work.specs.declared.crew.Crew.{Crew}
 
--- It is made for a job: of new processes, which have handed over nothing, with the channels between them; some worker is there, and
+-- A crew is for a job: its processes are new and have handed over nothing, its channels are those of the job, there is a worker, and
 -- each link has room.
 pub record IsCrewFor {P K : Type 0} (job : Job) (state : P → ProcessState) (handed : P → Handed) (IsValid : P → Type 0)
     (crew : Crew P K) : Type 0 where

@@ -1,4 +1,4 @@
--- How a run ends, by why its workers ended.
+-- How a run by workers ends, by why its workers ended.
 use Rattle.std.specs.Prelude.{◌≡◌, ◌↔◌, ℕ, Bool, true, false, IsTrue, List, [], ◌∷◌, slice_get, Option, Some, None}
 use Rattle.std.specs.List.{list_any}
 use Rattle.dv_board.specs.declared.posts.Piece.{Piece}
@@ -10,7 +10,7 @@ use Rattle.dv_work.specs.declared.worker.Halt.{Halt}
 use Rattle.dv_work.specs.declared.worker.Halt.TheVariants as halt
 
 module _ {C : Type 0} where
-  -- whether a worker ended for want of memory
+  -- whether a worker ended out of memory
   abbrev pub lacks_memory : Option (Halt C) → Bool
   lacks_memory None = false
   lacks_memory (Some halt.Flag) = false
@@ -26,7 +26,7 @@ module _ {C : Type 0} where
   cause_of (Some halt.Memory) = None
   cause_of (Some (halt.Cause c)) = Some c
 
-  -- the first one that is there
+  -- the first of two options that is there
   abbrev pub first_of : Option C → Option C → Option C
   first_of None other = other
   first_of (Some c) other = Some c
@@ -36,9 +36,9 @@ module _ {C : Type 0} where
   first_cause [] = None
   first_cause (h ∷ hs) = first_of (cause_of h) (first_cause hs)
 
-  -- Whole where every clock is at the end; else for want of memory where a worker lacked it; else stopped by the gate where there is a
-  -- cause of it; else cancelled where the caller's flag was raised. What else keeps a clock from the end counts as want of memory, as
-  -- a worker without a thread does.
+  -- Whole if every clock is at the end; else out of memory if a worker was; else stopped by the gate if there is a cause; else
+  -- cancelled if the caller's flag was raised. Anything else that keeps a clock from the end counts as out of memory, as a worker
+  -- without a thread does.
   abbrev pub ended_by : (is_whole memory : Bool) → Option C → (is_stopped : Bool) → Ended C
   ended_by true memory cause is_stopped = ended.Whole
   ended_by false true cause is_stopped = ended.Memory
@@ -46,11 +46,11 @@ module _ {C : Type 0} where
   ended_by false false None true = ended.Cancelled
   ended_by false false None false = ended.Memory
 
-  -- how a run ended whose workers ended so, in the order in which they are listed
+  -- how a run ended whose workers ended like this, by their numbers
   abbrev pub ended_of : (is_whole : Bool) → List (Option (Halt C)) → (is_stopped : Bool) → Ended C
   ended_of is_whole halts is_stopped = ended_by is_whole (list_any lacks_memory halts) (first_cause halts) is_stopped
 
--- The run of a job ended so: it is whole exactly where every clock is at the end.
+-- The run of a job ended like this: it is whole exactly if every clock is at the end.
 pub record EndsFor {N C : Type 0} (job : Job) (halts : List (Option (Halt C))) (is_stopped : Bool) (rest : List (Piece N))
     (ended : Ended C) : Type 0 where
   pub is_whole : Bool

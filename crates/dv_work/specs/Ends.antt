@@ -1,4 +1,4 @@
--- The ends of links that a process has, and which packets went through them.
+-- The ends of links that a process has, and the packets that went through them.
 use Rattle.std.specs.Prelude.{◌≡◌, List, [], ◌∷◌, ◌++◌, Option, Some, None, slice_get}
 use Rattle.dv_conservative.specs.Process.{Packet}
 use Rattle.dv_proc.specs.Packets.{meant_packet, meant_packets}
@@ -12,14 +12,14 @@ abbrev pub packets_held : Option PacketOfCode → List Packet
 packets_held None = []
 packets_held (Some p) = meant_packet p ∷ []
 
--- what the process has given to the end: what was put, and what is held
+-- the packets that the process gave to an end: those that were put, and the held one
 abbrev pub given : Out → List Packet
 given o = meant_packets (sender o.pass).put ++ packets_held o.held
 
 abbrev pub taken : In → List Packet
 taken e = meant_packets (receiver e.pass).taken
 
--- it is the end of the link of its number
+-- an end is that of the link of its number
 pub record IsOut {N : Type 0} (links : List (Link N)) (o : Out) : Type 0 where
   pub at : Link N
   pub is_at : slice_get links o.number ≡ Some at

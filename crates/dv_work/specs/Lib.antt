@@ -3,7 +3,7 @@ pub mod Ends
 pub mod Seats
 -- The processes of one worker, and what it leaves.
 pub mod Workers
--- What a run by workers is made of.
+-- The parts of a run by workers.
 pub mod Crews
 -- Processes as they get the ends of their links.
 pub mod Making

@@ -20,7 +20,7 @@ use Rattle.dv_work.specs.declared.seat.Seat.{Seat}
 abbrev pub no_links : {N : Type 0} → List (Link N)
 no_links = []
 
--- For each share of a job, a new and valid process that has one which runs alike, and of which nothing was moved out.
+-- The processes of a job are new and valid, the share of each runs as the job's, and nothing was moved out of them.
 pub record AreNew {P : Type 0} (job : Job) (state : P → ProcessState) (handed : P → Handed) (IsValid : P → Type 0) (processes : List P)
     : Type 0 where
   pub valid : AllValid IsValid processes
@@ -46,7 +46,7 @@ pub record AreSeated {N P : Type 0} (job : Job) (state : P → ProcessState) (ha
   pub numbers : (p : ℕ) (s : Seat P) → slice_get seats p ≡ Some s → s.number ≡ p
   pub each : (p : ℕ) (s : Seat P) → slice_get seats p ≡ Some s → IsSeat job state handed IsValid links outs_below ins_below s
 
--- the ends of a link that has carried nothing
+-- the two ends of a link that has carried nothing
 pub record IsNewOut {N : Type 0} (job : Job) (links : List (Link N)) (p : ℕ) (o : Out) : Type 0 where
   pub end : IsOut links o
   pub channel : Channel
@@ -59,8 +59,7 @@ pub record IsNewIn {N : Type 0} (job : Job) (links : List (Link N)) (e : In) : T
   pub channel : IsLinkOf job e.number
   pub none : taken e ≡ []
 
--- an end names the worker of the process to which its link leads, or from which it comes, where process p is that of worker p mod
--- `workers`
+-- an end names the worker of the process at the other end: process p belongs to worker p mod `workers`
 pub record NamesReceiver (job : Job) (workers : ℕ) (o : Out) : Type 0 where
   pub channel : Channel
   pub there : slice_get job.channels o.number ≡ Some channel
@@ -71,7 +70,7 @@ pub record NamesSender (job : Job) (workers : ℕ) (e : In) : Type 0 where
   pub there : slice_get job.channels e.number ≡ Some channel
   pub sender : e.sender ≡ channel.source % workers
 
--- so does each end of a process
+-- each end of a process does
 pub record NamesWorkers {P : Type 0} (job : Job) (workers : ℕ) (s : Seat P) : Type 0 where
   pub outs : (i : ℕ) (o : Out) → slice_get s.outs.items i ≡ Some o → NamesReceiver job workers o
   pub ins : (i : ℕ) (e : In) → slice_get s.ins.items i ≡ Some e → NamesSender job workers e

@@ -4,7 +4,7 @@ use Rattle.dv_board.specs.Posts.{IsPiece}
 use Rattle.dv_board.specs.declared.posts.Piece.{Piece}
 use Rattle.dv_conservative.specs.World.{Job}
 
--- By the numbers of the processes of a job: what each committed and did not post, to its clock.
+-- What each process of a job committed and did not post, up to its clock, by the number of the process.
 pub record AreReached {N : Type 0} (job : Job) (rest : List (Piece N)) : Type 0 where
   pub count : length rest ≡ job.processes
   pub numbers : (p : ℕ) (x : Piece N) → slice_get rest p ≡ Some x → x.process ≡ p

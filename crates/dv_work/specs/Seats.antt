@@ -22,8 +22,8 @@ use Rattle.dv_work.specs.declared.seat.In.{In}
 use Rattle.dv_work.specs.declared.seat.Out.{Out}
 use Rattle.dv_work.specs.declared.seat.Seat.{Seat}
 
--- A process of a job that was fed truly: its share runs as the job's, it has committed what its local run has, all that it received
--- is true, and its clock passes no channel clock and not the end.
+-- A process of a job received only true packets. Its share runs as the job's, it has committed what its local run has, and its clock
+-- is not past a channel clock or the end.
 pub record IsFedTruly (job : Job) (p : ℕ) (x : ProcessState) : Type 0 where
   pub fits : ℕ → State → Bool
   pub sound : IsJob fits job
@@ -34,19 +34,18 @@ pub record IsFedTruly (job : Job) (p : ℕ) (x : ProcessState) : Type 0 where
   pub heard : rank job.limit x.position.clock ≤ least_clock (share_of job p) x.received
   pub within : IsWithin (share_of job p) x.position.clock
 
--- all packets that were prepared for a link: those that were given to its end, and the one that stands
+-- all packets that were prepared for a link: those that its end got, and the one that is left
 abbrev pub prepared : ProcessState → Out → List Packet
 prepared x o = given o ++ packets_in (x.position.standing o.number)
 
--- the packet that an end gets next is a null message, and none is held: it has no events, and tells only that none come before its
--- end
+-- the next packet for an end is a null message, and no packet is held
 pub record HasNull (x : ProcessState) (o : Out) : Type 0 where
   pub free : o.held ≡ None
   pub packet : Packet
   pub stands : x.position.standing o.number ≡ Some packet
   pub silent : packet.events ≡ []
 
--- what a process prepares for a link that leads away from it is true, and joins
+-- what a process prepares for a link that leads away from it is true, and each window begins where the one before it ends
 pub record Gives (job : Job) (p : ℕ) (x : ProcessState) (o : Out) : Type 0 where
   pub channel : Channel
   pub there : slice_get job.channels o.number ≡ Some channel
@@ -58,11 +57,11 @@ pub record Gives (job : Job) (p : ℕ) (x : ProcessState) (o : Out) : Type 0 whe
 abbrev pub HasTold : ProcessState → Out → Type 0
 HasTold x o = o.held ≡ None → x.position.standing o.number ≡ None
 
--- so it is at so many of its ends, from the first on
+-- this holds of the first n ends of a process
 abbrev pub HasToldAtFirst : {P : Type 0} → (P → ProcessState) → ℕ → Seat P → Type 0
 HasToldAtFirst state n s = (i : ℕ) (o : Out) → i < n → slice_get s.outs.items i ≡ Some o → HasTold (state s.process) o
 
--- so it is at all of them
+-- this holds of all ends of a process
 abbrev pub HasToldAll : {P : Type 0} → (P → ProcessState) → Seat P → Type 0
 HasToldAll state s = HasToldAtFirst state (length s.outs.items) s
 
@@ -70,15 +69,15 @@ HasToldAll state s = HasToldAtFirst state (length s.outs.items) s
 abbrev pub holds_packet : Out → Bool
 holds_packet o = is_some o.held
 
--- whether a packet stands for the link of an end
+-- whether a packet is prepared, and not put, for the link of an end
 abbrev pub stands_in : ProcessState → Out → Bool
 stands_in x o = is_some (x.position.standing o.number)
 
--- no end of a process holds one
+-- no end of a process holds a packet
 abbrev pub HoldsNone : {P : Type 0} → Seat P → Type 0
 HoldsNone s = list_any holds_packet s.outs.items ≡ false
 
--- the end of the same link, which was at that index, held a packet
+-- the end at an index held a packet, and was of the same link
 pub record HeldAt {P : Type 0} (before : Seat P) (index : ℕ) (o : Out) : Type 0 where
   pub end : Out
   pub there : slice_get before.outs.items index ≡ Some end
@@ -95,17 +94,17 @@ IsNull p = p.events ≡ []
 abbrev pub HasEvents : Packet → Type 0
 HasEvents p = p.events ≢ []
 
--- No packet of a kind is kept back at an index: where one stands afterwards, the end there held a packet before.
+-- No packet of a kind is kept back at an index: if one is left afterwards, the end there held a packet before.
 abbrev pub KeepsNoneBackAt : {P : Type 0} → (Packet → Type 0) → (P → ProcessState) → ℕ → (before after : Seat P) → Type 0
 KeepsNoneBackAt IsOfKind state index before after =
     (o : Out) (p : Packet) → slice_get after.outs.items index ≡ Some o → (state after.process).position.standing o.number ≡ Some p
     → IsOfKind p → HeldAt before index o
 
--- nor at any index
+-- none is kept back at any index
 abbrev pub KeepsNoneBack : {P : Type 0} → (Packet → Type 0) → (P → ProcessState) → (before after : Seat P) → Type 0
 KeepsNoneBack IsOfKind state before after = (i : ℕ) → KeepsNoneBackAt IsOfKind state i before after
 
--- so it is of each of several processes
+-- this holds of each of several processes
 abbrev pub EachKeepsNoneBack : {P : Type 0} → (Packet → Type 0) → (P → ProcessState) → (before after : List (Seat P)) → Type 0
 EachKeepsNoneBack {P} IsOfKind state before after =
     (k : ℕ) (s t : Seat P) → slice_get before k ≡ Some s → slice_get after k ≡ Some t → KeepsNoneBack IsOfKind state s t
@@ -114,7 +113,7 @@ EachKeepsNoneBack {P} IsOfKind state before after =
 abbrev pub OthersStay : {P : Type 0} → ℕ → (before after : Seat P) → Type 0
 OthersStay index before after = (i : ℕ) → nat_eq i index ≡ false → slice_get after.outs.items i ≡ slice_get before.outs.items i
 
--- no packet stands for a link that did not stand for it before
+-- each packet that is prepared for a link afterwards was so before
 abbrev pub NoneIsNew : (before after : ProcessState) → Type 0
 NoneIsNew before after =
     (l : ℕ) (p : Packet) → after.position.standing l ≡ Some p → before.position.standing l ≡ Some p
@@ -125,7 +124,7 @@ pub record AreOuts {N : Type 0} (job : Job) (links : List (Link N)) (p : ℕ) (x
   pub gives : (i : ℕ) (o : Out) → slice_get outs i ≡ Some o → Gives job p x o
   pub apart : (i j : ℕ) (o q : Out) → slice_get outs i ≡ Some o → slice_get outs j ≡ Some q → o.number ≡ q.number → i ≡ j
 
--- the ends of links that lead here, no two of one link: the process received what was taken
+-- the ends of links that lead to a process, no two of one link: the process received what was taken
 pub record AreIns {N : Type 0} (job : Job) (links : List (Link N)) (x : ProcessState) (ins : List In) : Type 0 where
   pub ends : (i : ℕ) (e : In) → slice_get ins i ≡ Some e → IsIn links e
   pub channels : (i : ℕ) (e : In) → slice_get ins i ≡ Some e → IsLinkOf job e.number

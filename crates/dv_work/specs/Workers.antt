@@ -19,10 +19,10 @@ pub record Reported {P C : Type 0} (job : Job) (state : P → ProcessState) (han
     : Type 0 where
   pub reports : All (Reports job state handed IsValid) w.seats.items
 
--- each process of a worker has a number that is that of the worker mod so many
+-- the processes of a worker have its number, mod the number of workers
 abbrev pub AreOfWorker : {P : Type 0} → (workers worker : ℕ) → List (Seat P) → Type 0
 AreOfWorker {P} workers worker seats = (i : ℕ) (s : Seat P) → slice_get seats i ≡ Some s → s.number % workers ≡ worker
 
--- so it is with all workers
+-- this holds of each worker
 abbrev pub AreByWorker : {P : Type 0} → (workers : ℕ) → List (Vec (Seat P) Global) → Type 0
 AreByWorker {P} workers by_worker = (w : ℕ) (seats : Vec (Seat P) Global) → slice_get by_worker w ≡ Some seats → AreOfWorker workers w seats.items

@@ -1,4 +1,4 @@
-//! Bells, and flags.
+//! Bells and flags.
 
 ghost use Rattle.std.specs.Prelude.{◌≡◌, IfOk, IfSome, length};
 ghost use Rattle.dv_work.specs.Flags.{IsOfFlag};
@@ -11,20 +11,24 @@ use std::sync::atomic::{AtomicU64, Ordering};
 use std::sync::{OnceLock, OnceToken, Wait};
 use std::thread::yield_now;
 
-// A waiting thread looks so often at once, which takes about a microsecond: a process that is near answers within that time.
+// A waiting thread first looks this often, which takes about a microsecond: a process on another
+// processor often answers within that time.
 const LOOKS_AT_ONCE: u32 = 1_024;
 
-// It takes so many looks more before it sleeps, each after other threads had the processor. They take longer than falling asleep and
-// being woken, since a worker also posts before it sleeps, and others wait for it when it wakes.
+// Then it looks this often, and yields the processor after each look, before it sleeps. This takes
+// longer than to fall asleep and be woken, but a worker also posts before it sleeps, and others
+// wait for it when it wakes.
 const LOOKS_BETWEEN_OTHERS: u32 = 400;
 
-/// A bell by which a thread waits for work. It counts its rings, so that a ring between a look and the wait is not lost:
-/// the waiting thread reads the count, looks for work, and waits only while the count is still the one that it read.
-/// Whoever has work for it provides the work first and rings afterwards. Nobody takes a lock, and where nobody sleeps a
-/// ring is a step of an atomic count.
+/// A bell, at which a thread waits for work.
+///
+/// It counts its rings, so that no ring between a look for work and the wait is lost: the waiting
+/// thread reads the count, looks for work, and waits only while the count is the one that it read.
+/// A thread that has work for it provides the work first and rings afterwards. There is no lock. If
+/// no thread sleeps, a ring is one step on an atomic count.
 #[derive(Drop)]
 pub struct Bell {
-    // Bells stand side by side, and each is rung from other threads.
+    // Bells lie side by side, and each is rung by other threads.
     rings: CachePadded<AtomicU64>,
     sleepers: EventCount,
 }
@@ -38,18 +42,18 @@ impl Bell {
         }
     }
 
-    /// Counts a ring, and wakes all who wait.
+    /// Counts a ring, and wakes all threads that wait.
     pub fn ring(&self) {
         self.rings.fetch_add(1, Ordering::SeqCst);
         self.sleepers.notify_all();
     }
 
-    /// How often it rang: what is read before a look for work. It counts modulo 2^64.
+    /// How often it rang, modulo 2^64. A thread reads this before it looks for work.
     pub fn rings(&self) -> u64 {
         self.rings.load(Ordering::SeqCst)
     }
 
-    /// Checks for a moment, without sleeping, whether the count differs from `seen`, and returns whether it does.
+    /// Waits a moment, without sleep, for the count to differ from `seen`. Returns whether it does.
     pub fn rings_soon(&self, seen: u64) -> bool {
         for look in 0..LOOKS_AT_ONCE + LOOKS_BETWEEN_OTHERS {
             if self.rings() != seen {
@@ -66,7 +70,7 @@ impl Bell {
 
     /// Sleeps until the count differs from `seen`; returns at once if it differs already.
     pub fn wait_past<R: Wait>(&self, rt: &R, seen: u64) {
-        // A ring counts before it wakes: one that this look misses ends the wait.
+        // A ring counts before it wakes, so a ring that this look misses ends the wait.
         let wait = self.sleepers.prepare_wait();
         if self.rings() == seen {
             wait.wait(rt);
@@ -74,11 +78,11 @@ impl Bell {
     }
 }
 
-/// A bell for each of so many workers.
+/// Makes a bell for each of `workers` workers.
 ///
 /// # Errors
 ///
-/// No memory for so many.
+/// No memory for the list.
 pub fn bells_of(alloc: Global, workers: usize) -> Result<Vec<Bell>, AllocError>
     ensures { IfOk result (λ bells. length bells.items ≡ workers) }
 {
@@ -89,19 +93,20 @@ pub fn bells_of(alloc: Global, workers: usize) -> Result<Vec<Bell>, AllocError>
     Ok(bells)
 }
 
-/// A flag that others look at. Once it is raised it stays so.
+/// A flag that other threads look at. Once it is raised, it stays raised.
 #[derive(Drop)]
 pub struct Flag {
     raised: OnceLock<()>,
 }
 
-/// What shows that a flag was raised: only looking at a raised flag gives it. It takes no memory.
+/// A token that shows that a flag was raised. Only a look at a raised flag gives one. It takes no
+/// memory.
 #[derive(Drop)]
 pub struct Raised<'a> {
     token: OnceToken<'a, ()>,
 }
 
-/// A flag for whoever only looks at it, and cannot raise it.
+/// A view of a flag, which can't raise it.
 #[derive(Clone, Copy)]
 pub struct FlagView<'a> {
     flag: &'a Flag,
@@ -115,14 +120,14 @@ impl Flag {
         }
     }
 
-    /// The flag for whoever only looks at it.
+    /// A view of the flag, which can't raise it.
     pub fn view(&self) -> FlagView<'_>
         ensures { result.flag.now ≡ self.now }
     {
         FlagView { flag: self }
     }
 
-    /// What shows that it was raised, if it was.
+    /// The token that the flag was raised, or `None` if it was not.
     pub fn raised(&self) -> Option<Raised<'_>>
         ensures { IfSome result (IsOfFlag self.now) }
     {
@@ -130,14 +135,14 @@ impl Flag {
         Some(Raised { token })
     }
 
-    /// Whether it was raised.
+    /// Whether the flag was raised.
     pub fn is_raised(&self) -> bool {
         self.raised().is_some()
     }
 
-    /// Raises the flag, and rings these bells after it.
+    /// Raises the flag, and then rings these bells.
     pub fn raise<R: Wait>(&self, rt: &R, bells: &[Bell]) {
-        // Where it is raised already, it stays so.
+        // An error says that the flag was raised before.
         let _ = self.raised.set(rt, ());
         for bell in bells {
             bell.ring();
@@ -146,7 +151,7 @@ impl Flag {
 }
 
 impl<'a> FlagView<'a> {
-    /// What shows that the flag was raised, if it was.
+    /// The token that the flag was raised, or `None` if it was not.
     pub fn raised(&self) -> Option<Raised<'a>>
         ensures { IfSome result (IsOfFlag self.now.flag.now) }
     {

@@ -1,4 +1,4 @@
-//! How much of what processes posted is not written yet.
+//! How many bytes each process has posted that are not written yet.
 
 ghost use Rattle.std.specs.Prelude.{◌≡◌, IfOk, length};
 
@@ -6,24 +6,26 @@ use std::alloc::{AllocError, Global};
 use std::marker::Model;
 use std::sync::atomic::{AtomicUsize, Ordering};
 
-// So many bytes of lines of each process may wait, however small it is: some thousand lines of usual length. With fewer, workers would
-// sleep and wake at almost each look of the writer.
+// The bytes of lines that may wait of a process, however small it is: about a thousand lines of
+// usual length. With fewer, workers would sleep and wake at almost each look of the writer.
 const BYTES_OF_EACH: usize = 49_152;
 
-// And so many for each of its components: two lines of usual length. All components may have a line at one instant, and a process that
-// waited at each instant would hardly ever work while others do.
+// The bytes of lines that may wait for each component of a process: two lines of usual length. All
+// components may have a line at one instant, and a process that waited at each instant would
+// hardly ever work while others do.
 const BYTES_OF_A_COMPONENT: usize = 96;
 
-/// How many bytes the lines have that a process has posted and that are not written and let go of yet.
+/// The lead of one process: how many bytes of its lines were posted, and are not written and freed
+/// yet.
 #[derive(Drop)]
 pub struct Lead {
     bytes: AtomicUsize,
-    // How many of them were taken. Only whoever takes changes it.
+    // How many of them were taken off the board. Only the thread that takes them changes this.
     taken: AtomicUsize,
 }
 
 impl Lead {
-    /// Nothing was posted.
+    /// A lead of no bytes.
     pub fn new() -> Lead {
         Lead {
             bytes: AtomicUsize::new(0),
@@ -31,23 +33,23 @@ impl Lead {
         }
     }
 
-    /// How many there are.
+    /// How many bytes the lead has.
     pub fn bytes(&self) -> usize {
         self.bytes.load(Ordering::SeqCst)
     }
 
-    /// So many are posted.
+    /// Counts bytes that are posted.
     pub fn add(&self, bytes: usize) {
         self.bytes.fetch_add(bytes, Ordering::SeqCst);
     }
 
-    /// So many of them were taken.
+    /// Counts bytes that were taken off the board.
     pub fn take(&self, bytes: usize) {
         self.taken.fetch_add(bytes, Ordering::SeqCst);
     }
 
-    /// Of those that were taken so many are kept, and the others were let go. Returns how many there were before and how many were
-    /// let go, in the same step.
+    /// Keeps `kept` of the bytes that were taken, and subtracts the others, which were written.
+    /// Returns in one step how many bytes the lead had before, and how many were subtracted.
     pub fn keep(&self, kept: usize) -> (usize, usize) {
         let taken = self.taken.load(Ordering::SeqCst);
         let gone = taken.saturating_sub(kept);
@@ -59,8 +61,8 @@ impl Lead {
     }
 }
 
-/// The lead of each process of a job, by their numbers, and the most bytes of each that may wait. Contracts see how many
-/// processes there are. A number past the last one has no lead.
+/// The leads of the processes of a job, by number, and how many bytes of each process may wait.
+/// Contracts see how many processes there are. A number past the last process has no lead.
 #[derive(Drop)]
 pub struct Leads {
     leads: Vec<Lead>,
@@ -76,7 +78,7 @@ impl Model for Leads {
     ghost view = { λ l. length l.leads.items };
 }
 
-// The most bytes of lines of each of so many processes that may wait.
+// How many bytes of lines may wait of each process.
 fn most_of(processes: u32, components: usize) -> usize {
     let of_one = components / processes.max(1) as usize;
     of_one
@@ -84,7 +86,7 @@ fn most_of(processes: u32, components: usize) -> usize {
         .max(BYTES_OF_EACH)
 }
 
-// The leads of so many processes that have posted nothing.
+// The leads of processes that have posted nothing.
 fn new_leads(alloc: Global, processes: u32) -> Result<Vec<Lead>, AllocError>
     ensures { IfOk result (λ leads. length leads.items ≡ processes) }
 {
@@ -96,11 +98,11 @@ fn new_leads(alloc: Global, processes: u32) -> Result<Vec<Lead>, AllocError>
 }
 
 impl Leads {
-    /// Of so many processes, which have posted nothing.
+    /// The leads of processes that have posted nothing, and that have so many components in all.
     ///
     /// # Errors
     ///
-    /// No memory for so many.
+    /// No memory for the list.
     pub fn new(alloc: Global, processes: u32, components: usize) -> Result<Self, AllocError>
         ensures count { IfOk result (λ leads. leads ≡ processes) }
     {
@@ -116,7 +118,8 @@ impl Leads {
         self.processes
     }
 
-    /// Whether so much of a process waits that it is held back: more than may, or still more than half of that, if it is held back already.
+    /// Whether a process has to be held back: if more bytes wait than may, or, if it is held back
+    /// already, more than half as many.
     pub fn is_long(&self, process: u32, is_held_back: bool) -> bool {
         let Some(lead) = self.leads.get(process as usize) else {
             return false;
@@ -129,7 +132,7 @@ impl Leads {
         lead.bytes() > most
     }
 
-    /// So many bytes of lines of a process are posted.
+    /// Counts bytes of lines that a process posts.
     pub fn add(&self, process: u32, bytes: usize) {
         let Some(lead) = self.leads.get(process as usize) else {
             return;
@@ -137,7 +140,7 @@ impl Leads {
         lead.add(bytes);
     }
 
-    /// So many bytes of lines of a process were taken.
+    /// Counts bytes of lines of a process that were taken off the board.
     pub fn take(&self, process: u32, bytes: usize) {
         let Some(lead) = self.leads.get(process as usize) else {
             return;
@@ -145,8 +148,9 @@ impl Leads {
         lead.take(bytes);
     }
 
-    /// Of the bytes of a process that were taken so many are kept, and the others were let go. Tells whether more than half of what
-    /// may wait of it waited, and does not any more: its worker may wait for that at its bell.
+    /// Keeps `kept` of the bytes of a process that were taken, and subtracts the others, which were
+    /// written. Returns whether the lead fell to half of what may wait at this call: the worker of
+    /// the process may wait for that at its bell.
     pub fn keep(&self, process: u32, kept: usize) -> bool {
         let Some(lead) = self.leads.get(process as usize) else {
             return false;

@@ -1,14 +1,16 @@
-//! Whether a process makes turns.
+//! Whether a process is held back.
 
-/// Whether a process makes turns, or is held back since too much of what it posted is not written yet.
+/// Whether a process makes turns, or is held back because too much of what it posted is not
+/// written yet.
 #[derive(Clone, Copy)]
 pub enum Pause {
     /// It makes turns.
     Over,
-    /// It is held back, and makes one turn more once nothing stands for its links. A turn prepares nothing for a link for which a packet
-    /// stands, so others may have been told of a time before the clock of this process alone, and wait to be told of the rest.
+    /// It is held back, and makes one turn more once all packets that it prepared are put. A turn
+    /// prepares nothing for a link for which a packet is left, so a receiver may know less than it
+    /// could, and wait for the rest.
     Owing,
-    /// It is held back, and makes no turn: its links tell how far it is.
+    /// It is held back, and makes no turn: it has prepared all that its receivers can know.
     Told,
 }
 
@@ -21,7 +23,7 @@ impl Pause {
         }
     }
 
-    /// What becomes of it where the process is held back, or not.
+    /// The pause after a look whether the process is to be held back.
     pub fn renewed(self, is_held_back: bool) -> Pause {
         match self {
             _ if !is_held_back => Pause::Over,
@@ -30,7 +32,7 @@ impl Pause {
         }
     }
 
-    /// What becomes of it at a turn.
+    /// The pause after a turn.
     pub fn after_a_turn(self) -> Pause {
         match self {
             Pause::Over => Pause::Over,

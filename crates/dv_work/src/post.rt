@@ -1,4 +1,4 @@
-//! What processes committed, posted on a board while the run goes on.
+//! Posts what processes committed on a board, while the run goes on.
 
 ghost use Rattle.std.specs.List.{All};
 ghost use Rattle.dv_work.specs.Seats.{HasToldAll, HoldsNone, Sits};
@@ -12,15 +12,16 @@ use dv_written::OfJob;
 use std::alloc::AllocError;
 use std::sync::Wait;
 
-// How many rounds a worker makes between two posts where no piece gets long. A post and a ring together cost more than one turn, but
-// almost nothing compared with this many rounds.
+// A worker whose pieces stay short posts in each round with a multiple of this number. A post with
+// its ring costs more than one turn, but almost nothing compared with this many rounds.
 const ROUNDS_TO_A_POST: u64 = 64;
 
-// Once the lines of a piece have so many bytes, it is posted. With its entries it takes about 20 kilobytes then: it is written while it
-// is near, and pieces take the same memory in turn.
+// A piece with so many bytes of lines is posted. With its entries it takes about 20 kilobytes then,
+// so it is still in the processor's caches when it is written, and pieces take the same memory one
+// after the other.
 const BYTES_TO_A_POST: usize = 12_288;
 
-/// In which rounds a worker tells the others how far its processes have come, and posts after them.
+/// The pace of a worker: in which rounds all null messages are put, and its processes post.
 #[derive(Drop)]
 pub struct Pace {
     rounds: u64,
@@ -29,7 +30,7 @@ pub struct Pace {
 }
 
 impl Pace {
-    /// Before the first round.
+    /// The pace before the first round.
     pub fn new() -> Pace {
         Pace {
             rounds: 0,
@@ -37,8 +38,9 @@ impl Pace {
         }
     }
 
-    /// Counts a round, and says whether the worker tells in it. It does so now and then, and more often at first, so that a reader sees
-    /// the first lines soon; and after a round that left a long piece, since rounds that do much are worth a packet each.
+    /// Counts a round, and returns whether null messages and posts are due in it. They are due now
+    /// and then, more often at first, so that a reader sees the first lines soon; and after a round
+    /// that left a long piece, since a round that does much is worth a packet.
     pub fn tells_in_next(&mut self) -> bool {
         self.rounds = self.rounds.wrapping_add(1);
         self.was_long
@@ -46,13 +48,13 @@ impl Pace {
             || self.rounds.is_multiple_of(ROUNDS_TO_A_POST)
     }
 
-    /// Whether the round left a long piece.
+    /// Notes whether the round left a long piece.
     pub fn adapt(&mut self, is_long: bool) {
         self.was_long = is_long;
     }
 }
 
-/// Whether the lines are long that one of a worker's processes committed and did not post.
+/// Whether one of a worker's processes has a long piece to post.
 pub fn is_any_long<N: OfJob, P: ProcessHandsOver<N>>(seats: &[Seat<P>]) -> bool {
     for seat in seats {
         if seat.process.rest_length() >= BYTES_TO_A_POST {
@@ -62,32 +64,35 @@ pub fn is_any_long<N: OfJob, P: ProcessHandsOver<N>>(seats: &[Seat<P>]) -> bool 
     false
 }
 
-/// Where workers post what their processes committed, and how whoever takes that holds them back.
+/// What workers share with the thread that takes their pieces.
 #[derive(Drop)]
 pub struct Stream<'a, N: OfJob> {
-    /// Where what was committed is posted.
+    /// Where the workers post.
     pub board: &'a Board<N>,
-    /// Rings after what was posted.
+    /// Rings after a post.
     pub news: &'a Bell,
-    /// Once it is raised, the run ends. Whoever raises it rings the bells after it, since workers may wait for the writer.
+    /// Ends the run once it is raised. The bells have to ring after that, since workers may wait
+    /// at them.
     pub stop: FlagView<'a>,
-    /// Once it is raised, somebody takes what is posted: processes do not run away from what is written then.
+    /// Is raised once a thread takes what is posted. Only then processes are held back.
     pub paced: &'a Flag,
-    /// What each process has posted and is not written yet. Whoever takes pieces off the board tells there what was taken and what of it
-    /// is still kept, and rings the bells where a lead was too long and is not any more.
+    /// The lead of each process. The thread that takes pieces counts there what it took and what it
+    /// still keeps, and rings the bells if a lead that was too long has fallen to half.
     pub leads: &'a Leads,
     /// A bell for each worker, where it waits.
     pub bells: &'a [Bell],
 }
 
 impl<N: OfJob> Stream<'_, N> {
-    /// Whether a process is held back, and was so or not: somebody takes what is posted, and too much of it is not written yet.
+    /// Whether a process has to be held back, where it was so before or not: if a thread takes what
+    /// is posted, and too much of the process is not written yet.
     pub fn holds_back(&self, process: u32, was_held_back: bool) -> bool {
         self.paced.is_raised() && self.leads.is_long(process, was_held_back)
     }
 }
 
-// Posts what a process committed since it posted last, and tells whether it did: not where its clock has not moved.
+// Posts what a process committed since its last post. Returns whether it did: if its clock has not
+// moved, there is nothing to post.
 fn post<N: OfJob, P: ProcessHandsOver<N>, R: Wait>(
     rt: &R,
     floor: &Floor<'_, N>,
@@ -105,17 +110,17 @@ fn post<N: OfJob, P: ProcessHandsOver<N>, R: Wait>(
     }
     let piece = seat.piece::<N>();
     let bytes = piece.part.byte_count();
-    // Before it is on the board, since whoever takes it may take it off the lead at once.
+    // This comes before the post, since the piece may be taken off the lead right after it.
     floor.stream.leads.add(piece.process, bytes);
     floor.stream.board.post(rt, piece)?;
     Ok(true)
 }
 
-/// Posts what the processes of a worker committed, and rings for it.
+/// Posts what the processes of a worker committed since their last posts, and rings for it.
 ///
 /// # Errors
 ///
-/// No memory on the board. What was to be posted is gone; what its process commits from then on begins with a gap.
+/// No memory on the board. The piece is lost, so the next piece of its process begins after a gap.
 pub fn post_all<N: OfJob, P: ProcessHandsOver<N>, R: Wait>(
     rt: &R,
     floor: &Floor<'_, N>,

@@ -1,4 +1,4 @@
-//! What a run reports in the end.
+//! How a run ended, and what was not posted.
 
 ghost use Rattle.std.specs.Prelude.{◌≡◌, ◌↔◌, ◌+◌, ◌++◌, ◌<◌, ◌||◌, ◌^◌, ℕ, [], ◌∷◌, IsTrue, length, map};
 ghost use Rattle.std.specs.Prelude.{IfNone, IfOk, IfSome, is_some, slice_get, Some};
@@ -28,25 +28,24 @@ pub enum Ended<C> {
     Whole,
     /// The gate stopped it, for this cause.
     Stopped(C),
-    /// The caller raised the flag to stop it.
+    /// The caller raised the flag that stops it.
     Cancelled,
     /// No memory, or no thread for a worker.
     Memory,
 }
 
-/// What the processes of a run committed and did not post, to the clock of each, by their numbers; how the run ended; and what shows
-/// that the caller raised the flag to stop it, if that was so when all workers had ended.
+/// The report of a run by workers, after all workers have ended.
 #[derive(Drop)]
 pub struct Report<'a, N: OfJob, C> {
-    /// What each process committed and did not post, by its number.
+    /// What each process committed and did not post, up to its clock, by its number.
     pub rest: Vec<Piece<N>>,
     /// How the run ended.
     pub ended: Ended<C>,
-    /// What shows that the caller raised the flag, if that was so when all workers had ended.
+    /// The token that the caller raised the flag that stops the run, if it did.
     pub stopped: Option<Raised<'a>>,
 }
 
-// Nothing, of so many processes.
+// An empty piece for each process.
 fn nothing<N: OfJob>(alloc: Global, processes: usize) -> Result<Vec<Piece<N>>, AllocError>
     requires count { processes ≡ N.job.processes }
     requires few { processes < 2 ^ 32 }
@@ -64,7 +63,7 @@ fn nothing<N: OfJob>(alloc: Global, processes: usize) -> Result<Vec<Piece<N>>, A
     Ok(rest)
 }
 
-// Enters what one process committed and did not post.
+// Moves what a process committed and did not post to its place in the list.
 fn enter<N: OfJob, P: ProcessHandsOver<N>>(rest: &mut Vec<Piece<N>>, seat: Seat<P>)
     requires seat { Reports N.job P.state P.handed P.valid seat }
     requires rest { AreReached N.job rest.old.items }
@@ -76,7 +75,7 @@ fn enter<N: OfJob, P: ProcessHandsOver<N>>(rest: &mut Vec<Piece<N>>, seat: Seat<
     rest[index] = piece;
 }
 
-// Enters what the processes of a worker committed and did not post.
+// Moves what the processes of a worker committed and did not post to their places in the list.
 fn enter_all<N: OfJob, P: ProcessHandsOver<N>>(rest: &mut Vec<Piece<N>>, seats: Vec<Seat<P>>)
     requires seats { All (Reports N.job P.state P.handed P.valid) seats.items }
     requires rest { AreReached N.job rest.old.items }
@@ -87,7 +86,7 @@ fn enter_all<N: OfJob, P: ProcessHandsOver<N>>(rest: &mut Vec<Piece<N>>, seats: 
     }
 }
 
-// Takes out what the last worker left.
+// Takes what the last worker of the list left.
 fn last_worked<N: OfJob, P: LogicalProcess, C: Drop>(
     all: &mut Vec<Worked<P, C>>,
 ) -> Option<Worked<P, C>>
@@ -101,7 +100,8 @@ fn last_worked<N: OfJob, P: LogicalProcess, C: Drop>(
     all.pop()
 }
 
-// Keeps why a worker ended that stands before those that were kept: out of memory, or the cause of the first one that has one.
+// Notes why a worker ended whose number is less than those noted so far: whether one lacked memory,
+// and the cause of the first worker that has one.
 fn keep_halt<C: Drop>(halt: Option<Halt<C>>, memory: &mut bool, cause: &mut Option<C>)
     ensures memory { memory.new ≡ (lacks_memory halt || memory.old) }
     ensures cause { cause.new ≡ first_of (cause_of halt) cause.old }
@@ -113,7 +113,7 @@ fn keep_halt<C: Drop>(halt: Option<Halt<C>>, memory: &mut bool, cause: &mut Opti
     }
 }
 
-// Whether all pieces reach to a time.
+// Whether all pieces end at a time.
 fn all_reach<N: OfJob>(rest: &[Piece<N>], end: Time) -> bool
     ensures { IsTrue result ↔ ((p : ℕ) (x : MeantPiece N) → slice_get rest.now p ≡ Some x
         → x.clock ≡ end) }
@@ -121,8 +121,9 @@ fn all_reach<N: OfJob>(rest: &[Piece<N>], end: Time) -> bool
     rest.iter().all(|piece| piece.clock == end)
 }
 
-// Whole where it is, else out of memory where a worker was, else stopped by the gate for a cause, else cancelled where the caller
-// stopped it. Nothing else is known to end a run; if something did, it counts as no memory.
+// How a run ended: whole, or out of memory if a worker was, or stopped if there is a cause, or
+// cancelled if the caller raised its flag. Nothing else ends a run; if it did, it would count as
+// out of memory, which claims least.
 fn how_ended<C: Drop>(is_whole: bool, memory: bool, cause: Option<C>, is_stopped: bool) -> Ended<C>
     ensures whole { (result ≡ Whole) ↔ IsTrue is_whole }
     ensures ended { result ≡ ended_by is_whole memory cause is_stopped }
@@ -140,12 +141,12 @@ fn how_ended<C: Drop>(is_whole: bool, memory: bool, cause: Option<C>, is_stopped
     }
 }
 
-/// The report of all workers of a job of so many processes. If it is not whole, it ended for the reason of a worker: out of memory
-/// where one was, else for the cause of the first one that has one, else cancelled where `stop` was raised.
+/// Makes the report of all workers of a job. If the run is not whole, it ended out of memory if a
+/// worker was, else for the cause of the first worker that has one, else because `stop` was raised.
 ///
 /// # Errors
 ///
-/// No memory.
+/// No memory for the list of pieces.
 pub fn report_of<'a, N: OfJob, J: PlannedJob, P: ProcessHandsOver<N>, C: Drop>(
     alloc: Global,
     job: &J,

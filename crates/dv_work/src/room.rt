@@ -1,19 +1,21 @@
-//! Room on links, for which their senders ask.
+//! Requests for room on links.
 
 ghost use Rattle.std.specs.Prelude.{◌≡◌, IfOk, length};
 
 use std::alloc::{AllocError, Global};
 use std::sync::atomic::{AtomicBool, Ordering};
 
-/// Whether the sender of a link waits for room on it. A sender that finds its link full asks for room and then tries once more:
-/// either that try finds the room, or whoever makes room afterwards finds that it was asked for.
+/// Whether the sender of a link waits for room on it.
+///
+/// A sender that finds its link full asks for room and tries once more. Either this try finds room,
+/// or the receiver that makes room afterwards finds that it was asked for.
 #[derive(Drop)]
 pub struct Room {
     is_wanted: AtomicBool,
 }
 
 impl Room {
-    /// Nobody asked for room.
+    /// A link on which room was not asked for.
     pub fn new() -> Room {
         Room {
             is_wanted: AtomicBool::new(false),
@@ -25,18 +27,18 @@ impl Room {
         self.is_wanted.store(true, Ordering::SeqCst);
     }
 
-    /// Whether room was asked for since this was last called. Where it was not, nothing is written, so that the two ends of a link
-    /// that never gets full only read here.
+    /// Whether room was asked for since the last call. If not, nothing is written, so the two ends
+    /// of a link that is never full only read here.
     pub fn was_asked_for(&self) -> bool {
         self.is_wanted.load(Ordering::SeqCst) && self.is_wanted.swap(false, Ordering::SeqCst)
     }
 }
 
-/// For each of so many links, by their numbers.
+/// Makes a `Room` for each of so many links.
 ///
 /// # Errors
 ///
-/// No memory for so many.
+/// No memory for the list.
 pub fn rooms_of(alloc: Global, links: usize) -> Result<Vec<Room>, AllocError>
     ensures { IfOk result (λ rooms. length rooms.items ≡ links) }
 {

@@ -28,7 +28,7 @@ use std::sync::Wait;
 use std::thread;
 use std::thread::{Promise, PromisedHandle, Scope, Threads};
 
-/// What a worker leaves is parts of this job.
+/// The promise of a worker's thread: what it leaves belongs to the run of the job `N`.
 #[derive(Drop)]
 pub struct Kept<N, P> {
     of: PhantomData<(N, P)>,
@@ -42,8 +42,8 @@ impl<N: OfJob, P: LogicalProcess, C> Promise<Worked<P, C>> for Kept<N, P> {
 
 type Handle<N, P, C> = PromisedHandle<Worked<P, C>, Kept<N, P>>;
 
-// Starts a thread for a worker. If no thread can be made, it raises the flag, at which the worker ends, and counts this
-// as out of memory.
+// Starts a thread for a worker. If no thread can be made, it raises the flag, at which all workers
+// end, and counts this as out of memory.
 fn start<
     's,
     E,
@@ -86,7 +86,7 @@ where
     }
 }
 
-// Keeps what a worker left.
+// Adds what a worker left to a list.
 fn add_worked<N: OfJob, P: LogicalProcess, C: Drop>(
     all: &mut Vec<Worked<P, C>>,
     worked: Worked<P, C>,
@@ -98,7 +98,7 @@ fn add_worked<N: OfJob, P: LogicalProcess, C: Drop>(
     Ok(all.push(worked)?)
 }
 
-// Takes out the processes of the last worker, with what it works with.
+// Takes the processes of the last worker off a list, with what it works with.
 fn last_seats<N: OfJob, P: LogicalProcess>(
     links: &[Link<N>],
     by_worker: &mut Vec<Vec<Seat<P>>>,
@@ -129,7 +129,7 @@ fn join_last<N: OfJob, P: LogicalProcess, C: Drop, R: Threads>(
     Some(handle.join(rt))
 }
 
-// Starts a thread for each worker, and joins them.
+// Starts a thread for each worker, and joins them all.
 fn start_and_join<
     's,
     E,
@@ -200,7 +200,7 @@ where
     )
 }
 
-// Runs a crew, with a link for each of its channels, and posts what its processes commit.
+// Makes a link for each channel of a crew, and runs its processes.
 fn run_job<
     N: OfJob + Send + Sync,
     P: ProcessHandsOver<N> + Send,
@@ -241,21 +241,27 @@ where
     run_all(rt, alloc, &floor, gate, by_worker, works)
 }
 
-/// Runs a crew of new processes of a job on threads, one thread for each worker, and posts on the board of a stream meanwhile. Process p
-/// belongs to worker p mod the number of workers, which waits at the bell of its number. Each worker posts what its processes committed,
-/// a piece of each that begins where its last one ended: now and then while it goes on, before it sleeps, and where they are done. It
-/// adds to the lead of a process before it posts its piece, and rings `news` after all of them. What was posted is kept nowhere else;
-/// the rest is in the report. Where the board has no memory for a piece, the piece is gone and the worker ends, out of memory.
+/// Runs a crew of new processes of a job, one thread for each worker, and posts what they commit.
 ///
-/// Once `paced` is raised, a process whose lead is too long is held back until it has fallen to half: it makes one turn at most, and the
-/// gate is not asked for others. So from then on the caller tells the leads what it takes off the board, and what of that it still keeps,
-/// and rings the bells where `keep` tells it to. After each ring of `news` it takes all and lets go of all that is before the least of the
-/// clocks up to which it has the processes; else a run may never return.
+/// Process p belongs to worker p mod the number of workers, which waits at the bell of its number.
+/// Each worker posts a piece of each of its processes now and then, before it sleeps, and when they
+/// are done. A piece begins where the last one of its process ended. The worker adds its bytes to
+/// the lead of the process before it posts it, and rings `news` after all of its posts. What was
+/// posted is kept nowhere else; the rest is in the report. If the board has no memory for a piece,
+/// the piece is lost, and the run ends out of memory.
 ///
-/// Once the caller has raised `stop`, and rung the bells, each worker ends before its next turn, and a run that is not whole, was not out
-/// of memory and was not stopped by the gate is reported cancelled. Whatever the gate, the leads and the timing of the threads, each
-/// piece is what its process commits in between; the run is reported whole exactly where every clock is at the end, and cancelled only
-/// with what shows that `stop` was raised, which no worker can do.
+/// Once `paced` is raised, a process whose lead is too long is held back until it has fallen to
+/// half: it makes one turn at most, and `gate` is not called for others. From then on, after each
+/// ring of `news`, the caller has to take all pieces, write and free all that is before the least
+/// of the clocks that it has, and count both by `take` and `keep` of the leads. It has to ring the
+/// bells if `keep` returns `true`. Otherwise the run may never return.
+///
+/// Once the caller has raised `stop` and rung the bells, each worker ends before its next turn. The
+/// run is then reported cancelled, unless it is whole, out of memory or stopped by `gate`.
+///
+/// For any `gate`, any leads and any timing of the threads, each piece is what its process
+/// committed in that time. The run is reported whole exactly if every clock is at the end, and
+/// cancelled only with a token that `stop` was raised, which no worker can do.
 ///
 /// # Errors
 ///

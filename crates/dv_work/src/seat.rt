@@ -23,32 +23,31 @@ use dv_written::OfJob;
 use std::alloc::AllocError;
 use std::sync::Wait;
 
-/// The end of a link that leads away: its number, the pass to put with, a packet that found no room yet, and the worker of the
-/// process to which it leads.
+/// The end of a link that leads away from a process.
 #[derive(Drop)]
 pub struct Out {
     /// The number of the link.
     pub number: u32,
-    /// The pass to put with.
+    /// The pass that putting needs.
     pub pass: SendPass,
-    /// A packet that found no room yet.
+    /// The held packet: one that found no room yet.
     pub held: Option<Packet>,
-    /// The number of the worker of the process to which the link leads.
+    /// The worker of the process to which the link leads.
     pub receiver: usize,
 }
 
-/// The end of a link that leads here: its number, the pass to take with, and the worker of the process from which it comes.
+/// The end of a link that leads to a process.
 #[derive(Drop)]
 pub struct In {
     /// The number of the link.
     pub number: u32,
-    /// The pass to take with.
+    /// The pass that taking needs.
     pub pass: TakePass,
-    /// The number of the worker of the process from which the link leads.
+    /// The worker of the process from which the link comes.
     pub sender: usize,
 }
 
-/// A process, by its number, with the ends of its links, and the time up to which what it committed was moved out of it.
+/// A process of a worker, with the ends of its links.
 #[derive(Drop)]
 pub struct Seat<P> {
     /// The number of the process.
@@ -59,27 +58,26 @@ pub struct Seat<P> {
     pub outs: Vec<Out>,
     /// The ends of the links that lead to it.
     pub ins: Vec<In>,
-    /// The time before which all that it committed was moved out of it.
+    /// The time before which all that it committed was posted.
     pub posted: Time,
-    /// Whether it makes turns.
+    /// Whether it is held back.
     pub pause: Pause,
 }
 
-/// All that a worker's visits need of the others: the links, where room is asked for on them, the flag, and where they post, with
-/// the bells.
+/// What the workers of a run share.
 #[derive(Drop)]
 pub struct Floor<'a, N: OfJob> {
     /// The links of the job, by their numbers.
     pub links: &'a [Link<N>],
-    /// Where the senders of the links ask for room, by the links' numbers.
+    /// The requests for room on the links, by the links' numbers.
     pub rooms: &'a [Room],
-    /// Raised once a worker ends before its processes are done; the others end then.
+    /// Is raised when a worker ends before its processes are done; then the others end too.
     pub flag: &'a Flag,
-    /// Where pieces are posted.
+    /// Where the workers post, and the bells at which they wait.
     pub stream: Stream<'a, N>,
 }
 
-// Rings a worker's bell, if there is one.
+// Rings the bell of a worker, if there is one.
 fn ring(bells: &[Bell], worker: usize) {
     if let Some(bell) = bells.get(worker) {
         bell.ring();
@@ -93,7 +91,7 @@ fn ask_for_room(rooms: &[Room], link: u32) {
     }
 }
 
-// Whether the sender of a link asked for room on it since this was last called.
+// Whether the sender of a link asked for room on it since the last call.
 fn was_room_asked_for(rooms: &[Room], link: u32) -> bool {
     match rooms.get(link as usize) {
         Some(room) => room.was_asked_for(),
@@ -101,7 +99,7 @@ fn was_room_asked_for(rooms: &[Room], link: u32) -> bool {
     }
 }
 
-// Rings the bell of the sender of a link, if it asked for room there.
+// Rings the bell of the worker that sends on a link, if it asked for room.
 fn ring_if_asked<N: OfJob>(floor: &Floor<'_, N>, end: &In) {
     if was_room_asked_for(floor.rooms, end.number) {
         ring(floor.stream.bells, end.sender);
@@ -121,8 +119,8 @@ fn take_from<N: OfJob, R: Wait>(rt: &R, links: &[Link<N>], end: &mut In) -> Opti
     links[end.number as usize].take(rt, &mut end.pass)
 }
 
-// Puts the packet that is held, where its link has room. What was given to this end stays the same. Tells whether it was put.
-// Where it was not, it is held as before.
+// Puts the held packet if the link has room. Returns whether it was put; if not, it is held as
+// before.
 fn put_held<N: OfJob, R: Wait>(rt: &R, links: &[Link<N>], end: &mut Out) -> bool
     requires end { IsOut links.now end.old }
     requires all_true { AreTrueOn N.job end.old.number (given end.old) }
@@ -143,8 +141,9 @@ fn put_held<N: OfJob, R: Wait>(rt: &R, links: &[Link<N>], end: &mut Out) -> bool
     }
 }
 
-// Puts the packet that is held, where its link has room. Where it has none, room is asked for, and the packet is tried once more:
-// room that came before it was asked for rings nobody. Tells whether it was put. Where it was not, it is held as before.
+// Puts the held packet if the link has room. If not, it asks for room and tries once more, since
+// room that came before the request rings no bell. Returns whether the packet was put; if not, it
+// is held as before.
 fn put_or_ask<N: OfJob, R: Wait>(rt: &R, floor: &Floor<'_, N>, end: &mut Out) -> bool
     requires end { IsOut floor.now.links.now end.old }
     requires all_true { AreTrueOn N.job end.old.number (given end.old) }
@@ -164,11 +163,13 @@ fn put_or_ask<N: OfJob, R: Wait>(rt: &R, floor: &Floor<'_, N>, end: &mut Out) ->
 }
 
 impl<P: LogicalProcess> Seat<P> {
-    /// Takes the packet at the front of the link at an index, if there is one, and gives it to the process.
+    /// Takes the packet at the front of the link at an index, if there is one, and passes it to the
+    /// process. Returns whether there was one.
     ///
     /// # Errors
     ///
-    /// No memory to keep it. The process is as before, and what it has committed stays true.
+    /// No memory to keep the packet, which is lost. The process is as before, and what it has
+    /// committed stays true.
     pub fn take<N: OfJob, R: Wait>(
         &mut self,
         rt: &R,
@@ -193,7 +194,7 @@ impl<P: LogicalProcess> Seat<P> {
         Ok(true)
     }
 
-    /// Whether a packet stands for a link that leads away.
+    /// Whether a packet is prepared, and not put, for a link that leads away.
     fn has_standing(&self) -> bool
         ensures { result ≡ list_any (stands_in (P.state self.now.process)) self.now.outs.items }
     {
@@ -202,7 +203,7 @@ impl<P: LogicalProcess> Seat<P> {
             .any(|end| self.process.out(end.number).is_some())
     }
 
-    /// Looks whether it is held back, and tells whether it makes a turn.
+    /// Updates whether the process is held back, and returns whether it makes a turn.
     pub fn may_turn<N: OfJob>(&mut self, floor: &Floor<'_, N>) -> bool
         requires sits { Sits N.job P.state P.handed P.valid floor.now.links.now self.old }
         ensures sits { Sits N.job P.state P.handed P.valid floor.now.links.now self.new }
@@ -219,11 +220,11 @@ impl<P: LogicalProcess> Seat<P> {
         }
     }
 
-    /// One turn of the process.
+    /// Makes one turn of the process.
     ///
     /// # Errors
     ///
-    /// No memory; all is as before.
+    /// No memory. The process is as before.
     pub fn turn<N: OfJob>(
         &mut self,
         floor: &Floor<'_, N>,
@@ -239,7 +240,7 @@ impl<P: LogicalProcess> Seat<P> {
         Ok(turned)
     }
 
-    // Holds the packet that stands on the link at an index, if none is held there yet.
+    // Holds the packet that is prepared for the link at an index, if none is held there yet.
     fn hold<N: OfJob>(&mut self, floor: &Floor<'_, N>, index: usize)
         requires sits { Sits N.job P.state P.handed P.valid floor.now.links.now self.old }
         requires index { index < length self.old.outs.items }
@@ -262,7 +263,7 @@ impl<P: LogicalProcess> Seat<P> {
         end.held = Some(self.process.sent(end.number));
     }
 
-    /// Whether the packet that the link at an index gets next is a null message that is not held.
+    /// Whether the next packet for the link at an index is a null message, and none is held there.
     pub fn has_null(&self, index: usize) -> bool
         requires { index < length self.now.outs.items }
         ensures { (end : Out) → slice_get self.now.outs.items index ≡ Some end
@@ -278,9 +279,10 @@ impl<P: LogicalProcess> Seat<P> {
         standing.events.is_empty()
     }
 
-    /// Puts the packet that stands on the link at an index, or that is held there, where the link has room. Tells whether it was
-    /// put. Where it was not, all that the process prepared there was put, or a packet is held there. One still stands there only
-    /// behind a packet that was held before.
+    /// Puts the next packet for the link at an index, if there is one and the link has room: the
+    /// held packet, or else the prepared one. Returns whether it was put. If not, either all that
+    /// the process prepared for this link was put, or its end holds a packet. A prepared packet is
+    /// left only if the end held a packet before.
     pub fn put<N: OfJob, R: Wait>(&mut self, rt: &R, floor: &Floor<'_, N>, index: usize) -> bool
         requires sits { Sits N.job P.state P.handed P.valid floor.now.links.now self.old }
         requires index { index < length self.old.outs.items }
@@ -301,14 +303,14 @@ impl<P: LogicalProcess> Seat<P> {
         true
     }
 
-    /// Whether a packet is held at a link that leads away.
+    /// Whether an end of a link that leads away holds a packet.
     pub fn holds_packets(&self) -> bool
         ensures { result ≡ list_any holds_packet self.now.outs.items }
     {
         self.outs.iter().any(|end| end.held.is_some())
     }
 
-    /// What the process has committed is its part of the whole run.
+    /// Shows that what the process has committed is its part of the whole run. It does nothing.
     pub fn account<N: OfJob>(&self, floor: &Floor<'_, N>)
         requires { Sits N.job P.state P.handed P.valid floor.now.links.now self.now }
         ensures { Reports N.job P.state P.handed P.valid self.now }
@@ -316,7 +318,7 @@ impl<P: LogicalProcess> Seat<P> {
         let _ = floor.links.len();
     }
 
-    /// Moves out what the process committed since it was moved out last, and before its clock.
+    /// Moves out of the process what it committed since the last call and before its clock.
     pub fn piece<N: OfJob>(&mut self) -> Piece<N>
     where
         P: ProcessHandsOver<N>,

@@ -1,4 +1,4 @@
-//! The processes of each worker, and the links between them.
+//! Makes the links of a job, and gives each worker its processes.
 
 ghost use Rattle.std.specs.Prelude.{◌≡◌, ◌<◌, ◌+◌, ◌%◌, ◌++◌, ◌^◌, ℕ, [], ◌∷◌, length, map, slice_get, IfOk, OnOk, Some};
 ghost use Rattle.std.specs.List.{All};
@@ -18,11 +18,11 @@ use dv_time::Time;
 use dv_written::OfJob;
 use std::alloc::{AllocError, Global};
 
-/// The processes of a job, by their numbers, with no links yet.
+/// The processes of a job, by number, without ends of links.
 ///
 /// # Errors
 ///
-/// No memory.
+/// No memory for the list.
 pub fn seats_of<N: OfJob, P: LogicalProcess>(
     alloc: Global,
     processes: Vec<P>,
@@ -82,12 +82,13 @@ fn add_in<N: OfJob, P: LogicalProcess>(
     Ok(seat.ins.push(end)?)
 }
 
-/// Makes the links of a job, in the order of their numbers, with room for so many packets on each, and gives their ends to
-/// processes. Process p will be that of worker p mod `workers`, which the ends of its links name.
+/// Makes the links of a job, by number, each with room for `capacity` packets, and gives their ends
+/// to the processes. An end names the worker of the process at the other end: process p belongs to
+/// worker p mod `workers`.
 ///
 /// # Errors
 ///
-/// No memory.
+/// No memory for the links or their ends.
 pub fn connect<N: OfJob, P: LogicalProcess>(
     alloc: Global,
     channels: &[Channel],
@@ -129,7 +130,7 @@ pub fn connect<N: OfJob, P: LogicalProcess>(
     Ok(links)
 }
 
-// No processes yet, for each of so many workers.
+// An empty list of processes for each worker.
 fn empty_seats<N: OfJob, P: LogicalProcess>(
     alloc: Global,
     links: &[Link<N>],
@@ -148,7 +149,7 @@ fn empty_seats<N: OfJob, P: LogicalProcess>(
     Ok(by_worker)
 }
 
-// Gives a worker a process more.
+// Adds a process to those of a worker.
 fn add_seat<N: OfJob, P: LogicalProcess>(
     links: &[Link<N>],
     seats: &mut Vec<Seat<P>>,
@@ -163,11 +164,11 @@ fn add_seat<N: OfJob, P: LogicalProcess>(
     Ok(seats.push(seat)?)
 }
 
-/// The processes of each worker: process p is that of worker p mod `workers`.
+/// The processes of each worker, by its number: process p belongs to worker p mod `workers`.
 ///
 /// # Errors
 ///
-/// No memory.
+/// No memory for the lists.
 pub fn seats_by_worker<N: OfJob, P: LogicalProcess>(
     alloc: Global,
     links: &[Link<N>],

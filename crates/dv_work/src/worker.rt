@@ -1,4 +1,4 @@
-//! A worker: it visits its processes until they are done, and waits at its bell where nothing moved.
+//! A worker: it visits its processes until they are done, and waits at its bell if nothing moved.
 
 ghost use Rattle.std.specs.Prelude.{◌≡◌, ◌≢◌, ◌<◌, ◌+◌, ◌↔◌, ◌⊎◌, false, true, length, None, IfOk, OnErr, OnOk};
 ghost use Rattle.std.specs.List.{All};
@@ -22,24 +22,24 @@ use std::sync::Wait;
 pub enum Halt<C> {
     /// The flag was raised.
     Flag,
-    /// The caller of the run stopped it.
+    /// The caller stopped the run.
     Stop,
     /// No memory.
     Memory,
-    /// The gate's.
+    /// The gate stopped it, for this cause.
     Cause(C),
 }
 
-/// What a worker leaves.
+/// What a worker leaves when it ends.
 #[derive(Drop)]
 pub struct Worked<P, C> {
     /// Its processes, with the ends of their links.
     pub seats: Vec<Seat<P>>,
-    /// Why it ended before its processes were done; none where they are done.
+    /// Why it ended before its processes were done, or `None` if they are done.
     pub halt: Option<Halt<C>>,
 }
 
-// Takes a packet from each link that leads here. Tells whether one had come.
+// Takes a packet from each link that leads to a process. Returns whether there was one.
 fn take_all<N: OfJob, P: LogicalProcess, R: Wait>(
     rt: &R,
     floor: &Floor<'_, N>,
@@ -59,8 +59,8 @@ fn take_all<N: OfJob, P: LogicalProcess, R: Wait>(
     Ok(moved)
 }
 
-// Puts what stands on the link at an index or is held there, but no null message that stands where none is due. Tells whether it
-// was put.
+// Puts the next packet for the link at an index, but no null message if none is due. Returns
+// whether it was put.
 fn put_next<N: OfJob, P: LogicalProcess, R: Wait>(
     rt: &R,
     floor: &Floor<'_, N>,
@@ -85,8 +85,8 @@ fn put_next<N: OfJob, P: LogicalProcess, R: Wait>(
     seat.put(rt, floor, index)
 }
 
-// Puts a packet on each link that leads away, where one stands or is held; a null message that stands only where such are due.
-// Tells whether one was put.
+// Puts the next packet for each link that leads away; null messages only if they are due. Returns
+// whether one was put.
 fn put_all<N: OfJob, P: LogicalProcess, R: Wait>(
     rt: &R,
     floor: &Floor<'_, N>,
@@ -108,7 +108,8 @@ fn put_all<N: OfJob, P: LogicalProcess, R: Wait>(
     moved
 }
 
-// A visit moved its process where packets moved too; and while one is held, the process is not done.
+// The result of a visit: it also counts as moved if packets moved, and a process that holds a
+// packet is not done.
 fn progress(turned: Turned, moved: bool, holds: bool) -> Turned
     ensures still { result ≢ Moved → (moved ≡ false) × (turned ≢ Moved) }
     ensures moved { result ≡ Moved → (moved ≡ true) ⊎ (turned ≡ Moved) }
@@ -149,7 +150,8 @@ fn turn_if_near<N: OfJob, P: LogicalProcess, G: Gate<P>>(
     Ok(turned)
 }
 
-// All null messages are due in a round that tells, and else where the process does not run ahead.
+// Null messages are due in the rounds of the worker's pace, and where the process does not run
+// ahead.
 fn nulls_are_due(tells: bool, runs_ahead: bool) -> bool
     ensures tells { tells ≡ true → result ≡ true }
     ensures near { runs_ahead ≡ false → result ≡ true }
@@ -224,7 +226,7 @@ fn round<N: OfJob, P: LogicalProcess, G: Gate<P>, R: Wait>(
     Ok(all)
 }
 
-// Moved where either moved, and done where both are.
+// Moved if either moved, and done if both are.
 fn of_both(one: Turned, other: Turned) -> Turned
     ensures still { result ≢ Moved → (one ≢ Moved) × (other ≢ Moved) }
     ensures moved { result ≡ Moved → (one ≡ Moved) ⊎ (other ≡ Moved) }
@@ -238,7 +240,8 @@ fn of_both(one: Turned, other: Turned) -> Turned
     }
 }
 
-// Whether a worker posts after a round: where it tells, where a piece is long, and always where it is done.
+// Whether a worker posts after a round: if the round `tells`, if a piece is long, and always if the
+// worker is done.
 fn posts_after(tells: bool, is_long: bool, turned: Turned) -> bool {
     match turned {
         Turned::Moved | Turned::Waiting => tells || is_long,
@@ -246,8 +249,8 @@ fn posts_after(tells: bool, is_long: bool, turned: Turned) -> bool {
     }
 }
 
-// Waits until the worker's bell has rung past a count. Its processes have told all that they prepared. If no ring comes
-// soon, the worker posts before it sleeps.
+// Waits until the count of the worker's bell differs from `seen`. If no ring comes soon, the worker
+// posts before it sleeps.
 fn wait_for_work<N: OfJob, P: ProcessHandsOver<N>, R: Wait>(
     rt: &R,
     floor: &Floor<'_, N>,
@@ -267,7 +270,7 @@ fn wait_for_work<N: OfJob, P: ProcessHandsOver<N>, R: Wait>(
     Ok(())
 }
 
-// Posts after a round, where that is due, and adapts the pace to it.
+// Posts after a round if that is due, and adapts the pace.
 fn post_after<N: OfJob, P: ProcessHandsOver<N>, R: Wait>(
     rt: &R,
     floor: &Floor<'_, N>,
@@ -289,7 +292,7 @@ fn post_after<N: OfJob, P: ProcessHandsOver<N>, R: Wait>(
     post_all(rt, floor, seats)
 }
 
-// Waits after a round in which nothing moved.
+// Waits after a round, if nothing moved in it.
 fn wait_after<N: OfJob, P: ProcessHandsOver<N>, R: Wait>(
     rt: &R,
     floor: &Floor<'_, N>,
