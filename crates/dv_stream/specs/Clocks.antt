@@ -4,6 +4,6 @@ use Rattle.std.specs.List.{All}
 use Rattle.dv_time.specs.Time.{IsOfRun, end_of, rank}
 use Rattle.dv_time.specs.declared.time.Time.{Time}
 
--- each is a time of the run, and none is past its end
+-- each clock is a time of the run, and none is past its end
 abbrev pub AreWithin : (horizon limit : ℕ) → List Time → Type 0
 AreWithin horizon limit clocks = All (λ (t : Time). IsOfRun limit t × (rank limit t ≤ end_of limit horizon)) clocks

@@ -1,4 +1,4 @@
--- How what ran ended, by how its rounds ended or its workers.
+-- How a run ended, by how its rounds or its workers ended.
 use Rattle.std.specs.Prelude.{◌≡◌, ◌≢◌, ◌↔◌, ◌<◌, ℕ, Bool, true, false, IsSome, Option, None, Some, length, slice_get}
 use Rattle.dv_conservative.specs.World.{Job}
 use Rattle.dv_core.specs.Worlds.{end_time}
@@ -23,7 +23,7 @@ by_rounds rounds.Whole = Whole
 by_rounds rounds.Stalled = Cut why.Rounds
 by_rounds rounds.Memory = Cut why.Memory
 
--- by workers, where the whole trace was written or not
+-- by workers; `is_whole`: the whole trace was written
 abbrev pub by_workers : {C : Type 0} → (is_whole : Bool) → WorkersEnded C → RunEnded
 by_workers true ended = Whole
 by_workers false (workers.Stopped c) = Cut why.Stopped
@@ -31,7 +31,7 @@ by_workers false workers.Whole = Cut why.Memory
 by_workers false workers.Cancelled = Cut why.Memory
 by_workers false workers.Memory = Cut why.Memory
 
--- the cause for which it was stopped
+-- the cause for which a run by workers was stopped
 abbrev pub cause_of : {C : Type 0} → (is_whole : Bool) → WorkersEnded C → Option C
 cause_of true ended = None
 cause_of false (workers.Stopped c) = Some c
@@ -39,15 +39,15 @@ cause_of false workers.Whole = None
 cause_of false workers.Cancelled = None
 cause_of false workers.Memory = None
 
--- Rounds of a new world, so many at most, led to the clocks of what ran, which ended as they did.
+-- At most so many rounds of a new world led to these clocks and this ending.
 pub record HasRunInRounds (job : Job) (capacity rounds : ℕ) (r : Ran) : Type 0 where
   pub committed : Committed
   pub run : HasRun job capacity rounds committed
   pub clocks : r.clocks ≡ committed.clocks
   pub ended : r.ended ≡ by_rounds committed.ended
 
--- Workers led to the clocks of what ran, one for each process, none past the end, and the trace is written to the least of them. The
--- run is whole exactly where every clock is at the end, never cut for want of rounds, and stopped exactly where a cause is told.
+-- Workers led to these clocks, one for each process and none past the end, and the trace is written up to the least of them. The run is
+-- whole exactly if every clock is at the end, is never cut for lack of rounds, and is stopped exactly if there is a cause.
 pub record HasRunByWorkers {C : Type 0} (job : Job) (r : RanByWorkers C) : Type 0 where
   pub some_clocks : 0 < length r.ran.clocks.items
   pub count : length r.ran.clocks.items ≡ job.processes

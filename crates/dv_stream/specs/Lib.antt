@@ -1,9 +1,9 @@
 -- ---- What a reader believes
 -- What was written of the trace of a job.
 pub mod Written
--- What one process without others has written.
+-- What a single process has written.
 pub mod Alone
--- How what ran ended.
+-- How a run ended.
 pub mod Endings
 -- Clocks of a run.
 pub mod Clocks

@@ -6,7 +6,7 @@ use Rattle.dv_core.specs.ProcessState.{ProcessState}
 use Rattle.dv_record.specs.Told.{Handed}
 use Rattle.dv_work.specs.Seats.{HasHandedOver}
 
--- by the numbers of processes: each has handed over its part before the clock up to which it is kept
+-- each process has handed over its part before its clock in the backlog; the lists are by the numbers of the processes
 pub record AreJoined (job : Job) (states : List ProcessState) (handed : List Handed) (clocks : List Time) : Type 0 where
   pub count : length clocks ≡ job.processes
   pub each : (p : ℕ) (x : ProcessState) (h : Handed) (t : Time) → slice_get states p ≡ Some x → slice_get handed p ≡ Some h

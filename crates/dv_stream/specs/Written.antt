@@ -23,26 +23,26 @@ lines_before job tree n = instants_text (tree_names tree) (tree_ports tree) job.
 abbrev pub lines_between : Job → Source → Time → Time → List ℕ
 lines_between job tree from upto = part_text (tree_names tree) (tree_ports tree) (trace job from upto)
 
--- A writer's known bytes grew by the lines of all instants before a mark, and it is known whether a fault is among them.
+-- The known bytes of a writer grew by the lines of all instants before a mark, and it is known whether a fault is among them.
 pub record IsWrittenTo (job : Job) (tree : Source) (old new : Option (List ℕ)) (w : Written) : Type 0 where
   pub of_run : IsOfRun job.limit w.mark
   pub text : Appends old new (lines_before job tree (rank job.limit w.mark))
   pub faults : w.faulted ≡ has_fault (trace_before job.limit (whole job.flat) job.outside (rank job.limit w.mark))
 
--- They grew by a beginning of the lines of a job's instants to its end.
+-- The known bytes of a writer grew by a beginning of the lines of a job's instants.
 pub record IsBegun (job : Job) (tree : Source) (old new : Option (List ℕ)) : Type 0 where
   pub upto : ℕ
   pub within : upto ≤ end_of job.limit job.horizon
   pub text : AppendsBeginning old new (lines_before job tree upto)
 
--- What was written went on from one mark to another.
+-- The known bytes of a writer grew by the lines from one mark up to another.
 pub record GoesOn (job : Job) (tree : Source) (old new : Option (List ℕ)) (before after : Written) : Type 0 where
   pub of_run : IsOfRun job.limit after.mark
   pub order : IsNoLater job before.mark after.mark
   pub text : Appends old new (lines_between job tree before.mark after.mark)
   pub faults : after.faulted ≡ (before.faulted || has_fault (trace job before.mark after.mark))
 
--- It stopped within the lines from one mark to another.
+-- The known bytes of a writer grew by a beginning of the lines from a mark on.
 pub record Falters (job : Job) (tree : Source) (old new : Option (List ℕ)) (before : Written) : Type 0 where
   pub upto : Time
   pub order : IsNoLater job before.mark upto

@@ -1,4 +1,4 @@
-//! One process on one thread, whose record is its text: what it told is written between rounds, and let go.
+//! Runs one process, whose record is its text. The text is written and freed between rounds.
 
 ghost use Rattle.std.specs.Prelude.{◌≡◌, ◌↔◌, ◌<◌, ◌∷◌, ℕ, [], List, IfOk, IsTrue, OnErr, length, map};
 ghost use Rattle.dv_bag.specs.Bag.{Counts};
@@ -29,13 +29,15 @@ use dv_tree::Tree;
 use std::alloc::Global;
 use std::io::Write;
 
-// What was told is written after each batch of this many rounds at most, so that a reader waits no longer than the rounds take.
+// The text is written after each batch of at most this many rounds, so that a reader waits no
+// longer than the rounds take.
 const ROUNDS_BETWEEN: u64 = 64;
 
-// Where a batch told more bytes than this, the next one has half as many rounds, and else twice as many.
+// If a batch put more bytes than this, the next one has half as many rounds, and else twice as
+// many.
 const MANY_BYTES: usize = 65_536;
 
-// Writes what the one process of a job has told and is not written yet, and lets go of it.
+// Writes and frees the text of the one process of a job.
 fn write_told<J: PlannedJob, R: KnowsFaults, P: LogicalProcess<Record = R>, W: Write>(
     world: &mut World<J, P>,
     tree: &Tree<'_>,
@@ -61,7 +63,7 @@ fn write_told<J: PlannedJob, R: KnowsFaults, P: LogicalProcess<Record = R>, W: W
 {
     let _ = tree;
     let _ = before;
-    // What is told is the lines of the instants.
+    // For the prover alone: a trace is the lines of its instants.
     a_trace_is_its_instants::<Bags>();
     let process = world.process(0);
     let mark = process.clock();
@@ -72,7 +74,7 @@ fn write_told<J: PlannedJob, R: KnowsFaults, P: LogicalProcess<Record = R>, W: W
     Ok(Written { mark, faulted })
 }
 
-// How many rounds the next batch has after one of so many, by how much waits to be written.
+// How many rounds the next batch has, after one of `rounds`, by how much waits to be written.
 fn rounds_at_once<J: PlannedJob, P: LogicalProcess>(world: &World<J, P>, rounds: u64) -> u64
     requires { (J.means world.now.job).processes ≡ 1 }
     ensures { 0 < result }
@@ -86,7 +88,8 @@ fn rounds_at_once<J: PlannedJob, P: LogicalProcess>(world: &World<J, P>, rounds:
     next.max(1)
 }
 
-// So many rounds, and then what is new of the text is written. Returns with it how many rounds the next batch has.
+// Runs `rounds` rounds, and then writes the new text. Returns also how many rounds the next batch
+// has.
 fn advance_alone<J: PlannedJob, R: KnowsFaults, P: LogicalProcess<Record = R>, W: Write>(
     world: &mut World<J, P>,
     work: &mut P::Work,
@@ -119,7 +122,7 @@ fn advance_alone<J: PlannedJob, R: KnowsFaults, P: LogicalProcess<Record = R>, W
     Ok((ended, written, at_once))
 }
 
-// Rounds of the one process of a world, so many at most; what it tells is written meanwhile.
+// Runs the one process of a world in at most `rounds` rounds, and writes its text meanwhile.
 fn stream_process<J: PlannedJob, R: KnowsFaults, P: LogicalProcess<Record = R>, W: Write>(
     world: &mut World<J, P>,
     work: &mut P::Work,
@@ -158,7 +161,7 @@ fn stream_process<J: PlannedJob, R: KnowsFaults, P: LogicalProcess<Record = R>, 
     Ok((ended, written))
 }
 
-// Runs the one process of a new world, in rounds, so many at most, and writes what it tells meanwhile.
+// Runs the one process of a new world in at most `rounds` rounds, and writes its text meanwhile.
 fn run_process<J: PlannedJob, R: KnowsFaults, P: LogicalProcess<Record = R>, W: Write>(
     alloc: Global,
     world: &mut World<J, P>,
@@ -183,14 +186,15 @@ fn run_process<J: PlannedJob, R: KnowsFaults, P: LogicalProcess<Record = R>, W: 
     Ok(ran)
 }
 
-/// Runs the one process of a plan from its start, in rounds within these bounds, and writes the lines of the trace before its clock
-/// while it runs. It tells what happens to a record that was told nothing and writes with the names of a tree; what was
-/// written is let go. Where memory is refused to a turn the last round is cut; what was committed before is what ran, and is
-/// written.
+/// Runs the one process of a plan from its start, in rounds within these bounds, and writes the
+/// lines of the trace before its clock while it runs. Its record `to` is empty and has the names of
+/// the tree. If memory is refused to a turn, the last round is cut; what was committed before is
+/// what ran, and is written.
 ///
 /// # Errors
 ///
-/// A write failed, or there is no memory for the process. The writer holds a beginning of the lines.
+/// A write failed, or there is no memory for the process. The writer holds a beginning of the
+/// lines.
 pub fn stream_alone<J: PlannedJob, A: Atomic + Drop, R: KnowsFaults, W: Write>(
     job: J,
     plan: Plan<A>,

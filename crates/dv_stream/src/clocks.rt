@@ -6,7 +6,7 @@ use dv_core::LogicalProcess;
 use dv_time::Time;
 use std::alloc::{AllocError, Global};
 
-/// The clocks of processes.
+/// The clocks of processes, by number.
 ///
 /// # Errors
 ///

@@ -6,7 +6,7 @@ ghost use Rattle.dv_written.specs.Faults.{has_fault};
 use dv_merge::PartRefs;
 use dv_written::OfJob;
 
-/// Whether some entry is a fault.
+/// Whether an entry of a part is a fault.
 pub fn has_fault<N: OfJob>(part: &PartRefs<'_, N>) -> bool
     ensures { result ≡ has_fault part.now }
 {

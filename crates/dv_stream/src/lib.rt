@@ -1,33 +1,36 @@
-//! The trace of a run, written while the run goes on.
+//! Runs a plan, and writes its trace while it runs.
 //!
-//! `stream_plan` runs a plan in rounds on one thread and writes after some of them; `stream_plan_by_workers` writes
-//! in a loop of its own, beside workers on threads. Both write what is before the least clock and keep the rest, and
-//! let go of what is written. Both answer with a `Ran`: the clocks, what was written, and whether the run is
-//! whole, or why it is cut. The writer got exactly the lines of the trace before the least clock, or after an error
-//! a beginning of the lines before some time. A `Watch` is called around each turn of a worker: it may delay the turn
-//! or stop the run for a cause, which is told beside the `Ran`, and changes nothing else.
+//! `stream_plan` runs a plan in rounds on one thread, and writes after batches of rounds.
+//! `stream_plan_by_workers` runs it by workers on threads, and writes in a loop beside them. Both
+//! write what is before the least clock, keep the rest, and free what is written. Both return a
+//! [`Ran`]: the clocks, what was written, and whether the run is whole or why it is cut. The writer
+//! got exactly the lines of the trace before the least clock, or, after an error, a beginning of
+//! the lines before some time.
 //!
-//! `dv_run` gives it the plan of a text. How the text ends is not written here but in `dv_job`. That a run by workers
-//! comes to an end is tested and not proved.
+//! A [`Watch`] is called before and after each turn of a worker. It may delay the turn or stop the
+//! run for a cause, which is returned beside the `Ran`. It changes nothing else.
+//!
+//! `dv_run` makes the plan of a text, and `dv_job` writes the last line. That a run by workers
+//! comes to an end is tested, not proved.
 #![tactic(auto)]
 
-/// One process on one thread, whose record is its text.
+/// Runs one process, whose record is its text.
 pub mod alone;
 /// The clocks of processes.
 pub mod clocks;
 /// Whether a part of a trace holds a fault.
 pub mod faults;
-/// The pieces of all processes, merged and written.
+/// Merges the pieces of all processes, and writes them.
 pub mod merged;
-/// What workers post, written while they run.
+/// Writes what workers post, while they run.
 pub mod news;
-/// The processes of a plan, run by workers.
+/// Runs the processes of a plan by workers.
 pub mod planned;
 /// What ran, and how it ended.
 pub mod ran;
-/// What workers did not post, written once they are done, and how their run ended.
+/// Writes what workers did not post, once they have ended.
 pub mod rest;
-/// Rounds on one thread; between them the trace is written.
+/// Runs the processes of a plan in rounds on one thread, and writes between them.
 pub mod rounds;
 /// Who watches the turns of processes by workers.
 pub mod watch;

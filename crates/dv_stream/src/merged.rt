@@ -1,4 +1,4 @@
-//! The pieces of all processes, merged and written.
+//! Merges the pieces of all processes, and writes them.
 
 ghost use Rattle.std.specs.Prelude.{◌≡◌, ◌<◌, ◌≤◌, IfOk, OnErr, replicate};
 ghost use Rattle.dv_bag.specs.declared.entry.Entry.{Entry as MeantEntry};
@@ -24,19 +24,20 @@ use dv_written::OfJob;
 use std::alloc::{AllocError, Global};
 use std::io::Write;
 
-/// What merges the pieces of all processes and writes them.
+/// Merges the pieces of all processes and writes them.
 #[derive(Drop)]
 pub struct Merger<'t, N: OfJob> {
-    /// What gives memory to pieces that are put together.
+    /// Gives memory to pieces that are joined.
     pub alloc: Global,
-    /// What is joined and not written yet.
+    /// The pieces that are joined and not written yet.
     pub backlog: Backlog<N>,
-    /// What makes the lines.
+    /// Makes the lines.
     pub lines: TraceWriter<'t, N>,
 }
 
 impl<'t, N: OfJob> Merger<'t, N> {
-    /// With nothing joined and nothing written yet, of so many processes, and the words of the tree that these words are of.
+    /// A merger of so many processes, with nothing joined and nothing written. Its lines have the
+    /// names of the tree of `words`.
     ///
     /// # Errors
     ///
@@ -59,12 +60,13 @@ impl<'t, N: OfJob> Merger<'t, N> {
     }
 }
 
-/// Writes what the trace of a job has from what was written on and before another mark. The pieces are what each process
-/// committed in between.
+/// Writes what the trace of a job has from the mark of `before` up to `mark`. The pieces are what
+/// each process committed in between.
 ///
 /// # Errors
 ///
-/// A write failed, or there is no memory to put the pieces together. The writer holds a beginning of the lines.
+/// A write failed, or there is no memory to merge the pieces. The writer holds a beginning of the
+/// lines.
 pub fn write_merged<N: OfJob, J: PlannedJob, W: Write>(
     alloc: Global,
     job: &J,
@@ -88,7 +90,7 @@ pub fn write_merged<N: OfJob, J: PlannedJob, W: Write>(
         (W.contents writer.old) (W.contents writer.new) before) }
 {
     let _ = job;
-    // A piece of the trace stands by time.
+    // For the prover alone: a piece of the trace is sorted by time.
     a_trace_is_its_pieces::<Bags>();
     let piece = merge(alloc, pieces)?;
     write_piece(before, &piece, mark, lines, writer)

@@ -1,4 +1,4 @@
-//! What workers post, written while they run.
+//! Writes what workers post, while they run.
 
 ghost use Rattle.std.specs.Prelude.{◌≡◌, ◌≤◌, IfNone, IfOk, IfSome, OnErr, length};
 ghost use Rattle.dv_time.specs.Time.{IsOfRun, end_of, rank};
@@ -20,28 +20,28 @@ use std::io::Write;
 use std::sync::Wait;
 use std::thread::yield_now;
 
-// How often the loop checks at most whether the run has begun; it yields the processor each time. A thread that was
-// made starts within a thousandth of that.
+// How often the loop looks at most whether the run has begun. It yields the processor after each
+// look. A new thread starts within a thousandth of this time.
 const LOOKS_FOR_A_BEGINNING: u32 = 1_000_000;
 
-/// What the loop beside the workers and the workers themselves share: the board with what is posted, and what tells them of each other.
+/// What the workers share with the loop that writes: the board, bells, flags and leads.
 #[derive(Drop)]
 pub struct Signals<N: OfJob> {
-    /// Where workers post what their processes committed.
+    /// Where the workers post.
     pub board: Board<N>,
     /// Is raised once the run has begun.
     pub begun: Flag,
-    /// Is raised once the loop takes what is posted; no process runs away from it then.
+    /// Is raised once the loop takes what is posted. Only then processes are held back.
     pub paced: Flag,
-    /// Rings after something was posted, and after the run has ended.
+    /// Rings after a post, and after the run has ended.
     pub news: Bell,
     /// Is raised once the run has ended.
     pub ended: Flag,
-    /// Is raised where nothing more can be written; the workers end then.
+    /// Is raised if nothing more can be written. Then the workers end.
     pub stop: Flag,
-    /// The bells of the workers.
+    /// The bells at which the workers wait, by their numbers.
     pub bells: Vec<Bell>,
-    /// How many bytes of lines of each process are posted and not written yet.
+    /// How many bytes of lines of each process were posted and are not written yet.
     pub leads: Leads,
 }
 
@@ -53,7 +53,7 @@ fn ring_all(bells: &[Bell]) {
 }
 
 impl<N: OfJob> Signals<N> {
-    /// Of a run that has not begun, of so many processes by so many workers. Nothing is posted.
+    /// The signals of a run that has not begun.
     ///
     /// # Errors
     ///
@@ -78,7 +78,7 @@ impl<N: OfJob> Signals<N> {
         })
     }
 
-    /// Where workers post, and what they look at.
+    /// The signals as workers see them.
     pub fn stream(&self) -> Stream<'_, N>
         ensures { result.bells.now ≡ self.now.bells.items }
     {
@@ -97,7 +97,8 @@ impl<N: OfJob> Signals<N> {
         self.begun.raise(rt, &[]);
     }
 
-    /// Waits a while for the run to begin, and tells whether it has. It does not where no thread can be made for it.
+    /// Waits a while for the run to begin, and returns whether it has. It does not if no thread can
+    /// be made for it.
     pub fn has_begun(&self) -> bool {
         for _ in 0..LOOKS_FOR_A_BEGINNING {
             if self.begun.is_raised() {
@@ -108,19 +109,20 @@ impl<N: OfJob> Signals<N> {
         false
     }
 
-    /// Ends the run: nothing more can be written.
+    /// Tells the workers to end, since nothing more can be written.
     pub fn stop<R: Wait>(&self, rt: &R) {
         self.stop.raise(rt, &self.bells);
     }
 
-    /// Counts what was taken off the board.
+    /// Counts in the leads what was taken off the board.
     pub fn note_taken(&self, pieces: &[Piece<N>]) {
         for piece in pieces {
             self.leads.take(piece.process, piece.part.byte_count());
         }
     }
 
-    /// Tells the workers how much of what was taken is still kept.
+    /// Takes off the leads what the backlog does not keep any more. Rings all bells if a process
+    /// that was held back may go on.
     pub fn note_kept(&self, backlog: &Backlog<N>) {
         let mut may_go_on = false;
         for process in 0..self.leads.processes() {
@@ -140,8 +142,8 @@ impl<N: OfJob> Signals<N> {
     }
 }
 
-// Writes what a backlog has of the trace from what was written on and before the least clock. Where nothing more is known, or there
-// is no memory to put it together, nothing is written.
+// Writes what a backlog has of the trace from the mark of `before` up to the least clock. Writes
+// nothing and returns `None` if there is no memory to merge it.
 fn write_known<N: OfJob, W: Write>(
     alloc: Global,
     backlog: &Backlog<N>,
@@ -161,7 +163,7 @@ fn write_known<N: OfJob, W: Write>(
     ensures err { OnErr result (Falters N.job lines.old
         (W.contents writer.old) (W.contents writer.new) before) }
 {
-    // A piece of the trace stands by time.
+    // For the prover alone: a piece of the trace is sorted by time.
     a_trace_is_its_pieces::<Bags>();
     let Ok(Some((pieces, mark))) = backlog.known(alloc, before.mark) else {
         return Ok(None);
@@ -173,8 +175,8 @@ fn write_known<N: OfJob, W: Write>(
     Ok(Some(written))
 }
 
-/// Writes what a backlog has of the trace from what was written on, and lets go of it. None where there is no memory to put that
-/// together; nothing is written then.
+/// Writes what the backlog of a merger has of the trace from the mark of `before` up to the least
+/// clock, and frees it. Writes nothing and returns `None` if there is no memory to merge it.
 ///
 /// # Errors
 ///
@@ -204,9 +206,9 @@ pub(crate) fn write_joined<N: OfJob, W: Write>(
     Ok(known)
 }
 
-// Takes off the board what was posted, writes what is then known of the trace, lets go of it, and tells the workers. Where a piece is
-// lost the run is to end, since the trace has a gap there; and where nothing can be put together, since processes that are held back
-// would wait for what is written.
+// Takes all pieces off the board, writes and frees what is then known of the trace, and updates the
+// leads. If a piece is lost, the run is to end, since the trace has a gap there. It is also to end
+// if nothing can be merged, since processes that are held back wait for what is written.
 fn write_posted<N: OfJob, R: Wait, W: Write>(
     rt: &R,
     signals: &Signals<N>,
@@ -224,7 +226,7 @@ fn write_posted<N: OfJob, R: Wait, W: Write>(
     ensures err { OnErr result (Falters N.job merger.old.lines
         (W.contents writer.old) (W.contents writer.new) before) }
 {
-    // What nothing is added to goes on at once.
+    // For the prover alone: no lines were added.
     a_trace_is_its_pieces::<Bags>();
     let pieces = signals.board.take(rt, merger.alloc);
     signals.note_taken(&pieces);
@@ -239,9 +241,9 @@ fn write_posted<N: OfJob, R: Wait, W: Write>(
     Ok(written)
 }
 
-/// Writes the trace of a job, with the names of a tree, as its workers post it, until their run has ended: at each ring for news
-/// all that is known before the least clock. What was posted and is not before it waits in the backlog. Where the run does not begin
-/// nothing is written.
+/// Writes the trace of a job as its workers post it, until their run has ended: after each ring for
+/// news all that is known before the least clock. The rest waits in the backlog. If the run does
+/// not begin, nothing is written.
 ///
 /// # Errors
 ///
@@ -260,7 +262,7 @@ pub fn write_news<N: OfJob, R: Wait, W: Write>(
     ensures err { OnErr result (IsBegun N.job merger.old.lines
         (W.contents writer.old) (W.contents writer.new)) }
 {
-    // Lines are continued by those of the next piece.
+    // For the prover alone: the lines of two adjacent pieces are those of both together.
     a_trace_is_its_pieces::<Bags>();
     let mut written = Written::NOTHING;
     if !signals.has_begun() {

@@ -1,4 +1,4 @@
-//! The processes of a plan, run by workers.
+//! Runs the processes of a plan by workers.
 
 ghost use Rattle.std.specs.Prelude.{◌≡◌, ◌<◌, List, length, IfOk, OnErr};
 ghost use Rattle.dv_bag.specs.Bag.{Counts};
@@ -36,23 +36,26 @@ use std::thread::Threads;
 /// The workers of a run.
 #[derive(Drop)]
 pub struct Workers<'w, K, G> {
-    /// What the turns of each work with, by the worker's number.
+    /// What the turns of each worker work with, by its number. There are as many workers as items.
     pub works: Vec<K>,
-    /// How many packets may be on their way on each link; one more may be in the hand of its sender.
+    /// How many packets each link has room for. One more may be held at the end of its sender.
     pub capacity: usize,
-    /// Who watches each turn.
+    /// Is called before and after each turn, and may stop the run.
     pub watch: &'w G,
 }
 
-/// Runs the processes of a plan from their start on threads, and writes the trace, with the names of a tree, while they run. Process p
-/// belongs to worker p mod the number of workers. `watch` may watch each turn and stop the run for a cause; of several causes that of
-/// the worker with the least number is told. Whatever it does, and whatever the timing of the threads, what was written is the trace
-/// before the least of the clocks, none of which is past the end, and a run is told whole exactly where every clock is at the end.
+/// Runs the processes of a plan from their start by workers, and writes the trace, with the names
+/// of a tree, while they run. Process p belongs to worker p mod the number of workers.
+///
+/// The `watch` of the workers may stop the run for a cause. If it gives several workers a cause,
+/// that of the worker with the least number is returned. For any watch and any timing of the
+/// threads, what was written is the trace before the least of the clocks, none of which is past the
+/// end, and a run is reported whole exactly if every clock is at the end.
 ///
 /// # Errors
 ///
-/// A write failed, or there is no memory for the processes, the links and the threads, or for a piece of the trace. All threads
-/// have ended, and the writer holds a beginning of the lines.
+/// A write failed, or there is no memory for the processes, the links and the threads, or for a
+/// piece of the trace. All threads have ended, and the writer holds a beginning of the lines.
 pub fn stream_plan_by_workers<
     J: PlannedJob,
     A: Atomic + Drop + Send,
@@ -86,8 +89,8 @@ where
     stream_with_words::<Brand, J, A, G, R, W>(rt, alloc, job, plan, workers, &words, writer)
 }
 
-// Makes the records by the words, and runs the processes of a plan with them. No parameter has the job in its type, so a caller can choose
-// the job.
+// Makes a record by the words for each process of a plan, and runs them. No argument has the job in
+// its type, so the caller chooses the job.
 fn stream_with_words<
     'w,
     N: OfJob + Send + Sync,
@@ -175,7 +178,7 @@ where
     )
 }
 
-// A crew of the processes of a plan, each with a record that is made for it.
+// Makes a crew of the processes of a plan, each with a record of its own.
 fn begin_crew<N: OfJob, J: PlannedJob, A: Atomic + Drop, K: HandsOver<N>, M: MakesRecord<K>>(
     alloc: Global,
     job: &J,

@@ -21,22 +21,22 @@ pub enum RunEnded {
     Cut(Why),
 }
 
-/// Why a run did not come to its end.
+/// Why a run was cut.
 #[derive(Clone, Copy, PartialEq, Eq)]
 pub enum Why {
     /// The rounds that were granted are used up.
     Rounds,
-    /// An allocation was refused while a process took its turn, a packet was on its way or a piece of the trace was kept; or no
-    /// thread could be made for a worker.
+    /// An allocation was refused for a turn, for a packet or for a piece of the trace, or no thread
+    /// could be made for a worker.
     Memory,
-    /// Whoever watched the turns of workers stopped the run.
+    /// The watch of a run by workers stopped it.
     Stopped,
 }
 
-/// What ran, whose trace was written up to the least clock.
+/// How far a run came, and what was written of its trace: all before the least clock.
 #[derive(Drop)]
 pub struct Ran {
-    /// The clock to which each process came, by its number.
+    /// The clock of each process, by its number.
     pub clocks: Vec<Time>,
     /// How the run ended.
     pub ended: RunEnded,
@@ -44,16 +44,16 @@ pub struct Ran {
     pub written: Written,
 }
 
-/// What ran by workers.
+/// How far a run by workers came, and the cause for which it was stopped.
 #[derive(Drop)]
 pub struct RanByWorkers<C> {
-    /// What ran.
+    /// How far the run came.
     pub ran: Ran,
-    /// The cause of whoever watched, where that stopped the run.
+    /// The cause for which the watch stopped the run, if it did.
     pub cause: Option<C>,
 }
 
-/// What ran in rounds, by what its processes committed and what was written of that.
+/// The answer of a run in rounds, from what its processes committed and what was written of it.
 pub fn ran_in_rounds(committed: Committed, written: Written) -> Ran
     ensures clocks { result.clocks ≡ committed.clocks }
     ensures ended { result.ended ≡ by_rounds committed.ended }
@@ -72,7 +72,7 @@ pub fn ran_in_rounds(committed: Committed, written: Written) -> Ran
     }
 }
 
-/// What ran in rounds in a world, by how they ended and what was written.
+/// The answer of a run in rounds, from its world, how it ended and what was written of it.
 ///
 /// # Errors
 ///

@@ -1,4 +1,4 @@
-//! What workers did not post, written once they are done, and how their run ended.
+//! Writes what workers did not post, once they have ended.
 
 ghost use Rattle.std.specs.Prelude.{◌≡◌, ◌≢◌, ◌↔◌, ◌<◌, ◌≤◌, ℕ, IsSome, IsTrue, Some, if◌then◌else◌, length, replicate};
 ghost use Rattle.std.specs.Prelude.{slice_get, IfOk, OnErr};
@@ -29,7 +29,7 @@ use dv_written::OfJob;
 use std::io::Write;
 use std::sync::Wait;
 
-/// What workers left, and how their run ended.
+/// What workers left when they ended.
 #[derive(Drop)]
 pub struct Left<N: OfJob, C> {
     /// What each process committed and did not post, by its number.
@@ -38,7 +38,8 @@ pub struct Left<N: OfJob, C> {
     pub ended: Ended<C>,
 }
 
-/// Joins what is left on a board and what was never posted, and writes what is then known of the trace.
+/// Joins what is left on a board and what was not posted, and writes what is then known of the
+/// trace.
 ///
 /// # Errors
 ///
@@ -62,10 +63,10 @@ pub fn write_rest<N: OfJob, R: Wait, W: Write>(
     ensures err { OnErr result (Falters N.job merger.old.lines
         (W.contents writer.old) (W.contents writer.new) before) }
 {
-    // Where a piece is lost, the clocks up to which the processes are kept tell it.
+    // If a piece is lost, the clocks of the backlog show it.
     let _ = merger.backlog.extend_all(board.take(rt, merger.alloc));
     let _ = merger.backlog.extend_all(rest);
-    // What nothing is added to goes on at once.
+    // For the prover alone: no lines were added.
     a_trace_is_its_pieces::<Bags>();
     match write_joined(merger, before, writer)? {
         Some(written) => Ok(written),
@@ -73,8 +74,9 @@ pub fn write_rest<N: OfJob, R: Wait, W: Write>(
     }
 }
 
-/// The clocks of processes whose trace was written up to a mark: those up to which they are kept, if the mark is the least of them.
-/// Else more is known than could be written, and each clock is the mark.
+/// The clocks of processes whose trace was written up to a mark: their clocks in the backlog, if
+/// the mark is the least of them. Otherwise more is known than could be written, and each clock is
+/// the mark.
 pub fn clocks_at(clocks: Vec<Time>, mark: Time) -> Vec<Time>
     requires { 0 < length clocks.items }
     ensures { result.items ≡ (if same_time (least_time clocks.items) mark then clocks.items
@@ -87,7 +89,7 @@ pub fn clocks_at(clocks: Vec<Time>, mark: Time) -> Vec<Time>
     clocks
 }
 
-/// Whether all clocks are at a time.
+/// Whether all clocks are at `end`.
 pub fn all_are(clocks: &[Time], end: Time) -> bool
     ensures { IsTrue result ↔ ((p : ℕ) (t : MeantTime) → slice_get clocks.now p ≡ Some t
         → t ≡ end) }
@@ -95,9 +97,9 @@ pub fn all_are(clocks: &[Time], end: Time) -> bool
     clocks.iter().all(|clock| *clock == end)
 }
 
-/// How a run ended of which the whole trace was written, or not, and the cause for which it was stopped. A run that is cancelled or
-/// whole, of which not the whole trace was written, lacked memory for a piece: for that alone the loop that writes stops the workers
-/// where no write failed.
+/// How a run by workers ended, and the cause for which it was stopped; `is_whole` says whether its
+/// whole trace was written. If not, a run that ended whole or cancelled lacked memory for a piece:
+/// unless a write failed, the loop that writes stops the workers for this reason alone.
 pub fn ended_as<C: Drop>(ended: Ended<C>, is_whole: bool) -> (RunEnded, Option<C>)
     ensures whole { (result.0 ≡ Whole) ↔ IsTrue is_whole }
     ensures ended { result.0 ≡ by_workers is_whole ended }

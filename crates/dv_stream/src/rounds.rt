@@ -1,4 +1,4 @@
-//! Rounds on one thread; between them the trace is written.
+//! Runs the processes of a plan in rounds on one thread, and writes between them.
 
 ghost use Rattle.std.specs.Prelude.{◌≡◌, ◌↔◌, ◌<◌, ◌≤◌, ℕ, List, IfOk, IsTrue, OnErr, OnOk, map, replicate, set, slice_get, Some};
 ghost use Rattle.std.specs.List.{All};
@@ -41,20 +41,21 @@ use std::alloc::{AllocError, Global};
 use std::io::Write;
 use std::marker::Brand;
 
-// The trace is written after each batch of this many rounds. A piece costs an access to each process and a write, which
-// is little compared with the rounds; and a reader waits no longer than the rounds take.
+// The trace is written after each batch of this many rounds. A piece costs an access to each
+// process and a write, which is little compared with the rounds, and a reader waits no longer than
+// the rounds take.
 const ROUNDS_BETWEEN: u64 = 64;
 
-/// What bounds a run in rounds.
+/// The bounds of a run in rounds.
 #[derive(Clone, Copy, PartialEq, Eq)]
 pub struct Bounds {
     /// How many rounds there are at most.
     pub rounds: u64,
-    /// How many packets are on their way on a link at most.
+    /// How many packets are on their way on each link at most.
     pub capacity: usize,
 }
 
-// Joins to a backlog what a process of a world committed beyond what was joined before.
+// Joins to a backlog what a process of a world committed since it was joined last.
 fn join_one<N: OfJob, J: PlannedJob, P: ProcessHandsOver<N>>(
     world: &mut World<J, P>,
     backlog: &mut Backlog<N>,
@@ -89,7 +90,7 @@ fn join_one<N: OfJob, J: PlannedJob, P: ProcessHandsOver<N>>(
     Ok(())
 }
 
-// Joins to a backlog what each process of a world committed beyond what was joined before.
+// Joins to a backlog what each process of a world committed since it was joined last.
 fn join_each<N: OfJob, J: PlannedJob, P: ProcessHandsOver<N>>(
     world: &mut World<J, P>,
     backlog: &mut Backlog<N>,
@@ -114,7 +115,8 @@ fn join_each<N: OfJob, J: PlannedJob, P: ProcessHandsOver<N>>(
     Ok(())
 }
 
-// Writes what a backlog has of the trace from what was written on and before the least clock, and lets go of it.
+// Writes what the backlog of a merger has of the trace from the mark of `before` up to the least
+// clock, and frees it.
 fn write_all<N: OfJob, J: PlannedJob, W: Write>(
     job: &J,
     merger: &mut Merger<'_, N>,
@@ -144,7 +146,7 @@ fn write_all<N: OfJob, J: PlannedJob, W: Write>(
     Ok(written)
 }
 
-// So many rounds, and then what is new of the trace is written.
+// Runs `rounds` rounds, and then writes what is new of the trace.
 fn advance<N: OfJob, J: PlannedJob, P: ProcessHandsOver<N>, W: Write>(
     world: &mut World<J, P>,
     work: &mut P::Work,
@@ -183,7 +185,7 @@ fn advance<N: OfJob, J: PlannedJob, P: ProcessHandsOver<N>, W: Write>(
     Ok((ended, written))
 }
 
-// Whether rounds were used up.
+// Whether the rounds were used up.
 pub(crate) fn is_stalled(ended: Ended) -> bool
     ensures { IsTrue result ↔ (ended ≡ Stalled) }
 {
@@ -193,7 +195,7 @@ pub(crate) fn is_stalled(ended: Ended) -> bool
     }
 }
 
-// Rounds of the processes of a world, so many at most; the trace is written meanwhile.
+// Runs the processes of a world in at most `rounds` rounds, and writes the trace meanwhile.
 fn stream_rounds<N: OfJob, J: PlannedJob, P: ProcessHandsOver<N>, W: Write>(
     world: &mut World<J, P>,
     work: &mut P::Work,
@@ -219,7 +221,7 @@ fn stream_rounds<N: OfJob, J: PlannedJob, P: ProcessHandsOver<N>, W: Write>(
     ensures err { OnErr result (IsBegun (J.means world.old.job) merger.old.lines
         (W.contents writer.old) (W.contents writer.new)) }
 {
-    // Lines are continued by those of the next piece.
+    // For the prover alone: the lines of two adjacent pieces are those of both together.
     a_trace_is_its_pieces::<Bags>();
     let mut left = rounds;
     let nothing = Written::NOTHING;
@@ -232,7 +234,7 @@ fn stream_rounds<N: OfJob, J: PlannedJob, P: ProcessHandsOver<N>, W: Write>(
     Ok((ended, written))
 }
 
-// Runs the processes of a new world, in rounds, so many at most, and writes the trace meanwhile.
+// Runs the processes of a new world in at most `rounds` rounds, and writes the trace meanwhile.
 fn run_processes<N: OfJob, J: PlannedJob, P: ProcessHandsOver<N>, W: Write>(
     alloc: Global,
     world: &mut World<J, P>,
@@ -262,14 +264,14 @@ fn run_processes<N: OfJob, J: PlannedJob, P: ProcessHandsOver<N>, W: Write>(
     Ok(ran)
 }
 
-/// Runs the processes of a plan from their start, in rounds within these bounds, and writes the lines of the trace before the
-/// least clock while they run. Where memory is refused to a turn or to a packet the last round is cut; what was committed before
-/// is what ran, and is written. What was written is let go.
+/// Runs the processes of a plan from their start, in rounds within these bounds, and writes the
+/// lines of the trace before the least clock while they run. If memory is refused to a turn or a
+/// packet, the last round is cut; what was committed before is what ran, and is written.
 ///
 /// # Errors
 ///
-/// A write failed, or there is no memory for the processes or for a piece of the trace. The writer holds a beginning of the
-/// lines.
+/// A write failed, or there is no memory for the processes or for a piece of the trace. The writer
+/// holds a beginning of the lines.
 pub fn stream_plan<J: PlannedJob, A: Atomic + Drop, W: Write>(
     alloc: Global,
     job: J,
@@ -298,8 +300,8 @@ pub fn stream_plan<J: PlannedJob, A: Atomic + Drop, W: Write>(
     stream_with_words::<Brand, J, A, W>(job, plan, work, bounds, &words, writer)
 }
 
-// Makes the records by the words, and runs the processes of a plan with them. No parameter has the job in its type, so a caller can choose
-// the job.
+// Makes a record by the words for each process of a plan, and runs them. No argument has the job in
+// its type, so the caller chooses the job.
 fn stream_with_words<'w, N: OfJob, J: PlannedJob, A: Atomic + Drop, W: Write>(
     job: J,
     plan: Plan<A>,

@@ -1,4 +1,4 @@
-//! A run by workers, whose trace is written while they run.
+//! Runs workers, and writes the trace while they run.
 
 ghost use Rattle.std.specs.Prelude.{◌≡◌, ◌<◌, ◌≤◌, length, IfOk, IfSome, OnErr};
 ghost use Rattle.dv_bag.specs.declared.entry.Entry.{Entry as MeantEntry};
@@ -33,7 +33,8 @@ use std::marker::PhantomData;
 use std::sync::Wait;
 use std::thread::{Threads, join_mut};
 
-/// A job as a type, and its last tick. That is all that workers ask of a job, and it may go where the text of a model may not.
+/// The job `N`, with its last tick. Workers ask no more of a job, and this may be sent to another
+/// thread, unlike a job with the text of a model.
 #[derive(Drop)]
 struct Until<N: OfJob> {
     tick: u64,
@@ -50,14 +51,14 @@ impl<N: OfJob> PlannedJob for Until<N> {
     }
 }
 
-// A job with the crew that runs it.
+// A job with its crew.
 #[derive(Drop)]
 struct CrewedJob<N: OfJob, P, K> {
     job: Until<N>,
     crew: Crew<P, K>,
 }
 
-// Runs a job by its crew, if it has not run yet. Tells that it has begun, and that it has ended.
+// Runs a job by its crew, if it has not run yet. Signals when it begins, and when it has ended.
 fn run_posting<
     N: OfJob + Send + Sync,
     P: ProcessHandsOver<N> + Send,
@@ -98,12 +99,13 @@ where
     }
 }
 
-// What writes what workers post. A closure that knows of it by this trait alone has no lifetime of words in its type.
+// Writes what workers post. A closure that uses a merger by this trait has no lifetime of words in
+// its type.
 trait WritesPosts<N: OfJob> {
-    // The tree whose names it writes.
+    // The tree whose names are written.
     ghost tree: { Self → Source };
 
-    // Writes what is posted until the run is through. A write that failed stops the run.
+    // Writes what is posted until the run has ended. A failed write ends the run.
     fn write_posts<R: Wait, W: Write>(
         &mut self,
         rt: &R,
@@ -136,8 +138,9 @@ impl<'t, N: OfJob> WritesPosts<N> for Merger<'t, N> {
     }
 }
 
-// Runs a job by its crew in another thread, and writes in this one what it posts. Where no thread can be made for that, `join_mut` runs
-// the crew last; nothing is written then, since no run begins.
+// Runs a job by its crew in another thread, and writes in this one what it posts. If no thread can
+// be made, `join_mut` runs the crew after the loop that writes; this loop then writes nothing,
+// since no run begins.
 fn run_and_write<
     N: OfJob + Send + Sync,
     P: ProcessHandsOver<N> + Send,
@@ -191,9 +194,9 @@ where
     (written, report)
 }
 
-/// Runs a crew of new processes of a job on threads, each turn watched, and writes the trace, with the words of a tree, while they run.
-/// What was written is the trace before the least of the clocks, none of which is past the end, and a run is told whole exactly where
-/// every clock is at the end.
+/// Runs a crew of new processes of a job by workers, and writes the trace, with the words of a
+/// tree, while they run. What was written is the trace before the least of the clocks, none of
+/// which is past the end, and a run is reported whole exactly if every clock is at the end.
 ///
 /// # Errors
 ///
@@ -277,7 +280,7 @@ where
     run_and_write_rest(rt, job, crew, gate, &signals, &mut merger, writer)
 }
 
-// The same, with what its threads share and what writes the trace.
+// Runs a crew and writes its trace, with given signals and a given merger.
 fn run_and_write_rest<
     N: OfJob + Send + Sync,
     J: PlannedJob,
@@ -307,7 +310,7 @@ where
     ensures err { OnErr result (IsBegun N.job merger.old.lines
         (W.contents writer.old) (W.contents writer.new)) }
 {
-    // Lines are continued by those of the next piece.
+    // For the prover alone: the lines of two adjacent pieces are those of both together.
     a_trace_is_its_pieces::<Bags>();
     let until: Until<N> = Until {
         tick: job.horizon(),
@@ -322,7 +325,7 @@ where
     Ok(ran)
 }
 
-// What ran by workers, by how their run ended, what is joined of it and what was written.
+// The answer of a run by workers, from how it ended, what is joined and what was written of it.
 fn ran_by_workers<N: OfJob, J: PlannedJob, C: Drop>(
     job: &J,
     merger: &Merger<'_, N>,

@@ -1,4 +1,4 @@
-//! What was written of a trace, and the next piece of it.
+//! What was written of a trace, and how the next piece is written.
 
 ghost use Rattle.std.specs.Prelude.{◌≡◌, ◌||◌, IfOk, OnErr, OnOk};
 ghost use Rattle.std.specs.Io.KnownBytes.{Appends};
@@ -16,7 +16,7 @@ use dv_time::Time;
 use dv_written::OfJob;
 use std::io::Write;
 
-/// Up to when the trace was written: all that is before the mark, and nothing since it.
+/// How far a trace was written: all before the mark, and nothing from it on.
 #[derive(Clone, Copy, PartialEq, Eq)]
 pub struct Written {
     /// The time before which all was written.
@@ -26,14 +26,14 @@ pub struct Written {
 }
 
 impl Written {
-    /// Before anything was written.
+    /// Nothing was written.
     pub const NOTHING: Written = Written {
         mark: Time::ZERO,
         faulted: false,
     };
 }
 
-/// Writes the lines of a piece of the trace that begins where the one before it ended, and ends at a mark.
+/// Writes the lines of the next piece of a trace, which ends at `mark`.
 ///
 /// # Errors
 ///
