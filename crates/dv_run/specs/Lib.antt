@@ -1,4 +1,4 @@
--- What ran of a text.
+-- What runs of texts promise.
 pub mod Runs
--- What is planned of a text.
+-- A text as a job.
 pub mod Texts

@@ -1,4 +1,4 @@
--- What ran of a text, and what was printed of it.
+-- How far the run of a text came, and what was printed of it.
 use Rattle.std.specs.Prelude.{◌≡◌, ℕ, ◌<◌, ◌≤◌, nat_eq, List, length, slice_get, Option, Some}
 use Rattle.std.specs.Vec.{vec_len}
 use Rattle.std.specs.Io.KnownBytes.{Appends}
@@ -29,7 +29,7 @@ use Rattle.dv_text.specs.Names.{component_names, root_ports}
 use Rattle.dv_text.specs.Texts.{instants_text}
 use Rattle.dv_text.specs.Writing.{AppendsBeginning}
 
--- Rounds of the processes of a text, so many at most, led from a new world to these clocks, one for each process, by their numbers.
+-- At most so many rounds led from a new world of the processes of a text to these clocks, one for each process, by their numbers.
 pub record LedTo (f : FileTree) (played : List Input) (groups : Grouping) (horizon limit capacity rounds : ℕ) (ended : Ended)
     (times : List Time) : Type 0 where
   pub world : World
@@ -37,7 +37,7 @@ pub record LedTo (f : FileTree) (played : List Input) (groups : Grouping) (horiz
   pub count : length times ≡ groups.processes
   pub clocks : (p : ℕ) (t : Time) → slice_get times p ≡ Some t → world.clock p ≡ t
 
--- where it is whole, all clocks are at the end
+-- if a run is whole, all clocks are at the end
 abbrev pub AreAtEnd : Job → RunEnded → List Time → Type 0
 AreAtEnd job ended clocks = ended ≡ Whole → (p : ℕ) (t : Time) → slice_get clocks p ≡ Some t → t ≡ end_time job
 
@@ -46,8 +46,8 @@ abbrev pub lines_before : List (List ℕ) → FileTree → List Input → (limit
 lines_before names f played limit n =
     instants_text (component_names names f) (root_ports names f) limit (network_of limit f) (outside f limit played) n
 
--- What a writer got of a text that ran: the lines of the trace of its resultant with these inputs, before the least of the clocks to
--- which its processes came, one for each, none of which is past the end. Where the run is whole, that is the end.
+-- What a writer got of the run of a text: the lines of the trace of its resultant with these inputs, before the least clock. There is
+-- one clock for each process, and none is past the end. If the run is whole, the least clock is the end.
 pub record IsPrinted (names : List (List ℕ)) (f : FileTree) (played : List Input) (groups : Grouping) (horizon limit : ℕ)
     (old new : Option (List ℕ)) (ran : Ran) : Type 0 where
   pub lines : Appends old new (lines_before names f played limit (least_rank limit ran.clocks.items))
@@ -58,8 +58,8 @@ pub record IsPrinted (names : List (List ℕ)) (f : FileTree) (played : List Inp
   pub within : AreWithin horizon limit ran.clocks.items
   pub whole : ran.ended ≡ Whole → least_rank limit ran.clocks.items ≡ end_of limit horizon
 
--- The same of a run in rounds, which led to those clocks: it is cut for want of rounds only where there are no more rounds than ranks
--- before the end.
+-- The same of a run in rounds, which led to these clocks. It is cut for lack of rounds only if there are no more rounds than ranks before
+-- the end.
 pub record IsRunOf (names : List (List ℕ)) (f : FileTree) (played : List Input) (groups : Grouping)
     (horizon limit capacity rounds : ℕ) (old new : Option (List ℕ)) (ran : Ran) : Type 0 where
   pub printed : IsPrinted names f played groups horizon limit old new ran
@@ -68,16 +68,16 @@ pub record IsRunOf (names : List (List ℕ)) (f : FileTree) (played : List Input
   pub ended_so : ran.ended ≡ by_rounds ended
   pub led : LedTo f played groups horizon limit capacity rounds ended ran.clocks.items
 
--- A writer got a beginning of the lines before some rank, which is not past the end.
+-- A writer got a beginning of the lines before some rank that is not past the end.
 pub record IsCutShort (names : List (List ℕ)) (f : FileTree) (played : List Input) (horizon limit : ℕ) (old new : Option (List ℕ))
     : Type 0 where
   pub upto : ℕ
   pub within : upto ≤ end_of limit horizon
   pub lines : AppendsBeginning old new (lines_before names f played limit upto)
 
--- The headline. The steps of a list, each with its reply, led from a new world of the text's processes to these clocks, and each turn
--- that was done made progress; and what each process has committed is exactly its components' part, before its clock, of the trace of
--- the text's resultant with these inputs.
+-- The main claim on steps. The steps of a list, each with its reply, led from a new world of the text's processes to these clocks, and
+-- each turn that was done made progress. What each process has committed is exactly its components' part, before its clock, of the trace
+-- of the text's resultant with these inputs.
 pub record IsStepped (f : FileTree) (played : List Input) (groups : Grouping) (horizon limit capacity : ℕ) (steps : List Step)
     (s : Stepped) : Type 0 where
   pub world : World

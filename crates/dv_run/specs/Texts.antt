@@ -1,4 +1,4 @@
--- A text that is run, as a job, and what code has of it: its components by their programs, and its links.
+-- A text as a job, with its components as programs, and its links.
 use Rattle.std.specs.Prelude.{◌≡◌, ℕ, List, map}
 use Rattle.std.specs.List.{All}
 use Rattle.dv_bag.specs.declared.response.Response.{Response}
@@ -21,11 +21,11 @@ use Rattle.dv_syntax.specs.Trees.{FileTree, file_of}
 use Rattle.dv_tree.specs.Instances.{Instance, instances}
 use Rattle.dv_run.specs.declared.text_job.TextJob.{TextJob}
 
--- the job that a text with its inputs is, in the processes of its groups
+-- the job of a text with its inputs, in the processes of its groups
 abbrev pub text_job : TextJob → Job
 text_job j = job_of j.limit j.horizon (file_of j.tree.now.file) j.inputs.now j.groups.now.processes (owner_of j.groups.now)
 
--- The components of a file by programs and starts, and the response of each.
+-- The components of a file as programs and starting states, and the response of each.
 pub record AreComponentsOf (f : FileTree) (limit : ℕ) (models : List Programs) (components : List Member) (answers : List Response)
     : Type 0 where
   pub members : map (member_by behaviour_of limit models) components ≡ members_from limit 0 (instances f)

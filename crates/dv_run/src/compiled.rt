@@ -1,4 +1,4 @@
-//! The compiled model of a text, run in rounds.
+//! Runs the compiled model of a text in rounds.
 
 ghost use Rattle.std.specs.Prelude.{◌≢◌, ◌+◌, ◌<◌, ◌≤◌, ◌≡◌, None, IfOk, OnErr};
 ghost use Rattle.dv_board.specs.Jobs.{IsMergeable};
@@ -30,14 +30,14 @@ use law_sound::outside::what_leaves_a_flat_model_is_linear;
 use std::alloc::Global;
 use std::io::Write;
 
-/// Runs the compiled model of a text by its programs and its links, with inputs, in processes that exchange packets in rounds
-/// within these bounds, to a horizon in ticks, and writes the lines of the trace before the least clock while it runs. Where
-/// memory is refused to a turn or to a packet, that is what was known then.
+/// Runs the compiled model of a text in processes that exchange packets in rounds, and writes the
+/// lines of the trace before the least clock while it runs. If memory is refused to a turn or a
+/// packet, the run is cut, and these are the lines that were known then.
 ///
 /// # Errors
 ///
-/// A write failed, or there is no memory for the programs and the tables of the processes, or for a piece of the trace. The
-/// writer holds a beginning of the lines.
+/// A write failed, or there is no memory for the programs and the tables of the processes, or for a
+/// piece of the trace. The writer holds a beginning of the lines.
 pub fn compiled_run<W: Write>(
     alloc: Global,
     job: &TextJob<'_, '_>,
@@ -56,16 +56,15 @@ pub fn compiled_run<W: Write>(
         (file_of job.now.tree.now.file) job.now.inputs.now job.now.horizon job.now.limit
         (W.contents writer.old) (W.contents writer.new)) }
 {
-    // The atomic models of an accepted text have programs.
+    // For the prover alone: the atomic models of an accepted text have programs; its flat model has
+    // its trace, whose lines are those of its instants; what its processes commit can be merged;
+    // and each component is in a process.
     texts_are_compilable();
-    // The flat model of a text has its trace, whose lines are those of its instants.
     parts_of_the_flat_model_are_those_of_the_text();
     parts_are_of_the_trace::<Bags>();
     networks_of_texts();
     a_trace_is_its_instants::<Bags>();
-    // What its processes commit can be merged.
     what_leaves_a_flat_model_is_linear();
-    // Each component is in a process.
     let _processes = job.groups.processes();
     let mut bench = Bench::new(alloc);
     let components = components_of(&mut bench, job.tree, job.limit)?;
@@ -73,7 +72,7 @@ pub fn compiled_run<W: Write>(
     Ok(ran)
 }
 
-// What the processes of a text commit in rounds, written meanwhile.
+// Plans the components of a text, and runs the plan in rounds.
 fn run_components<W: Write>(
     alloc: Global,
     job: &TextJob<'_, '_>,

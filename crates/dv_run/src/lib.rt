@@ -1,17 +1,18 @@
-//! The compiled model of a text: planned, run in processes, and written: in rounds, by a list of steps, or by workers.
+//! Plans the compiled model of a text, runs it in processes, and writes its trace.
 //!
-//! A `TextJob` has a tree, the inputs, the groups of a partition, the horizon and the microstep limit. `compiled_run`
-//! and `compiled_workers` make the programs of an accepted text, plan it, run the plan, and answer with the `Ran` of
-//! `dv_stream`: the clocks to which the processes came, how the run ended, and what was written. `compiled_steps` makes
-//! a list of steps. This is where the code of processes meets the laws of `law_sound`: the lines that were written are
-//! those of the trace of the text's resultant before the least clock, and the run is told whole exactly where that is
-//! the end.
+//! A [`TextJob`] has the tree of a text, its inputs, the groups of a partition, the horizon and the
+//! microstep limit. `compiled_run` (in rounds) and `compiled_workers` (on threads) make the
+//! programs of an accepted text, plan it, and run the plan. They return the [`Ran`] of `dv_stream`:
+//! the clocks of the processes, how the run ended, and what was written. `compiled_steps` makes the
+//! steps of a list. Here the code of processes meets the laws of `law_sound`: the lines that were
+//! written are those of the trace of the text's resultant before the least clock, and a run is
+//! reported whole exactly if this clock is the end.
 //!
-//! `dv_job` calls it with a text that it has read and checked, and writes how the text ends; it prints plans by
-//! `links_of` and `least_responses`. Bytes of models, inputs and partitions are not read here.
+//! `dv_job` reads and checks a text, calls this crate, and writes the last line. It prints plans by
+//! `links_of` and `least_responses`.
 #![tactic(auto)]
 
-/// The compiled model of a text, run in rounds.
+/// Runs the compiled model of a text in rounds.
 pub mod compiled;
 /// Laws of the links of a text.
 pub mod link_laws;
@@ -19,17 +20,17 @@ pub mod link_laws;
 pub mod links;
 /// The values of inputs are numbers of the language.
 mod numbers;
-/// A plan of a text that can be run.
+/// Makes a plan of a text that can be run.
 mod plan;
 /// The responses of the processes of a text.
 pub mod responses;
-/// The compiled model of a text, run by a list of steps.
+/// Runs the compiled model of a text by a list of steps.
 pub mod steps;
-/// What is run of a text.
+/// A text with its inputs and its partition.
 pub mod text_job;
-/// The plan of a text.
+/// Makes the plan of a text.
 pub mod text_plan;
-/// The compiled model of a text, run by workers on threads.
+/// Runs the compiled model of a text by workers.
 pub mod workers;
 
 pub use compiled::compiled_run;

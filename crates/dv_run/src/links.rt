@@ -9,7 +9,7 @@ use dv_plan::Links;
 use dv_share::Link;
 use std::alloc::{AllocError, Global};
 
-/// The links of a text's flat model, in their order.
+/// The links of the flat model of a text, in their order, as a plan has them.
 ///
 /// # Errors
 ///

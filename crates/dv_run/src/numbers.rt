@@ -9,7 +9,7 @@ ghost use Rattle.law_sound.specs.Jobs.{AllInputNumbers};
 use dv_bag::{Input, Inputs};
 use dv_local::Share;
 
-/// Tells that the values of the inputs of shares are numbers of the language. It changes nothing.
+/// Shows that the values of the inputs of shares are numbers of the language. It does nothing.
 pub fn shares_have_numbers<A>(shares: &[Share<A>])
     ensures { AllByRecursion (λ (s : ShareOfCode A). AllInputNumbers s.inputs) shares.now }
 {
@@ -18,7 +18,7 @@ pub fn shares_have_numbers<A>(shares: &[Share<A>])
     }
 }
 
-// Tells that the values of inputs are numbers of the language.
+// Shows that the values of inputs are numbers of the language.
 fn are_numbers(inputs: &Inputs)
     ensures { AllInputNumbers inputs.now }
 {

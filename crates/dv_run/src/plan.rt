@@ -1,4 +1,4 @@
-//! A plan of a text that can be run.
+//! Makes a plan of a text that can be run.
 
 ghost use Rattle.std.specs.Prelude.{◌<◌, ◌≡◌, None, IfOk};
 ghost use Rattle.dv_check.specs.Refusals.{AreOfOneText, refusal_of};
@@ -21,7 +21,7 @@ use law_sound::jobs::texts_are_jobs;
 use law_sound::shares::processes_of_texts_start_sound;
 use std::alloc::{AllocError, Global};
 
-/// The plan of an accepted text, with which a run can begin. The programs stay where they lie.
+/// The plan of an accepted text, with which a run can begin. The plan borrows the programs.
 ///
 /// # Errors
 ///
@@ -43,13 +43,15 @@ pub fn plan_of<'m>(
     ensures run { IfOk result (CanRun text_job behaviour_of_lent lent_takes job.now) }
     ensures some { 0 < (text_job job.now).processes }
 {
-    // An accepted text is a job, whose processes start sound, with links wherever something crosses.
+    // For the prover alone: an accepted text is a job, whose processes begin soundly, with a
+    // channel wherever a link crosses; there are processes, not too many, and each component is in
+    // one.
     texts_are_jobs();
     processes_of_texts_start_sound();
     channels_are_where_links_cross();
-    // There are some processes and not too many, and each component is in one.
     let _processes = job.groups.processes();
     let plan = plan_text(alloc, job, models, members, responses, links)?;
+    // For the prover alone.
     shares_have_numbers(&plan.shares);
     Ok(plan)
 }

@@ -20,10 +20,11 @@ use dv_plan::responses::responses;
 use dv_tree::Tree;
 use std::alloc::{AllocError, Global};
 
-/// The microstep limit under which components are made for their responses, which do not depend on it.
+/// The microstep limit under which components are made for their responses, which do not depend on
+/// it.
 const LIMIT: u32 = 20;
 
-/// The response of each process of an accepted text: the least of its components'.
+/// The response (lookahead) of each process of an accepted text: the least one of its components.
 ///
 /// # Errors
 ///
@@ -40,7 +41,8 @@ pub fn least_responses(
         (responses_of (instances (file_of tree.now.file))))
         (range_with_len 0 groups.now.processes)) }
 {
-    // An accepted text has few components, and its atomic models have programs.
+    // For the prover alone: an accepted text has few components, and its atomic models have
+    // programs.
     checked_files();
     texts_are_compilable();
     let each = responses_of(alloc, tree)?;

@@ -1,4 +1,4 @@
-//! The compiled model of a text, run by a list of steps.
+//! Runs the compiled model of a text by a list of steps.
 
 ghost use Rattle.std.specs.Prelude.{◌≡◌, None, IfOk};
 ghost use Rattle.dv_check.specs.Refusals.{AreOfOneText, refusal_of};
@@ -18,14 +18,15 @@ use dv_plan::{Stepped, step_plan};
 use law_sound::jobs::parts_of_the_flat_model_are_those_of_the_text;
 use std::alloc::{AllocError, Global};
 
-/// Makes the steps of a list with the processes of a text and its inputs, from their start: turns, deliveries and stops, in any
-/// order. Whatever the list and the partition, each process has committed exactly its components' part, before its clock, of
-/// the trace that the text's resultant has; and each turn that is done makes progress. A link holds so many packets at
-/// most.
+/// Makes the steps of a list with the processes of a text, from their start: turns, deliveries and
+/// stops, in any order. A link holds at most `capacity` packets.
+///
+/// For any list and any partition, each process has committed exactly its components' part, before
+/// its clock, of the trace of the text's resultant; and each turn that is done makes progress.
 ///
 /// # Errors
 ///
-/// No memory for the programs, the processes and the replies, or to hand over what was committed.
+/// No memory for the programs, the processes and the replies, or for what was committed.
 pub fn compiled_steps(
     alloc: Global,
     job: &TextJob<'_, '_>,
@@ -40,16 +41,16 @@ pub fn compiled_steps(
     ensures { IfOk result (IsStepped (file_of job.now.tree.now.file) job.now.inputs.now
         job.now.groups.now job.now.horizon job.now.limit capacity steps.now) }
 {
-    // The atomic models of an accepted text have programs.
+    // For the prover alone: the atomic models of an accepted text have programs, and the parts of
+    // its flat model are those of the text.
     texts_are_compilable();
-    // The parts of its flat model are those of the text.
     parts_of_the_flat_model_are_those_of_the_text();
     let mut bench = Bench::new(alloc);
     let components = components_of(&mut bench, job.tree, job.limit)?;
     Ok(step_components(alloc, job, components, links, &mut bench, steps, capacity)?)
 }
 
-// What the processes of a text commit by steps.
+// Plans the components of a text, and makes the steps.
 fn step_components(
     alloc: Global,
     job: &TextJob<'_, '_>,

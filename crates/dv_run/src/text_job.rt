@@ -1,4 +1,4 @@
-//! What is run of a text.
+//! A text with its inputs and its partition.
 
 ghost use Rattle.std.specs.Prelude.{◌≤◌};
 ghost use Rattle.dv_time.specs.Limits.{greatest_limit, greatest_tick};
@@ -8,19 +8,18 @@ use dv_core::PlannedJob;
 use dv_partition::Groups;
 use dv_tree::Tree;
 
-/// A text with its inputs, to be run in processes: its tree, what comes in, which process has which component, and the bounds
-/// of the run, which are in their ranges.
+/// A text with its inputs, to be run in processes. Horizon and limit are in their ranges.
 #[derive(Clone, Copy)]
 pub struct TextJob<'j, 'c> {
-    /// The components of the text.
+    /// The tree of the text.
     pub tree: &'j Tree<'c>,
-    /// What comes in from outside.
+    /// The inputs of the root.
     pub inputs: &'j Inputs,
     /// Which process has which component.
     pub groups: &'j Groups,
     /// The last tick of the run.
     pub horizon: u64,
-    /// The greatest microstep of a tick.
+    /// The limit on the microsteps of a tick.
     pub limit: u32,
     pub ghost horizon_in_range: { horizon ≤ greatest_tick },
     pub ghost limit_in_range: { limit ≤ greatest_limit },

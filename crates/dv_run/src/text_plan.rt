@@ -1,4 +1,4 @@
-//! The plan of a text.
+//! Makes the plan of a text.
 
 ghost use Rattle.std.specs.Prelude.{◌≡◌, None, IfOk};
 ghost use Rattle.dv_check.specs.Refusals.{refusal_of};
@@ -18,8 +18,7 @@ use dv_plan::{Plan, Whole};
 use dv_share::Member;
 use std::alloc::{AllocError, Global};
 
-/// The plan of an accepted text with inputs, in groups of its components: what each process has. The programs stay where
-/// they lie.
+/// The plan of an accepted text with its inputs: what each process has. It borrows the programs.
 ///
 /// # Errors
 ///
@@ -38,6 +37,7 @@ pub fn plan_text<'m>(
     requires links { AreLinksOf (file_of job.now.tree.now.file) links.now }
     ensures { IfOk result (IsPlanOf behaviour_of_lent lent_takes (text_job job.now)) }
 {
+    // For the prover alone.
     checked_files();
     links_rise();
     let lent = lend(alloc, models)?;

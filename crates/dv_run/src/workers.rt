@@ -1,4 +1,4 @@
-//! The compiled model of a text, run by workers on threads.
+//! Runs the compiled model of a text by workers.
 
 ghost use Rattle.std.specs.Prelude.{◌≢◌, ◌↔◌, ◌<◌, ◌≡◌, None, IfOk, IsSome, OnErr, length};
 ghost use Rattle.dv_board.specs.Jobs.{IsMergeable};
@@ -32,26 +32,29 @@ use std::io::Write;
 use std::sync::Wait;
 use std::thread::Threads;
 
-/// What bounds a run by workers.
+/// The bounds of a run by workers.
 #[derive(Clone, Copy, PartialEq, Eq)]
 pub struct WorkerBounds {
     /// How many workers there are.
     pub workers: usize,
-    /// How many packets are on their way on a link at most.
+    /// How many packets each link has room for.
     pub capacity: usize,
 }
 
-/// Runs the compiled model of a text by its programs and its links, with inputs, in processes on a thread for each worker, to a
-/// horizon in ticks, and writes the lines of the trace before the least clock while it runs, whatever the timing of the threads.
-/// Process p is run by worker p mod their number. `watch` may watch each turn and stop the run for a cause. If it is stopped, or
-/// memory is refused to a worker, or a thread is refused, the lines are those of what was known then, which is not all of the run,
-/// and the ending tells which. The cause is told exactly where it ended so; of several it is that of the worker with the least
-/// number.
+/// Runs the compiled model of a text in processes, one thread for each worker, and writes the lines
+/// of the trace before the least clock while it runs, for any timing of the threads. Process p
+/// belongs to worker p mod their number.
+///
+/// `watch` is called before and after each turn, and may stop the run for a cause. If it does, or
+/// if memory or a thread is refused to a worker, the run is cut, and the lines are those that were
+/// known then. A cause is returned exactly if the run ended stopped; of several causes it is that
+/// of the worker with the least number.
 ///
 /// # Errors
 ///
-/// A write failed, or there is no memory for the programs, the tables of the processes and the links, or for a piece of the trace.
-/// All threads have ended, and the writer holds a beginning of the lines.
+/// A write failed, or there is no memory for the programs, the tables of the processes and the
+/// links, or for a piece of the trace. All threads have ended, and the writer holds a beginning of
+/// the lines.
 pub fn compiled_workers<R: Threads + Wait + Sync, G: Watch, W: Write>(
     rt: &R,
     alloc: Global,
@@ -79,16 +82,15 @@ pub fn compiled_workers<R: Threads + Wait + Sync, G: Watch, W: Write>(
         (file_of job.now.tree.now.file) job.now.inputs.now job.now.horizon job.now.limit
         (W.contents writer.old) (W.contents writer.new)) }
 {
-    // The atomic models of an accepted text have programs.
+    // For the prover alone: the atomic models of an accepted text have programs; its flat model has
+    // its trace, whose lines are those of its instants; what its processes commit can be merged;
+    // and each component is in a process.
     texts_are_compilable();
-    // The flat model of a text has its trace, whose lines are those of its instants.
     parts_of_the_flat_model_are_those_of_the_text();
     parts_are_of_the_trace::<Bags>();
     networks_of_texts();
     a_trace_is_its_instants::<Bags>();
-    // What its processes commit can be merged.
     what_leaves_a_flat_model_is_linear();
-    // Each component is in a process.
     let _processes = job.groups.processes();
     let mut bench = Bench::new(alloc);
     let components = components_of(&mut bench, job.tree, job.limit)?;
@@ -102,7 +104,7 @@ pub fn compiled_workers<R: Threads + Wait + Sync, G: Watch, W: Write>(
     Ok(worked)
 }
 
-// A bench for each worker.
+// Makes a bench for each worker.
 fn benches_of(alloc: Global, workers: usize) -> Result<Vec<Bench>, AllocError>
     ensures { IfOk result (λ benches. length benches.items ≡ workers) }
 {
@@ -113,7 +115,7 @@ fn benches_of(alloc: Global, workers: usize) -> Result<Vec<Bench>, AllocError>
     Ok(benches)
 }
 
-// What the processes of a text commit on threads, written meanwhile.
+// Plans the components of a text, and runs the plan by workers.
 fn work_components<R: Threads + Wait + Sync, G: Watch, W: Write>(
     rt: &R,
     alloc: Global,
