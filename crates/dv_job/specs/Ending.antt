@@ -19,13 +19,12 @@ use Rattle.dv_job.specs.declared.ended.JobError.TheVariants as error
 abbrev pub ending_of : PartOf → JobEnded
 ending_of p = if has_fault p then Faulted else Whole
 
--- A model text with the text of its inputs: the one is accepted, and the other says these inputs to a run with this limit.
+-- The text of a model is accepted, and the text of its inputs gives these inputs to a run with this limit.
 pub record IsJob (model inputs : List ℕ) (limit : ℕ) (names : List (List ℕ)) (f : FileTree) (played : List Input) : Type 0 where
   pub accepted : IsModelOf model names f
   pub read : reading_of inputs (input_ports names f) limit ≡ Ok played
 
--- Both texts are accepted, the writer's bytes grew by the whole text of the trace, and the answer says whether that holds a
--- fault.
+-- Both texts are accepted, the writer's bytes grew by the whole text of the trace, and the answer says whether it holds a fault.
 pub record PrintsTrace (model inputs : List ℕ) (horizon limit : ℕ) (old new : Option (List ℕ)) (ended : JobEnded) : Type 0 where
   pub names : List (List ℕ)
   pub file : FileTree
@@ -49,8 +48,8 @@ pub record IsAnswerToInputs (model inputs : List ℕ) (limit : ℕ) (r : InputRe
   pub accepted : IsModelOf model names file
   pub refused : reading_of inputs (input_ports names file) limit ≡ Err r
 
--- What an error leaves: at a refusal nothing was written, and the answer is that of the model's text, or where the model is accepted
--- that of its inputs'; at a failed write a beginning that is not all; where memory ran out nothing or such a beginning.
+-- What an error leaves. At a refusal nothing was written, and the answer is that of the model's text, or, if the model is accepted, that
+-- of its inputs' text. At a failed write there is a beginning that is not all; out of memory, nothing or such a beginning.
 abbrev pub LeftBy : JobError → (model inputs : List ℕ) → (horizon limit : ℕ) → Option (List ℕ) → Option (List ℕ) → Type 0
 LeftBy (error.Text e) model inputs horizon limit old new = IsAnswer model e × Keeps old new
 LeftBy (error.Partition r) model inputs horizon limit old new = ⊥
@@ -58,7 +57,7 @@ LeftBy (error.Inputs r) model inputs horizon limit old new = IsAnswerToInputs mo
 LeftBy error.Write model inputs horizon limit old new = PrintsBeginning model inputs horizon limit old new
 LeftBy error.Memory model inputs horizon limit old new = Keeps old new ⊎ PrintsBeginning model inputs horizon limit old new
 
--- the text is accepted, and its model has so many components
+-- the text is accepted, and its model has this number of components
 pub record HasComponents (text : List ℕ) (count : ℕ) : Type 0 where
   pub names : List (List ℕ)
   pub file : FileTree

@@ -1,4 +1,4 @@
--- The errors of a job: the words by which they are told, and which error comes of which error below.
+-- The errors of a job: how they are printed, and which error of a lower crate each comes from.
 use Rattle.std.specs.Prelude.{◌≡◌, ℕ, List, codes}
 use Rattle.dv_lex.specs.Words.{error_words}
 use Rattle.dv_inputs.specs.Words.{refusal_words}

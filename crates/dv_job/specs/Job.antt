@@ -16,7 +16,7 @@ use Rattle.dv_plain.specs.Source.{network_of, outside}
 use Rattle.dv_text.specs.Names.{component_names, root_ports}
 use Rattle.dv_text.specs.Texts.{whole_text}
 
--- The text is checked: it has these names and is spelled as this file, which breaks no rule and passes no limit but perhaps that
+-- The text is checked: it has these names and is spelled as this file, which breaks no rule and exceeds no limit, except perhaps that
 -- on links.
 pub record IsCheckedFileOf (text : List ℕ) (names : List (List ℕ)) (f : FileTree) : Type 0 where
   pub tokens : List Token
@@ -24,7 +24,7 @@ pub record IsCheckedFileOf (text : List ℕ) (names : List (List ℕ)) (f : File
   pub parsed : IsFileOf tokens f
   pub checked : refusal_of f ≡ None
 
--- The text is accepted: it is checked, and the file has few links. So nothing in the file is refused.
+-- The text is accepted: it is checked, and the file does not have too many links. So nothing in the file is refused.
 pub record IsModelOf (text : List ℕ) (names : List (List ℕ)) (f : FileTree) : Type 0 where
   pub tokens : List Token
   pub lexed : IsTokensOf text names tokens
@@ -32,14 +32,14 @@ pub record IsModelOf (text : List ℕ) (names : List (List ℕ)) (f : FileTree) 
   pub checked : refusal_of f ≡ None
   pub few : link_refusal f ≡ None
 
--- the tokens of the text are those of no file, which shows at the offset of this refusal
+-- the tokens of the text spell no file, and this refusal is where this shows
 pub record HasNoFile (text : List ℕ) (r : Refusal) : Type 0 where
   pub names : List (List ℕ)
   pub tokens : List Token
   pub lexed : IsTokensOf text names tokens
   pub unread : refusal_of_tokens tokens (length text) ≡ Some r
 
--- the file of the text has this as the first of its refusals
+-- this is the first of the refusals of the file of the text
 pub record IsRefusedFile (text : List ℕ) (r : Refusal) : Type 0 where
   pub names : List (List ℕ)
   pub tokens : List Token
@@ -48,7 +48,7 @@ pub record IsRefusedFile (text : List ℕ) (r : Refusal) : Type 0 where
   pub parsed : IsFileOf tokens file
   pub refused : file_refusal file ≡ Some r
 
--- the text is refused: it has no tokens, or its tokens are those of no file, or its file is refused
+-- the text is refused: it has no tokens, or its tokens spell no file, or its file is refused
 abbrev pub IsRefusedText : List ℕ → Refusal → Type 0
 IsRefusedText text r = HasNoTokens text r ⊎ (HasNoFile text r ⊎ IsRefusedFile text r)
 

@@ -22,8 +22,8 @@ pub record ListsBeginning (model : List ℕ) (old new : Option (List ℕ)) : Typ
   pub accepted : IsModelOf model names file
   pub written : StopsShort old new (listing_text names file)
 
--- What an error leaves: at a refusal nothing was written, and the answer is that of the text; at a failed write a beginning
--- that is not all; where memory ran out nothing or such a beginning.
+-- What an error leaves. At a refusal nothing was written, and the answer is that of the text. At a failed write there is a beginning
+-- that is not all; out of memory, nothing or such a beginning.
 abbrev pub LeftByListing : JobError → (model : List ℕ) → Option (List ℕ) → Option (List ℕ) → Type 0
 LeftByListing (error.Text e) model old new = IsAnswer model e × Keeps old new
 LeftByListing (error.Partition r) model old new = ⊥

@@ -7,7 +7,7 @@ use Rattle.dv_tree.specs.Instances.{Instance, instances, root_inputs, root_outpu
 use Rattle.dv_tree.specs.Paths.{name_at, texts_of, with_dots}
 use Rattle.dv_tree.specs.Tables.{Source}
 
--- the ports of a component; what is none has no ports
+-- the ports of a component; a number that is no component has none
 abbrev pub inputs_if : Option Scope → List ℕ
 inputs_if None = []
 inputs_if (Some scope) = scope.inputs

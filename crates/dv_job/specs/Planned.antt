@@ -25,12 +25,12 @@ links_in_plan f = record {
   exits = map exit_of (exit_links f);
 }
 
--- the response of each process: the least of its components'
+-- the response of each process: the least one of its components
 abbrev pub responses_in_plan : FileTree → Grouping → List (Option ℕ)
 responses_in_plan f groups =
     map (λ p. least_response (owner_of groups) p 0 (responses_of (instances f))) (range_with_len 0 groups.processes)
 
--- the model is accepted, the partition is one of its components, and this is the text of the plan that they have
+-- the model is accepted, the partition is one of its components, and this is the text of their plan
 pub record HasPlan (model : List ℕ) (partition : Partition) (text : List ℕ) : Type 0 where
   pub names : List (List ℕ)
   pub file : FileTree

@@ -7,22 +7,22 @@ use Rattle.dv_job.specs.declared.options.Driver.TheVariants.{Rounds, Workers}
 
 -- ---- What drives a run
 
--- what is asked for by workers, or else by rounds; nothing by both
+-- the driver for the given workers or rounds; none if both are given
 abbrev pub driver_of : (workers rounds : Option ℕ) → Option Driver
 driver_of None rounds = Some (Rounds rounds)
 driver_of (Some count) None = Some (Workers count)
 driver_of (Some count) (Some most) = None
 
--- something is asked for, and threads are not too few and not too many
+-- there is a driver, and the number of its workers is in its range
 abbrev pub IsDriver : Option Driver → Type 0
 IsDriver driver = IsSome driver × ((count : ℕ) → driver ≡ Some (Workers count) → (1 ≤ count) × (count ≤ most_workers))
 
--- how many workers run the processes: one where they run in rounds
+-- how many workers there are: one if the driver is rounds
 abbrev pub workers_in : Driver → ℕ
 workers_in (Rounds most) = 1
 workers_in (Workers count) = count
 
--- ---- The whole
+-- ---- All options
 
 pub record AreInRange (h l : ℕ) (d : Option Driver) (c : ℕ) : Type 0 where
   pub horizon : h ≤ greatest_tick

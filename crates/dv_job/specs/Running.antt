@@ -32,8 +32,8 @@ use Rattle.dv_job.specs.declared.options.Options.{Options}
 use Rattle.dv_job.specs.declared.ended.JobError.{JobError}
 use Rattle.dv_job.specs.declared.ended.JobError.TheVariants as error
 
--- A model text, the text of its inputs and a partition: the model is accepted, its components are in these groups, and the
--- inputs are these, in a run with this limit.
+-- The text of a model is accepted, a partition puts its components into these groups, and the text of its inputs gives these inputs to a
+-- run with this limit.
 pub record IsPlanned (model inputs : List ℕ) (partition : Partition) (limit : ℕ) (names : List (List ℕ)) (f : FileTree)
     (groups : Grouping) (played : List Input) : Type 0 where
   pub job : IsJob model inputs limit names f played
@@ -44,15 +44,15 @@ abbrev pub cut_text : List (List ℕ) → FileTree → List Input → (limit : �
 cut_text names f inputs limit clocks =
     partial_text (component_names names f) (root_ports names f) limit (network_of limit f) (outside f limit inputs) clocks
 
--- the whole text of a trace, or one that is cut at the clocks of so many processes, one for each, none of which is past the end; there
--- is at least one
+-- the whole text of a trace, or one that is cut at the clocks of the processes, one for each, none of which is past the end; there is at
+-- least one process
 abbrev pub IsTextOf : List (List ℕ) → FileTree → List Input → (processes horizon limit : ℕ) → List ℕ → Type 0
 IsTextOf names f inputs processes horizon limit text =
     (text ≡ run_text names f inputs horizon limit)
     ⊎ ((clocks : List Time) × (length clocks ≡ processes) × (0 < length clocks) × AreWithin horizon limit clocks
     × (text ≡ cut_text names f inputs limit clocks))
 
--- the rounds that a driver has, if they are bounded; workers have none
+-- the bound on the rounds of a driver, if there is one; workers have none
 abbrev pub rounds_of : Driver → Option ℕ
 rounds_of (Rounds most) = most
 rounds_of (Workers count) = None
@@ -61,7 +61,7 @@ rounds_of (Workers count) = None
 abbrev pub granted : Options → ℕ
 granted o = unwrap_or (rounds_of o.driver) (end_of o.limit o.horizon + 1)
 
--- All is accepted, the writer's bytes grew by the whole text of the trace, and the answer says whether that holds a fault.
+-- All is accepted, the writer's bytes grew by the whole text of the trace, and the answer says whether it holds a fault.
 pub record PrintsWhole (model inputs : List ℕ) (partition : Partition) (o : Options) (old new : Option (List ℕ)) (e : JobEnded)
     : Type 0 where
   pub names : List (List ℕ)
@@ -86,8 +86,8 @@ pub record PrintsCutAt (model inputs : List ℕ) (partition : Partition) (o : Op
   pub within : AreWithin o.horizon o.limit clocks
   pub written : Appends old new (cut_text names file played o.limit clocks)
 
--- The same of a run in rounds, which ended so and led to those clocks. For want of rounds it ends only where there are no more than
--- ranks before the end.
+-- The same of a run in rounds, which led to these clocks and this ending. It is cut for lack of rounds only if there are no more rounds
+-- than ranks before the end.
 pub record PrintsCut (model inputs : List ℕ) (partition : Partition) (o : Options) (old new : Option (List ℕ)) (rounds : Ended)
     : Type 0 where
   pub cut : PrintsCutAt model inputs partition o old new
@@ -110,7 +110,7 @@ pub record PrintsSome (model inputs : List ℕ) (partition : Partition) (o : Opt
   pub is_text : IsTextOf names file played groups.processes o.horizon o.limit text
   pub written : StopsShort old new text
 
--- what an answer says of the writer's bytes; nobody watches the turns of rounds
+-- what an answer says of the writer's bytes; a run in rounds is never stopped
 abbrev pub EndsBy : JobEnded → (model inputs : List ℕ) → Partition → Options → (old new : Option (List ℕ)) → Type 0
 EndsBy ended.Whole model inputs partition o old new = PrintsWhole model inputs partition o old new ended.Whole
 EndsBy ended.Faulted model inputs partition o old new = PrintsWhole model inputs partition o old new ended.Faulted
@@ -142,9 +142,9 @@ pub record IsLastAnswer (model inputs : List ℕ) (partition : Partition) (limit
   pub parted : partition_answer (paths_of names file) partition ≡ Ok groups
   pub refused : reading_of inputs (input_ports names file) limit ≡ Err r
 
--- What an error leaves: at a refusal nothing was written, and the answer is that of the model's text, or where that is accepted
--- that of the partition, or else that of the inputs' text; at a failed write a beginning of a text that is not all of it; at want
--- of memory nothing or such a beginning.
+-- What an error leaves. At a refusal nothing was written, and the answer is that of the model's text, or, if it is accepted, that of the
+-- partition, or else that of the inputs' text. At a failed write there is a beginning of a text that is not all of it; out of memory,
+-- nothing or such a beginning.
 abbrev pub LeftByRun : JobError → (model inputs : List ℕ) → Partition → Options → (old new : Option (List ℕ)) → Type 0
 LeftByRun (error.Text e) model inputs partition o old new = IsAnswer model e × Keeps old new
 LeftByRun (error.Partition r) model inputs partition o old new =

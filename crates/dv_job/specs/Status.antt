@@ -1,4 +1,4 @@
--- The statuses with which the program ends.
+-- The exit statuses of the program.
 use Rattle.std.specs.Prelude.{ℕ, Result, Ok, Err}
 use Rattle.dv_job.specs.declared.ended.JobEnded.{JobEnded}
 use Rattle.dv_job.specs.declared.ended.JobEnded.TheVariants.{Whole, Faulted, Partial}

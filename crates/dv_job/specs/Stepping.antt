@@ -1,4 +1,4 @@
--- What a list of steps of the processes of a text leaves.
+-- What a list of steps of the processes of a text leads to.
 use Rattle.std.specs.Prelude.{ℕ, List}
 use Rattle.dv_bag.specs.declared.inputs.Input.{Input}
 use Rattle.dv_core.specs.declared.step.Step.{Step}

@@ -1,4 +1,4 @@
--- How the text of what ran ends; and why a text was not written to its end, and what the writer then holds.
+-- How the text of a run ends, why a text was not written to its end, and what the writer then holds.
 use Rattle.std.specs.Prelude.{ℕ, Bool, if◌then◌else◌, List, ◌⊎◌, Option}
 use Rattle.std.specs.Io.KnownBytes.{Keeps}
 use Rattle.dv_time.specs.declared.time.Time.{Time}
@@ -12,7 +12,7 @@ use Rattle.dv_job.specs.declared.ended.JobEnded.TheVariants as ended
 use Rattle.dv_job.specs.declared.ended.JobError.{JobError}
 use Rattle.dv_job.specs.declared.ended.JobError.TheVariants as error
 
--- a beginning that is not all of it; where memory was refused perhaps nothing
+-- a beginning that is not all of it, or nothing if memory was refused
 abbrev pub IsUnwritten : JobError → List ℕ → (old new : Option (List ℕ)) → Type 0
 IsUnwritten (error.Text e) text old new = ⊥
 IsUnwritten (error.Partition r) text old new = ⊥
@@ -20,12 +20,12 @@ IsUnwritten (error.Inputs r) text old new = ⊥
 IsUnwritten error.Write text old new = StopsShort old new text
 IsUnwritten error.Memory text old new = Keeps old new ⊎ StopsShort old new text
 
--- how the text of a run ends that came to this end, at these clocks
+-- how the text of a run ends, by its ending and its clocks
 abbrev pub end_text : RunEnded → (horizon : ℕ) → List Time → List ℕ
 end_text Whole horizon clocks = ending_text (text_end.Whole horizon)
 end_text (Cut why) horizon clocks = partial_ending clocks
 
--- how a run ends, some component of which had a fault or none
+-- the answer of a run, by its ending and whether a component had a fault
 abbrev pub ended_at : RunEnded → Bool → JobEnded
 ended_at Whole faulted = if faulted then ended.Faulted else ended.Whole
 ended_at (Cut why) faulted = ended.Partial why

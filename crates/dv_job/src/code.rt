@@ -1,4 +1,4 @@
-//! The programs of a text, as text.
+//! Lists the programs of a text.
 
 ghost use Rattle.std.specs.Prelude.{OnOk, IfErr};
 ghost use Rattle.dv_syntax.specs.Trees.{file_of};
@@ -17,8 +17,9 @@ use std::io::Write;
 ///
 /// # Errors
 ///
-/// `Text` is the text's answer; nothing was written then. For `Write` and `Memory` the writer holds a beginning of the
-/// listing that is not all of it; for `Memory` perhaps nothing. It is never `Partition` or `Inputs`.
+/// `Text` is the answer to the text; nothing was written then. After `Write` and `Memory` the
+/// writer holds a beginning of the listing that is not all of it; after `Memory` perhaps nothing.
+/// It is never `Partition` or `Inputs`.
 pub fn list_code<W: Write>(alloc: Global, model: &[u8], writer: &mut W) -> Result<(), JobError>
     ensures listed { OnOk result (ListsCode model.now (W.contents writer.old)
         (W.contents writer.new)) }
@@ -43,7 +44,7 @@ fn list_tree<W: Write>(
     ensures error { IfErr result (λ e. LeftByListing e model.now (W.contents writer.old)
         (W.contents writer.new)) }
 {
-    // The atomic models of an accepted text have programs.
+    // For the prover alone: the atomic models of an accepted text have programs.
     texts_are_compilable();
     write_listing(alloc, tree, writer)?;
     Ok(())

@@ -15,40 +15,42 @@ use thiserror::Error;
 /// How a run ended that printed a trace.
 #[derive(Clone, Copy, PartialEq, Eq)]
 pub enum JobEnded {
-    /// The trace is whole, to its horizon, and no component had a fault.
+    /// The trace is whole, up to the horizon, and no component had a fault.
     Whole,
-    /// The trace is whole; some component had a fault, and the others went on.
+    /// The trace is whole. A component had a fault, and the others went on.
     Faulted,
-    /// The trace has what is before the clocks that were reached, and the text says so.
+    /// The trace is cut, for this reason: it has what is before the clocks, which its last lines
+    /// give.
     Partial(Why),
 }
 
-/// How a run by workers ended, and the cause for which whoever watched their turns stopped it, if that is how it ended.
+/// How a run by workers ended, and the cause for which it was stopped, if it was.
 #[derive(Drop)]
 pub struct EndedByWorkers<C> {
     /// How the run ended.
     pub ended: JobEnded,
-    /// The cause of whoever watched, where that stopped the run.
+    /// The cause for which the watch stopped the run, if it did.
     pub cause: Option<C>,
 }
 
 /// Why there is no whole trace, or no whole listing.
 #[derive(Debug, Drop, Error)]
 pub enum JobError {
-    /// The model text is refused, with this number on this line; nothing was written.
+    /// The text of the model is refused, with this number on this line. Nothing was written.
     Text(TextError),
-    /// The partition is refused, with this number; nothing was written.
+    /// The partition is refused, with this number. Nothing was written.
     Partition(PartitionRefusal),
-    /// The text of the inputs is refused, with this number on this line; nothing was written.
+    /// The text of the inputs is refused, with this number on this line. Nothing was written.
     Inputs(InputRefusal),
-    /// A write failed; the writer holds a beginning of the text that was to be written, and not all of it.
+    /// A write failed. The writer holds a beginning of the text that is not all of it.
     Write,
-    /// An allocation was refused; the writer holds nothing, or a beginning of the text that is not all of it.
+    /// An allocation was refused. The writer holds nothing, or a beginning of the text that is not
+    /// all of it.
     Memory,
 }
 
-/// The status with which the program ends: 0 whole, 1 refused, not written to the end or out of memory, 3 whole with a
-/// faulted component, 4 partial.
+/// The exit status of the program: 0 for a whole trace, 3 if a component had a fault, 4 for a
+/// partial trace, and 1 for an error.
 pub fn status(outcome: &Result<JobEnded, JobError>) -> u8
     ensures { result ≡ status_of outcome.now }
 {

@@ -1,4 +1,4 @@
-//! How a whole run ended: whether its trace holds a fault.
+//! Whether a trace holds a fault.
 
 ghost use Rattle.std.specs.Prelude.{◌≡◌, if◌then◌else◌};
 ghost use Rattle.dv_job.specs.Ending.{ending_of};
@@ -8,14 +8,14 @@ ghost use Rattle.dv_job.specs.declared.ended.JobEnded.TheVariants.{Faulted, Whol
 use crate::ended::JobEnded;
 use dv_bag::{Trace, What};
 
-/// How a run with this whole trace ended.
+/// How the plain run with this trace ended.
 pub fn ending_of(trace: &Trace) -> JobEnded
     ensures { result ≡ ending_of trace.now }
 {
     whole_ending(has_fault(trace))
 }
 
-// Whether some component had a fault.
+// Whether a component had a fault.
 fn has_fault(trace: &Trace) -> bool
     ensures { result ≡ has_fault trace.now }
 {
@@ -31,7 +31,7 @@ fn is_fault(what: &What) -> bool
     }
 }
 
-/// How a whole run ended in which some component had a fault, or none.
+/// How a whole run ended, by whether a component had a fault.
 pub fn whole_ending(faulted: bool) -> JobEnded
     ensures { result ≡ (if faulted then Faulted else Whole) }
 {

@@ -1,5 +1,5 @@
-//! Laws of texts and models. Each function stands for the law in its contract; its body only names the laws that it
-//! rests on.
+//! Laws of texts and models. Each function is the law in its contract; its body only names the laws
+//! that it uses.
 
 ghost use Rattle.std.specs.Prelude.{◌≡◌, ℕ, List, ◌⊎◌};
 ghost use Rattle.dv_syntax.specs.Trees.{FileTree};

@@ -1,23 +1,26 @@
-//! From bytes to bytes: the calls that the program makes, and the contract of the whole project.
+//! From bytes to bytes: the calls of the program, with the contract of the whole project.
 //!
-//! `run_bytes` takes the bytes of a model and its inputs, a partition and `Options`, and writes the trace of the
-//! model's resultant; its clauses speak of texts and traces, and of processes only where a run is not whole.
-//! `run_by_workers` and `run_watched` say the same on threads, but for the clocks of a partial run; `run_steps` takes
-//! any order of steps, and `run_plain` is the plain run. `check_bytes`, `list_code` and `plan_bytes` check a model,
-//! list its programs and print its plan. It is a law that every text has one model or one answer.
+//! - [`run_bytes`] takes the bytes of a model and its inputs, a partition and [`Options`], and
+//!   writes the trace of the model's resultant. Its clauses speak of texts and traces, and of
+//!   processes only if a run is cut.
+//! - [`run_by_workers`] and [`run_watched`] promise the same for runs on threads, except for the
+//!   clocks of a partial run.
+//! - [`run_steps`] makes steps of processes in any order, and [`run_plain`] is the plain run.
+//! - [`check_bytes`], [`list_code`] and [`plan_bytes`] check a model, list its programs, and print
+//!   its plan.
 //!
-//! The program, the views (`dv_views`) and most tests stand on it; `JobError` is each reason why there is no trace.
-//! Files, command lines and explanations are elsewhere: here an error has its number and line, and one line that
-//! tells it.
+//! The law `a_text_has_one_answer` says that every text has one model or one answer. [`JobError`]
+//! has each reason why there is no trace. An error has its number and line, and prints as one line;
+//! files, command lines and explanations are elsewhere.
 #![tactic(auto)]
 
 /// Whether a text is accepted.
 pub mod check;
-/// The programs of a text, as text.
+/// Lists the programs of a text.
 pub mod code;
 /// How a run ends.
 pub mod ended;
-/// How a whole run ended.
+/// Whether a trace holds a fault.
 mod faults;
 /// Laws of texts and models.
 pub mod laws;
@@ -29,19 +32,19 @@ mod names;
 pub mod options;
 /// The plain run of a model.
 pub mod plain;
-/// The plan of a model, as text.
+/// Prints the plan of a model.
 pub mod planned;
 /// How many rounds a run has.
 mod rounds;
-/// The run of a model in processes.
+/// Runs a model in processes, in rounds.
 pub mod run;
-/// What a run of an accepted text is set up from.
+/// Reads the partition and the inputs of a run.
 mod setup;
-/// The run of a model by a list of steps of its processes.
+/// Runs a model by a list of steps of its processes.
 pub mod steps;
-/// The run of a model in processes on threads.
+/// Runs a model in processes, by workers on threads.
 pub mod workers;
-/// How the text of what ran ends.
+/// Writes the end of a trace.
 mod written;
 
 pub use check::check_bytes;

@@ -1,5 +1,5 @@
-//! From the bytes of a model to the tree of an accepted text, from a partition to its groups, and from the bytes of inputs
-//! to the inputs.
+//! From the bytes of a model to the tree of an accepted text, from a partition to its groups, and
+//! from the bytes of inputs to the inputs.
 
 ghost use Rattle.std.specs.Prelude.{◌≡◌, None, IfOk, IfErr, MatchResult, Ok, Err};
 ghost use Rattle.dv_check.specs.Refusals.{refusal_of};
@@ -24,11 +24,11 @@ use dv_partition::{Groups, Partition, PartitionError, counted_groups, partition}
 use dv_tree::Tree;
 use std::alloc::Global;
 
-/// The checked text of these bytes, whose links are still to be counted.
+/// Reads and checks a text. Its links are not counted yet.
 ///
 /// # Errors
 ///
-/// `Text` is the text's answer. `Memory`: no memory for the text.
+/// `Text` is the answer to the text. `Memory`: no memory for the text.
 pub fn load(alloc: Global, text: &[u8]) -> Result<Checked, JobError>
     ensures checked { IfOk result (λ c. IsCheckedFileOf text.now c.names (file_of c.file)) }
     ensures refused { IfErr result (AnswersWith text.now) }
@@ -39,23 +39,23 @@ pub fn load(alloc: Global, text: &[u8]) -> Result<Checked, JobError>
     }
 }
 
-// The checked text, or why there is none.
+// Reads and checks a text.
 fn read(alloc: Global, text: &[u8]) -> Result<Checked, LoadError>
     ensures checked { IfOk result (λ c. IsCheckedFileOf text.now c.names (file_of c.file)) }
     ensures refused { IfErr result (λ e. IsUnloaded e text.now) }
 {
     let lexed = tokens(alloc, text)?;
     let file = parse(alloc, &lexed.tokens, text.len() as u32)?;
-    // A text may have millions of tokens, and what follows needs none.
+    // A text may have millions of tokens, and nothing needs them from here on.
     drop(lexed.tokens);
     check(alloc, file, lexed.names)
 }
 
-/// The tree of a checked text, if it has few links. With that the text is accepted.
+/// The tree of a checked text, if it does not have too many links. Then the text is accepted.
 ///
 /// # Errors
 ///
-/// `Text` is E17, where there are too many links. `Memory`: no memory for the tree.
+/// `Text` is E17: there are too many links. `Memory`: no memory for the tree.
 pub fn accept<'c>(alloc: Global, text: &[u8], checked: &'c Checked) -> Result<Tree<'c>, JobError>
     requires checked { IsCheckedFileOf text.now checked.now.names (file_of checked.now.file) }
     ensures accepted { IfOk result (λ tree. IsModelOf text.now tree.names (file_of tree.file)) }
@@ -69,7 +69,8 @@ pub fn accept<'c>(alloc: Global, text: &[u8], checked: &'c Checked) -> Result<Tr
     }
 }
 
-/// The groups of the components of an accepted text. Only a text of paths wants the paths of the components.
+/// The groups of a partition of the components of an accepted text. The paths of the components are
+/// made only if the partition is a text.
 ///
 /// # Errors
 ///
@@ -86,7 +87,7 @@ pub fn load_groups(
         (IsErrorOf
         (partition_answer (paths_of tree.now.names (file_of tree.now.file)) groups.entry)) }
 {
-    // A checked file has few components.
+    // For the prover alone: a checked file has few components.
     checked_files();
     match groups {
         Partition::Json(_) => {
@@ -99,7 +100,7 @@ pub fn load_groups(
     }
 }
 
-/// The inputs that a text says to the root of a tree, in a run with this microstep limit.
+/// The inputs of a text for the root of a tree, in a run with this microstep limit.
 ///
 /// # Errors
 ///
@@ -119,7 +120,7 @@ pub fn load_inputs(
     read_inputs(alloc, text, &names, limit)
 }
 
-// The error of a text that was not loaded.
+// The error of a job for an error of loading, with the line of a refusal.
 fn unloaded(text: &[u8], error: LoadError) -> JobError
     ensures { result ≡ job_error_of_load text.now error }
 {

@@ -1,4 +1,4 @@
-//! The names that a plan prints, of a tree.
+//! The names that a plan prints.
 
 ghost use Rattle.std.specs.Prelude.{◌≡◌, IfOk};
 ghost use Rattle.dv_tree.specs.Paths.{name_at, texts_of};
@@ -37,7 +37,7 @@ impl<'t> TreeNames<'t> {
     ///
     /// # Errors
     ///
-    /// No memory for those of the root's input ports.
+    /// No memory for the names of the root's input ports.
     pub fn of(alloc: Global, tree: &'t Tree<'t>) -> Result<Self, AllocError>
         ensures { IfOk result (λ names. names ≡ tree.now) }
     {

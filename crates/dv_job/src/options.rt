@@ -5,38 +5,38 @@ ghost use Rattle.dv_job.specs.Ranges.{AreInRange, IsDriver, driver_of, workers_i
 
 use dv_time::{GREATEST_LIMIT, GREATEST_TICK};
 
-/// The most workers that run processes.
+/// The greatest number of workers.
 pub const MOST_WORKERS: u32 = 256;
 
-/// The most packets that may be on their way on a link between processes.
+/// The greatest number of packets on a link between two processes.
 pub const GREATEST_CAPACITY: u32 = 1_024;
 
 /// What drives the processes of a run.
 #[derive(Clone, Copy, PartialEq, Eq)]
 pub enum Driver {
-    /// All of them in rounds on one thread, so many rounds at most; without a number there are enough.
+    /// Rounds on one thread: at most so many, or as many as are needed.
     Rounds(Option<u64>),
-    /// So many workers on threads of their own, 1 to 256.
+    /// So many workers on threads, 1 to 256.
     Workers(u32),
 }
 
-/// How far to run, and how. Its values are within their ranges: its type keeps that.
+/// How far to run, and how. The type keeps that all values are in their ranges.
 #[derive(Clone, Copy)]
 pub struct Options {
     /// The last tick of the run, 0 to 10^15.
     pub horizon: u64,
-    /// The greatest microstep of a tick, 1 to 1,000.
+    /// The limit on the microsteps of a tick, 1 to 1,000.
     pub limit: u32,
     /// What drives the processes.
     pub driver: Driver,
-    /// How many packets may be on their way on a link between processes, 1 to 1,024.
+    /// How many packets each link between two processes has room for, 1 to 1,024.
     pub capacity: u32,
     pub ghost in_range: { AreInRange horizon limit (Some driver) capacity },
 }
 
 impl Options {
-    /// Options out of these values: `None` where one is out of its range, or where both workers and rounds are
-    /// given. It takes no memory.
+    /// Options with these values, or `None` if one is out of its range, or if both workers and
+    /// rounds are given.
     pub fn new(
         horizon: u64,
         limit: u32,
@@ -66,7 +66,7 @@ impl Options {
         })
     }
 
-    /// How many workers run the processes where threads are there for them, 1 to 256: one where rounds are asked for.
+    /// How many workers `run_by_workers` has, 1 to 256: one if the driver is rounds.
     pub fn workers(&self) -> u32
         ensures count { result ≡ workers_in self.now.driver }
         ensures some { 0 < result }
@@ -78,7 +78,8 @@ impl Options {
     }
 }
 
-// What drives a run for which workers or rounds are given: nothing where both are, or where there are too few workers or too many.
+// The driver of a run for which workers or rounds are given, or `None` if both are, or if the
+// number of workers is out of its range.
 fn driver_in_range(workers: Option<u32>, rounds: Option<u64>) -> Option<Driver>
     ensures accepted { IsSome result ↔ IsDriver (driver_of workers rounds) }
     ensures is { IfSome result (λ d. Some d ≡ driver_of workers rounds) }

@@ -18,13 +18,15 @@ use dv_tree::Tree;
 use std::alloc::Global;
 use std::io::Write;
 
-/// Runs the model of a text as its resultant, on one thread, with the inputs that another text says, and writes the
-/// trace to the horizon. Inputs past the horizon are tested and not played; an empty text has none.
+/// Runs the model of a text as its resultant, with the inputs of another text, and writes the trace
+/// up to the horizon. Inputs past the horizon are checked and have no effect. An empty text has no
+/// inputs.
 ///
 /// # Errors
 ///
-/// `Text` is the answer to the model's text; `Inputs`, where the model is accepted, that to the inputs' text; nothing
-/// was written then. For the others `JobError` says what the writer holds.
+/// `Text` is the answer to the text of the model. If the model is accepted, `Inputs` is the answer
+/// to the text of the inputs. Nothing was written then. For the others, [`JobError`] says what the
+/// writer holds.
 pub fn run_plain<W: Write>(
     alloc: Global,
     model: &[u8],
@@ -57,7 +59,7 @@ fn run_tree<W: Write>(
     ensures error { IfErr result (λ e. LeftBy e model.now inputs.now options.now.horizon
         options.now.limit (W.contents writer.old) (W.contents writer.new)) }
 {
-    // A trace stands by time, and its text is that of its instants, one after the other.
+    // For the prover alone: a trace is sorted by time, and its text is that of its instants.
     parts_are_by_time::<Bags>();
     a_trace_is_its_instants::<Bags>();
     let played = load_inputs(alloc, inputs, tree, options.limit)?;

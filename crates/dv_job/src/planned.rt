@@ -1,4 +1,4 @@
-//! The plan of a model, as text.
+//! Prints the plan of a model.
 
 ghost use Rattle.std.specs.Prelude.{string_bytes, IfErr, IfOk};
 ghost use Rattle.dv_syntax.specs.Trees.{file_of};
@@ -15,13 +15,13 @@ use dv_run::{least_responses, links_of};
 use dv_tree::Tree;
 use std::alloc::Global;
 
-/// The plan of the model of a text, as one JSON object: its components by their paths, the links between them, and of each
-/// process its components and its response.
+/// The plan of the model of a text, as one JSON object: its components by their paths, the links
+/// between them, and of each process its components and its response (lookahead).
 ///
 /// # Errors
 ///
-/// `Text` is the answer to the model's text; `Partition`, where the model is accepted, that to the partition. It is never
-/// `Inputs` or `Write`.
+/// `Text` is the answer to the text of the model. If the model is accepted, `Partition` is the
+/// answer to the partition. It is never `Inputs` or `Write`.
 pub fn plan_bytes(alloc: Global, model: &[u8], groups: Partition<'_>) -> Result<String, JobError>
     ensures planned { IfOk result
         (λ text. HasPlan model.now groups.entry (string_bytes text)) }

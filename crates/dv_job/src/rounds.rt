@@ -7,7 +7,7 @@ ghost use Rattle.dv_time.specs.Limits.{greatest_limit, greatest_tick};
 
 use crate::options::{Driver, Options};
 
-/// How many rounds a run has: those of its driver, or else enough.
+/// How many rounds a run has at most: those of its driver, or else as many as are always enough.
 pub fn granted(options: &Options) -> u64
     ensures { result ≡ granted options.now }
 {
@@ -19,7 +19,7 @@ pub fn granted(options: &Options) -> u64
     }
 }
 
-// How many times of a run there are before its end.
+// How many times a run has before its end.
 fn times_before_end(horizon: u64, limit: u32) -> u64
     requires horizon { horizon ≤ greatest_tick }
     requires limit { limit ≤ greatest_limit }

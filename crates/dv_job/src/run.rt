@@ -1,4 +1,4 @@
-//! The run of a model in processes.
+//! Runs a model in processes, in rounds.
 
 ghost use Rattle.std.specs.Prelude.{IfOk, IfErr};
 ghost use Rattle.dv_syntax.specs.Trees.{file_of};
@@ -19,15 +19,16 @@ use dv_tree::Tree;
 use std::alloc::Global;
 use std::io::Write;
 
-/// Runs the model of a text in processes, by programs and direct links, on one thread, with the inputs that another text
-/// says, and writes the trace to the horizon while it runs. Inputs past the horizon are tested and not played; an empty text has
-/// none. Each group of the partition is one process; processes exchange packets in rounds.
+/// Runs the model of a text in processes, with the inputs of another text, and writes the trace up
+/// to the horizon while it runs. Each group of the partition is one process. The processes exchange
+/// packets in rounds, on one thread. Inputs past the horizon are checked and have no effect. An
+/// empty text has no inputs.
 ///
 /// # Errors
 ///
-/// `Text` is the answer to the model's text; `Partition`, where the model is accepted, that to the partition; `Inputs`,
-/// where both are, that to the inputs' text; nothing was written then. For the others `JobError` says what the writer
-/// holds.
+/// `Text` is the answer to the text of the model. If the model is accepted, `Partition` is the
+/// answer to the partition. If both are, `Inputs` is the answer to the text of the inputs. Nothing
+/// was written then. For the others, [`JobError`] says what the writer holds.
 pub fn run_bytes<W: Write>(
     alloc: Global,
     model: &[u8],
@@ -62,7 +63,7 @@ fn run_tree<W: Write>(
     ensures error { IfErr result (λ e. LeftByRun e model.now inputs.now groups.entry
         options.now (W.contents writer.old) (W.contents writer.new)) }
 {
-    // The lines of a trace are continued by those of what is since.
+    // For the prover alone: the lines of two adjacent pieces are those of both together.
     a_trace_is_its_pieces::<Bags>();
     let Setup {
         links,

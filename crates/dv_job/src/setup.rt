@@ -1,4 +1,4 @@
-//! What a run of an accepted text is set up from.
+//! Reads the partition and the inputs of a run.
 
 ghost use Rattle.std.specs.Prelude.{IfOk, IfErr};
 ghost use Rattle.dv_run.specs.Texts.{AreLinksOf};
@@ -17,23 +17,25 @@ use dv_tree::Tree;
 use law_sound::numbers::inputs_are_of_numbers;
 use std::alloc::Global;
 
-/// What a run is set up from, beside the tree.
+/// What a run of an accepted text needs beside its tree.
 #[derive(Drop)]
 pub struct Setup {
-    /// The links between the components, from outside and to it.
+    /// The links between the components, from the root's inputs and to its outputs.
     pub links: LinkLists,
-    /// The groups of components that are processes.
+    /// The groups of components, one for each process.
     pub groups: Groups,
     /// The inputs of the root, by time.
     pub inputs: Inputs,
 }
 
-/// What a run of an accepted text is set up from, with this microstep limit.
+/// Makes the links of an accepted text, and reads the partition and the inputs, for a run with this
+/// microstep limit.
 ///
 /// # Errors
 ///
-/// `Partition` is the answer to the partition, and `Inputs`, where it is accepted, that to the inputs' text. `Memory`: no memory
-/// for one of them, or for the links. It is never `Text` or `Write`.
+/// `Partition` is the answer to the partition. If it is accepted, `Inputs` is the answer to the
+/// text of the inputs. `Memory`: no memory for one of them, or for the links. It is never `Text` or
+/// `Write`.
 pub fn set_up(
     alloc: Global,
     tree: &Tree,
@@ -50,7 +52,7 @@ pub fn set_up(
     ensures error { IfErr result (AnswersSteps model.now inputs.now groups.entry limit) }
 {
     let _ = model;
-    // The values of inputs that were read are numbers of the language.
+    // For the prover alone: the values of inputs that were read are numbers of the language.
     inputs_are_of_numbers();
     let links = flatten(alloc, tree)?;
     let groups = load_groups(alloc, tree, groups)?;

@@ -1,4 +1,4 @@
-//! The run of a model by a list of steps of its processes.
+//! Runs a model by a list of steps of its processes.
 
 ghost use Rattle.std.specs.Prelude.{IfOk, IfErr};
 ghost use Rattle.dv_syntax.specs.Trees.{file_of};
@@ -16,15 +16,18 @@ use dv_run::{TextJob, compiled_steps};
 use dv_tree::Tree;
 use std::alloc::Global;
 
-/// Makes the steps of a list with the processes of the model of a text, from their start, with the inputs that another text
-/// says: turns, deliveries and stops, in any order. Whatever the list and the partition, each process has committed exactly
-/// its components' part, before its clock, of the trace that the text's resultant has; and each turn that is done makes
-/// progress. Of the options the horizon, the microstep limit and the capacity of links are read.
+/// Makes the steps of a list with the processes of the model of a text, from their start, with the
+/// inputs of another text: turns, deliveries and stops, in any order.
+///
+/// For any list and any partition, each process has committed exactly its components' part, before
+/// its clock, of the trace of the text's resultant; and each turn that is done makes progress. Of
+/// the options, only the horizon, the microstep limit and the capacity of links have an effect.
 ///
 /// # Errors
 ///
-/// `Text` is the answer to the model's text; `Partition`, where the model is accepted, that to the partition; `Inputs`,
-/// where both are, that to the inputs' text. It is never `Write`.
+/// `Text` is the answer to the text of the model. If the model is accepted, `Partition` is the
+/// answer to the partition. If both are, `Inputs` is the answer to the text of the inputs. It is
+/// never `Write`.
 pub fn run_steps(
     alloc: Global,
     model: &[u8],

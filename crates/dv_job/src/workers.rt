@@ -1,4 +1,4 @@
-//! The run of a model in processes on threads.
+//! Runs a model in processes, by workers on threads.
 
 ghost use Rattle.std.specs.Prelude.{◌≡◌, ◌≢◌, ◌↔◌, IfOk, IfErr, IsSome};
 ghost use Rattle.dv_job.specs.Running.{EndsByWorkers, LeftByRun};
@@ -18,14 +18,17 @@ use std::io::Write;
 use std::sync::Wait;
 use std::thread::Threads;
 
-/// Runs the model of a text in processes, as `run_bytes` does, by the workers of the options on threads of their own: process p is
-/// run by worker p mod their number. Options that ask for rounds have one worker, and their bound is not read. Whatever the timing of
-/// the threads, a run that is reported whole prints exactly the trace to the horizon; its lines are written as they become known.
-/// Nobody stops the run.
+/// Runs the model of a text in processes, as [`run_bytes`](crate::run_bytes) does, but by the
+/// workers of the options, each on a thread of its own. Process p belongs to worker p mod their
+/// number. If the driver of the options is rounds, there is one worker, and the bound on rounds has
+/// no effect.
+///
+/// For any timing of the threads, a run that is reported whole prints exactly the trace up to the
+/// horizon. Lines are written as they become known.
 ///
 /// # Errors
 ///
-/// As of `run_bytes`. All threads have ended then.
+/// The same as those of `run_bytes`. All threads have ended then.
 pub fn run_by_workers<R: AllocGlobal + Threads + Wait + Sync, W: Write>(
     rt: &R,
     model: &[u8],
@@ -44,13 +47,14 @@ pub fn run_by_workers<R: AllocGlobal + Threads + Wait + Sync, W: Write>(
     Ok(watched.ended)
 }
 
-/// Runs as [`run_by_workers`] does, and lets somebody watch each turn of a process. Where that one stops the run and memory was
-/// refused to no worker, the answer is `Partial(Stopped)`, unless all clocks came to the end. The cause is told exactly where that
-/// is the answer. Of several causes it is that of the worker with the least number.
+/// Runs as [`run_by_workers`] does, and calls `watch` before and after each turn of a process. If
+/// it stops the run, and no worker was out of memory, the answer is `Partial(Stopped)`, unless all
+/// clocks came to the end. A cause is returned exactly with this answer. Of several causes it is
+/// that of the worker with the least number.
 ///
 /// # Errors
 ///
-/// As of `run_by_workers`.
+/// The same as those of `run_by_workers`.
 pub fn run_watched<R: AllocGlobal + Threads + Wait + Sync, G: Watch, W: Write>(
     rt: &R,
     model: &[u8],
@@ -66,7 +70,7 @@ pub fn run_watched<R: AllocGlobal + Threads + Wait + Sync, G: Watch, W: Write>(
     ensures error { IfErr result (λ e. LeftByRun e model.now inputs.now groups.entry
         options.now (W.contents writer.old) (W.contents writer.new)) }
 {
-    // The lines of a trace are continued by those of what is since.
+    // For the prover alone: the lines of two adjacent pieces are those of both together.
     a_trace_is_its_pieces::<Bags>();
     let alloc = rt.alloc();
     let checked = load(alloc, model)?;

@@ -1,4 +1,4 @@
-//! How the text of what ran ends.
+//! Writes the end of a trace.
 
 ghost use Rattle.std.specs.Prelude.{◌≡◌, if◌then◌else◌, IfOk, IfErr, OnOk};
 ghost use Rattle.std.specs.Io.KnownBytes.{Appends};
@@ -14,11 +14,13 @@ use dv_text::{Ending, write_ending};
 use std::alloc::Global;
 use std::io::Write;
 
-/// Writes how the text of what ran ends.
+/// Writes the last lines of the trace of a run, which say whether it is whole, and if not, to which
+/// clocks the processes came. Returns how the run ended.
 ///
 /// # Errors
 ///
-/// `Write` and `Memory`: the writer holds a beginning of the ending that is not all of it, for `Memory` perhaps nothing.
+/// `Write` and `Memory`: the writer holds a beginning of these lines that is not all of them; after
+/// `Memory` perhaps nothing.
 pub fn write_end<W: Write>(
     alloc: Global,
     ran: &Ran,
@@ -38,7 +40,7 @@ pub fn write_end<W: Write>(
     }
 }
 
-// Writes that the text is whole.
+// Writes that the trace is whole.
 fn write_whole<W: Write>(
     alloc: Global,
     ran: &Ran,
@@ -55,7 +57,7 @@ fn write_whole<W: Write>(
     Ok(whole_ending(ran.written.faulted))
 }
 
-// Writes to which clocks the processes came, for this reason.
+// Writes to which clocks the processes came, in a run that was cut for this reason.
 fn write_cut<W: Write>(
     alloc: Global,
     ran: &Ran,
