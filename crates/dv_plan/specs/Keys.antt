@@ -1,4 +1,4 @@
--- What each part of the code does.
+-- Lists of links by keys.
 use Rattle.std.specs.Prelude.{◌≡◌, ℕ, zero, suc, ◌+◌, ◌*◌, Bool, not, ◌&&◌, nat_eq, if◌then◌else◌, List, [], ◌∷◌, ◌++◌, map}
 use Rattle.std.specs.Prelude.{length, slice_index_or}
 use Rattle.std.specs.List.{range_with_len}
@@ -7,7 +7,7 @@ use Rattle.dv_partition.specs.Groups.{Grouping, owner_of}
 use Rattle.dv_partition.specs.Steps.{with_key}
 use Rattle.dv_share.specs.declared.link.Link.{Link}
 
--- the key of a link between processes: its two processes as one number
+-- the key of a link: the processes of its ends, as one number
 abbrev pub pair_key : Grouping → Link → ℕ
 pair_key g l = owner_of g l.from * g.processes + owner_of g l.to
 
@@ -17,15 +17,15 @@ sender_key g l = owner_of g l.from
 abbrev pub receiver_key : Grouping → Link → ℕ
 receiver_key g l = owner_of g l.to
 
--- items by a key of each, a list for each key below a count
+-- items by their keys: a list for each key below a count
 abbrev pub lists_by : (Link → ℕ) → ℕ → List Link → List (List Link)
 lists_by key count ls = map (λ k. with_key k (map key ls) ls) (range_with_len 0 count)
 
--- are there links from one process to another one, by a list for each pair
+-- whether there are links from one process to another one, by a list for each pair of processes
 abbrev pub sends : ℕ → List (List Link) → ℕ → ℕ → Bool
 sends n lists p q = not (nat_eq p q) && not (nat_eq (length (slice_index_or lists (p * n + q) [])) 0)
 
--- of so many processes from one on those to which one sends
+-- those of so many processes, from one on, to which a process sends
 abbrev pub sent_by : (ℕ → ℕ → Bool) → ℕ → ℕ → ℕ → List Meant
 sent_by sends p q zero = []
 sent_by sends p q (suc n) =
@@ -35,7 +35,7 @@ abbrev pub all_sent : (ℕ → ℕ → Bool) → ℕ → ℕ → ℕ → List Me
 all_sent sends count p zero = []
 all_sent sends count p (suc n) = sent_by sends p 0 count ++ all_sent sends count (suc p) n
 
--- what the type of a cut keeps: each list has the links of its key
+-- the invariant of the type of a cut: each list has the links of its key
 pub record IsCut (g : Grouping) (direct entering leaving : List Link) (pairs to from : List (List Link)) : Type 0 where
   pub between : pairs ≡ lists_by (pair_key g) (g.processes * g.processes) direct
   pub entrances : to ≡ lists_by (receiver_key g) g.processes entering

@@ -1,17 +1,17 @@
--- What a reader believes: what is planned is a job, and a plan has the shares of its processes.
+-- What a reader believes: a flat model in groups is a job, and a plan has the shares of its processes.
 pub mod Wholes
 pub mod Plans
 -- What the code of a plan does.
 pub mod Steps
--- What the links between processes stand for.
+-- What channels mean.
 pub mod Channels
--- A model cut to processes.
+-- The links of a model, cut to processes.
 pub mod Cuts
 -- The keys of links.
 pub mod Keys
 -- The text of a plan.
 pub mod Texts
--- Processes as they begin, the least of their clocks, and what ran of a job.
+-- Processes at the beginning of a run, the least of their clocks, and what they committed.
 pub mod Beginning
 pub mod Clocks
 pub mod Runs

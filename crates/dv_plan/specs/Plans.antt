@@ -1,4 +1,4 @@
--- What a plan of a job has: the links between processes, and of each process its share.
+-- What a plan of a job has: the channels, and the share of each process.
 use Rattle.std.specs.Prelude.{◌≡◌, ℕ, ◌<◌, ◌^◌, length, map, slice_get, Some}
 use Rattle.dv_bag.specs.declared.state.State.{State}
 use Rattle.dv_devs.specs.Behaviour.{Behaviour}
@@ -9,7 +9,7 @@ use Rattle.dv_local.specs.declared.share.Share.{Share}
 use Rattle.dv_conservative.specs.Alike.{AreAlike}
 use Rattle.dv_plan.specs.declared.plan.Plan.{Plan}
 
--- the share of a process: it is one that can be run, and runs as the process's share of the job
+-- the share of a process can be run, and runs as its share of the job
 pub record IsShareOf {S : Type 0} (behaviour : S → Behaviour) (fits : S → State → Type 0) (job : Job) (p : ℕ) (s : Share S) : Type 0 where
   pub share : IsShare fits s
   pub few : length s.tables.members.items < 2 ^ 32

@@ -1,4 +1,4 @@
--- What ran of a job.
+-- What the processes of a job committed.
 use Rattle.std.specs.Prelude.{◌≡◌, ℕ, List, length, slice_get, Some}
 use Rattle.std.specs.Vec.{vec_len}
 use Rattle.dv_time.specs.Time.{rank}
@@ -13,8 +13,8 @@ use Rattle.dv_core.specs.declared.step.Step.{Step}
 use Rattle.dv_plan.specs.declared.ran.Committed.{Committed}
 use Rattle.dv_plan.specs.declared.ran.Stepped.{Stepped}
 
--- What the processes of a world have handed over, by their numbers: the clock of each, which is within the run, and its part of the
--- whole run before its clock.
+-- The clocks of the processes of a world and what each has handed over, by number. Each clock is within the run, and each part is that of
+-- the whole run before the clock.
 pub record AreOfWorld (job : Job) (w : World) (committed : List PartOf) (times : List Time) : Type 0 where
   pub count : length times ≡ job.processes
   pub clocks : (p : ℕ) (t : Time) → slice_get times p ≡ Some t → w.clock p ≡ t
@@ -23,13 +23,13 @@ pub record AreOfWorld (job : Job) (w : World) (committed : List PartOf) (times :
   pub parts : (p : ℕ) (x : PartOf) (t : Time) → slice_get committed p ≡ Some x → slice_get times p ≡ Some t
       → x ≡ part_before (owned job p) job.limit (whole job.flat) job.outside (rank job.limit t)
 
--- The clocks of the processes of a world, by their numbers, each of which is within the run.
+-- The clocks of the processes of a world, by number. Each is within the run.
 pub record AreClocksOf (job : Job) (w : World) (times : List Time) : Type 0 where
   pub count : length times ≡ job.processes
   pub clocks : (p : ℕ) (t : Time) → slice_get times p ≡ Some t → w.clock p ≡ t
   pub within : (p : ℕ) (t : Time) → slice_get times p ≡ Some t → IsWithin (share_of job p) t
 
--- Rounds of a new world, so many at most, led to clocks.
+-- At most so many rounds of a new world led to these clocks.
 pub record HasRun (job : Job) (capacity rounds : ℕ) (c : Committed) : Type 0 where
   pub world : World
   pub ends : EndsAs job rounds c.ended (new_world capacity) world

@@ -1,4 +1,4 @@
--- What each part of the code does.
+-- What each step of planning makes.
 use Rattle.std.specs.Prelude.{◌≡◌, ℕ, Bool, ◌&&◌, nat_eq, nat_le, nat_lt, List, [], filter, map, slice_get, slice_index_or, Option, Some}
 use Rattle.std.specs.List.{list_any, range_with_len}
 use Rattle.dv_bag.specs.declared.inputs.Input.{Input}
@@ -19,19 +19,19 @@ use Rattle.dv_plan.specs.declared.channels.Away.{Away}
 use Rattle.dv_plan.specs.declared.share.Common.{Common}
 use Rattle.dv_plan.specs.declared.whole.Whole.{Whole}
 
--- is there such an input port of one of the components
+-- whether one of the components has this number and this input port
 abbrev pub is_port : List Member → ℕ → ℕ → Bool
 is_port ms k port = list_any (λ (m : Member). nat_eq m.number k && nat_lt port m.inputs) ms
 
--- does a link bring something to one of the components
+-- whether a link leads values to one of the components
 abbrev pub leads : List Member → Link → Bool
 leads ms l = nat_lt 0 l.copies && is_port ms l.to l.to_port
 
--- does something lead to one of the components from a port of the outside
+-- whether a link leads to one of the components from an input port of the model
 abbrev pub is_led : List Member → List Link → ℕ → Bool
 is_led ms entrances port = list_any (λ (l : Link). nat_eq l.from_port port && leads ms l) entrances
 
--- does an input come to one of the components: its microstep is within the limit, and something leads there from its port
+-- whether an input comes to one of the components: its microstep is within the limit, and a link leads there from its port
 abbrev pub comes_here : (limit ports : ℕ) → List Member → List Link → Input → Bool
 comes_here limit ports ms entrances i = nat_le i.time.micro limit && (nat_lt i.port ports && is_led ms entrances i.port)
 
@@ -43,11 +43,11 @@ led_inputs limit ports ms entrances inputs = filter (comes_here limit ports ms e
 abbrev pub members_of : Grouping → ℕ → List Member → List Member
 members_of g p ms = filter (λ (m : Member). owned_by g p m.number) ms
 
--- a link that leads away from a process, with what it is made of
+-- a channel that leads away from a process, with its links between components
 abbrev pub way_of : CutOf → ℕ → Away → Outgoing
 way_of c p a = record { number = a.number; links = between c p a.target }
 
--- What a share is made of: the components of a process with their models, and what all shares have in common.
+-- A share is made from the components of a process, their models, and what all shares have in common.
 pub record IsMadeOf {S : Type 0} (c : Common) (p : ℕ) (ms : List Member) (code : List S) (s : Share S) : Type 0 where
   pub limit : s.tables.limit ≡ c.limit
   pub horizon : s.horizon ≡ c.horizon
@@ -64,12 +64,12 @@ pub record IsMadeOf {S : Type 0} (c : Common) (p : ℕ) (ms : List Member) (code
       → map outgoing_of s.ways.items ≡ outgoing_from job p 0 (map meant_channel c.links.now)
   pub inputs : s.inputs ≡ led_inputs c.limit c.ports ms (entrances_to c.cut.now p) c.inputs.now
 
--- so is each of several shares, of the components of its process
+-- this holds of each of several shares and the components of its process
 abbrev pub AreMade : {S : Type 0} → Common → List (List Member) → List S → List (Share S) → Type 0
 AreMade {S} c lists models shares =
     (p : ℕ) (s : Share S) → slice_get shares p ≡ Some s → IsMadeOf c p (slice_index_or lists p []) models s
 
--- the links of a cut stand in the order of the ports that they lead from
+-- the links of a cut are sorted by the ports that they lead from
 pub record Rises (c : CutOf) : Type 0 where
   pub direct : RiseBySource c.direct
   pub entrances : RiseByPort c.entrances
@@ -84,7 +84,7 @@ cut_of w g = record {
   exits = links_of w.links.exits.items;
 }
 
--- What all shares have in common, of a whole in groups and of what comes to it.
+-- What all shares have in common, for a flat model in groups with its inputs.
 pub record IsCommonOf {S : Type 0} (w : Whole S) (played : List Input) (g : Grouping) (c : Common) : Type 0 where
   pub limit : c.limit ≡ w.limit
   pub horizon : c.horizon ≡ w.horizon

@@ -1,4 +1,4 @@
--- The text of a plan: JSON in compact form, whose keys ascend.
+-- The text of a plan: JSON in compact form, with sorted keys.
 use Rattle.std.specs.Prelude.{ℕ, zero, suc, List, [], ◌∷◌, ◌++◌, codes, slice_get, unwrap_or, Option, Some, None}
 use Rattle.std.specs.Fmt.{decimal}
 use Rattle.serde_json.specs.Data.{string}
@@ -10,7 +10,7 @@ use Rattle.dv_plan.specs.declared.links.Links.{Links}
 use Rattle.dv_plan.specs.declared.text.Owner.{Owner}
 use Rattle.dv_plan.specs.declared.text.Owner.TheVariants.{Root, Component}
 
--- what a plan prints of a model: how many components there are, the path of each, and the names of ports by their numbers
+-- the names that a plan prints: the number of components, the path of each, and the names of ports by number
 pub record PlanNames : Type 0 where
   pub components : ℕ
   pub path : ℕ → List ℕ
@@ -32,21 +32,21 @@ plan_links l = record {
   exits = links_of l.exits.items;
 }
 
--- a text in quotes, with what has to be escaped in it
+-- a text in quotes, with escapes
 unfoldable pub quoted : List ℕ → List ℕ
 quoted text = compact_text (string text)
 
--- what stands before the value at an index of a list
+-- what comes before the value at an index of a list
 abbrev pub front : ℕ → List ℕ
 front zero = codes "["
 front (suc index) = codes ","
 
--- what stands behind so many values of a list
+-- what comes after all values of a list, by their count
 abbrev pub back : ℕ → List ℕ
 back zero = codes "[]"
 back (suc count) = codes "]"
 
--- the paths of so many components, from one on, with the end of their list
+-- the paths of so many components, from a number on, with the end of their list
 abbrev pub paths_text : PlanNames → ℕ → ℕ → List ℕ
 paths_text names k zero = back k
 paths_text names k (suc left) = front k ++ (quoted (names.path k) ++ paths_text names (suc k) left)
@@ -60,7 +60,7 @@ abbrev pub source_text : PlanNames → Owner → Link → List ℕ
 source_text names Root l = names.root_input l.from_port
 source_text names Component l = port_text names l.from (names.output l.from l.from_port)
 
--- the port to which it leads
+-- the port to which a link leads
 abbrev pub target_text : PlanNames → Owner → Link → List ℕ
 target_text names Root l = names.root_output l.to_port
 target_text names Component l = port_text names l.to (names.input l.to l.to_port)
@@ -70,19 +70,19 @@ abbrev pub link_text : List ℕ → List ℕ → ℕ → List ℕ
 link_text from to copies =
     codes "{\"copies\":" ++ (decimal copies ++ (codes ",\"from\":" ++ (quoted from ++ (codes ",\"to\":" ++ (quoted to ++ codes "}")))))
 
--- links, the first of which stands at an index of their list, with its end
+-- links from an index of their list on, with the end of the list
 abbrev pub links_text : PlanNames → Owner → Owner → ℕ → List Link → List ℕ
 links_text names source target index [] = back index
 links_text names source target index (l ∷ ls) =
     front index
     ++ (link_text (source_text names source l) (target_text names target l) l.copies ++ links_text names source target (suc index) ls)
 
--- the paths of components, the first of which stands at an index of their list, with its end
+-- the paths of components from an index of their list on, with the end of the list
 abbrev pub members_text : PlanNames → ℕ → List ℕ → List ℕ
 members_text names index [] = back index
 members_text names index (k ∷ ks) = front index ++ (quoted (names.path k) ++ members_text names (suc index) ks)
 
--- a response in ticks; where it is never, or unknown, `null`
+-- a response in ticks, or `null` if it is never or unknown
 abbrev pub response_text : Option ℕ → List ℕ
 response_text (Some ticks) = decimal ticks
 response_text None = codes "null"
@@ -96,7 +96,7 @@ abbrev pub process_text : PlanNames → List ℕ → Option ℕ → List ℕ
 process_text names members response =
     codes "{\"components\":" ++ (members_text names 0 members ++ (codes ",\"response\":" ++ (response_text response ++ codes "}")))
 
--- so many processes, from one on, with the end of their list
+-- so many processes, from a number on, with the end of their list
 abbrev pub processes_text : PlanNames → Grouping → List (Option ℕ) → ℕ → ℕ → List ℕ
 processes_text names groups responses p zero = back p
 processes_text names groups responses p (suc left) =

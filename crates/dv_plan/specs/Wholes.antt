@@ -1,4 +1,4 @@
--- What is planned, as a job: a flat model with what comes to it, in the processes of its components.
+-- A flat model with its inputs, in the processes of its components, as a job.
 use Rattle.std.specs.Prelude.{ℕ, ◌<◌, ◌≤◌, ◌^◌, List, length, map}
 use Rattle.std.specs.List.{All, AllByRecursion}
 use Rattle.dv_time.specs.Limits.{greatest_limit, greatest_tick}
@@ -21,7 +21,7 @@ use Rattle.dv_proc.specs.Foreseeing.{IsOfHold}
 use Rattle.dv_partition.specs.Groups.{Grouping, owner_of}
 use Rattle.dv_plan.specs.declared.whole.Whole.{Whole}
 
--- its components and links, as the tables of one process that has them all
+-- the components and links of a flat model, as the tables of one process that has them all
 abbrev pub tables_of : {S : Type 0} → Whole S → Tables S
 tables_of w = record {
   limit = w.limit;
@@ -33,7 +33,7 @@ tables_of w = record {
   outputs = w.outputs;
 }
 
--- the job that it is with what comes from outside, in these processes
+-- the job of a flat model with these inputs, in these processes
 abbrev pub job_by : {S : Type 0} → (S → Behaviour) → Whole S → List Input → Grouping → Job
 job_by behaviour w inputs g = record {
   limit = w.limit;
@@ -46,19 +46,19 @@ job_by behaviour w inputs g = record {
   responses = λ p. least_response (owner_of g) p 0 (map ticks_of w.responses.items);
 }
 
--- a component's model is there, its wait is one of the run, and its state is one that the model takes
+-- the model of a component exists, its first hold is one of the run, and its state is one that the model takes
 pub record IsMember {S : Type 0} (fits : S → State → Type 0) (limit : ℕ) (models : List S) (m : Member) : Type 0 where
   pub model : m.model < length models
   pub wait : IsWaitOfRun limit m.start.wait
   pub fit : FitsAt fits models m.model m.start.state
 
--- components whose numbers rise
+-- components with rising numbers
 pub record AreMembers {S : Type 0} (fits : S → State → Type 0) (limit : ℕ) (models : List S) (ms : List Member) : Type 0 where
   pub rise : AreRising (numbers_of ms)
   pub each : AllByRecursion (IsMember fits limit models) ms
 
--- What may be planned: components whose numbers rise, links in the order of the ports that they lead from, responses of holds,
--- and bounds of the language.
+-- A flat model that can be planned: the numbers of its components rise, its links are sorted by the ports that they lead from, its
+-- responses are holds, and its bounds are those of the language.
 pub record IsWhole {S : Type 0} (fits : S → State → Type 0) (w : Whole S) : Type 0 where
   pub members : AreMembers fits w.limit w.models.items w.members.items
   pub few : length w.members.items < 2 ^ 32

@@ -1,4 +1,4 @@
-//! A world of the one process of a plan, with the record that it tells what happens.
+//! Makes a world of the one process of a plan.
 
 ghost use Rattle.std.specs.Prelude.{◌≡◌, ◌∷◌, [], List, IfOk, length, map};
 ghost use Rattle.dv_bag.specs.Bag.{Counts};
@@ -17,7 +17,7 @@ use dv_react::Atomic;
 use dv_record::Record;
 use std::alloc::{AllocError, Global};
 
-// The one item of a list.
+// The single item of a list.
 fn only<T: Drop>(items: Vec<T>) -> T
     requires { length items.items ≡ 1 }
     ensures { items.items ≡ result ∷ [] }
@@ -48,8 +48,8 @@ fn world_of_one<J: PlannedJob, P: LogicalProcess>(
     Ok(world)
 }
 
-/// A new world of the one process of a plan, which tells what happens to a record that was told nothing. So many packets may be
-/// on their way on each link.
+/// A new world of the one process of a plan. The process has the given record, which is empty. Each
+/// link has room for `capacity` packets.
 ///
 /// # Errors
 ///

@@ -1,4 +1,4 @@
-//! The links between processes.
+//! The channels between processes.
 
 ghost use Rattle.std.specs.Prelude.{◌≡◌, ◌*◌, ◌<◌, ◌≤◌, ◌^◌, ◌++◌, length, map, IfOk, OnOk};
 ghost use Rattle.dv_conservative.specs.World.{Job, incoming_from, outgoing_from};
@@ -11,16 +11,16 @@ use dv_proc::Channel;
 use dv_share::Link;
 use std::alloc::{AllocError, Global};
 
-/// A link between processes that leads away from one: its number, and where it leads.
+/// A channel that leads away from a process.
 #[derive(Clone, Copy, PartialEq, Eq)]
 pub struct Away {
-    /// The number of the link between processes.
+    /// The number of the channel.
     pub number: u32,
     /// The number of the process to which it leads.
     pub target: u32,
 }
 
-/// The numbers of the links that lead to a process.
+/// The numbers of the channels that lead to a process.
 ///
 /// # Errors
 ///
@@ -39,7 +39,7 @@ pub fn incoming(alloc: Global, channels: &[Channel], process: u32) -> Result<Vec
     Ok(found)
 }
 
-/// The links that lead away from a process.
+/// The channels that lead away from a process.
 ///
 /// # Errors
 ///
@@ -61,7 +61,7 @@ pub fn outgoing(alloc: Global, channels: &[Channel], process: u32) -> Result<Vec
     Ok(found)
 }
 
-/// The links between so many processes, by the links of each two of them.
+/// The channels between processes. `pairs` has the links from each process to each other one.
 ///
 /// # Errors
 ///
@@ -83,7 +83,7 @@ pub(crate) fn channels(
     Ok(found)
 }
 
-// Adds the links that lead from a process.
+// Adds the channels that lead away from a process.
 fn add_channels(
     source: u32,
     processes: u32,
@@ -105,7 +105,7 @@ fn add_channels(
     Ok(())
 }
 
-// Does a process send to another one.
+// Whether a process sends to another one.
 fn sends_to(source: u32, target: u32, processes: u32, pairs: &[Vec<Link>]) -> bool
     requires few { processes ≤ greatest_processes }
     requires source { source < processes }

@@ -1,5 +1,5 @@
-//! A model cut to processes: of each process the links among its components, those that lead in from outside and out of the
-//! model, and the links to each other process.
+//! The links of a model, cut to processes: for each process the links among its components, those
+//! from outside and to the outside, and those to each other process.
 
 ghost use Rattle.std.specs.Prelude.{◌≡◌, ◌<◌, [], length, map, slice_index_or, IfOk};
 ghost use Rattle.dv_conservative.specs.Channels.{all_channels};
@@ -17,7 +17,8 @@ use dv_share::Link;
 use std::alloc::{AllocError, Global};
 use std::marker::Model;
 
-/// A model's links, cut to the processes of its components. Each list is in the order of the model's.
+/// The links of a model, cut to the processes of its components. Each list keeps the order of the
+/// model.
 #[derive(Drop)]
 pub struct Cut<'g> {
     groups: &'g Groups,
@@ -49,7 +50,7 @@ impl<'g> Model for Cut<'g> {
 }
 
 impl<'g> Cut<'g> {
-    /// The model of these links, cut to these groups, in one pass over the links.
+    /// Cuts the links of a model to these groups, in one pass over the links.
     ///
     /// # Errors
     ///
@@ -81,7 +82,7 @@ impl<'g> Cut<'g> {
         self.groups
     }
 
-    /// The links between processes, in the order of their numbers.
+    /// The channels between the processes, by number.
     ///
     /// # Errors
     ///
@@ -94,7 +95,7 @@ impl<'g> Cut<'g> {
         channels(alloc, self.groups.processes() as u32, &self.pairs)
     }
 
-    /// The links from components of one process to those of another, or among those of one.
+    /// The links from the components of one process to those of another, or of the same one.
     pub fn between(&self, source: usize, target: usize) -> &[Link]
         requires source { source < self.now.grouping.processes }
         requires target { target < self.now.grouping.processes }
@@ -104,7 +105,7 @@ impl<'g> Cut<'g> {
         list_at(&self.pairs, source * processes + target)
     }
 
-    /// The links that lead from outside to a process's components.
+    /// The links from outside to the components of a process.
     pub fn entrances(&self, process: usize) -> &[Link]
         requires { process < self.now.grouping.processes }
         ensures { links_of result.now ≡ entrances_to self.now process }
@@ -112,7 +113,7 @@ impl<'g> Cut<'g> {
         list_at(&self.entrances, process)
     }
 
-    /// The links that lead outside from a process's components.
+    /// The links from the components of a process to the outside.
     pub fn exits(&self, process: usize) -> &[Link]
         requires { process < self.now.grouping.processes }
         ensures { links_of result.now ≡ exits_from self.now process }

@@ -9,7 +9,7 @@ use dv_partition::by_key::by_key;
 use dv_share::Link;
 use std::alloc::{AllocError, Global};
 
-/// The links by their two processes.
+/// The links in one list for each pair of processes, by the processes of both their ends.
 ///
 /// # Errors
 ///
@@ -27,7 +27,7 @@ pub(crate) fn by_pair(
     by_key(alloc, processes * processes, &keys, links.to_vec(alloc)?)
 }
 
-/// The links by the process from which they lead.
+/// The links in one list for each process, by the process from which they lead.
 ///
 /// # Errors
 ///
@@ -44,7 +44,7 @@ pub(crate) fn by_sender(
     by_key(alloc, groups.processes(), &keys, links.to_vec(alloc)?)
 }
 
-/// The links by the process to which they lead.
+/// The links in one list for each process, by the process to which they lead.
 ///
 /// # Errors
 ///

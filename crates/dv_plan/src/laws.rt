@@ -1,4 +1,4 @@
-//! Laws of cuts. Each function stands for the law in its contract.
+//! Laws of cuts. Each function is the law in its contract.
 
 ghost use Rattle.std.specs.Prelude.{◌≡◌, ℕ};
 ghost use Rattle.dv_conservative.specs.World.{Job, share_of};
@@ -6,7 +6,7 @@ ghost use Rattle.dv_partition.specs.Groups.{owner_of};
 ghost use Rattle.dv_share.specs.Links.{RiseByPort, RiseBySource};
 ghost use Rattle.dv_plan.specs.Cuts.{CutOf, between, entrances_to, exits_from};
 
-/// What a cut has of a process is what the process's share of the job has: the job's model, cut to its owners.
+/// A cut of the model of a job has, of each process, the links that its share of the job has.
 pub fn cuts_are_shares()
     ensures links { (job : Job) (c : CutOf) (p : ℕ) → job.owner ≡ owner_of c.grouping
         → job.flat.links ≡ c.direct
@@ -18,7 +18,7 @@ pub fn cuts_are_shares()
         → (share_of job p).flat.exits ≡ exits_from c p }
 {}
 
-/// What a cut has of links in the order of the ports that they lead from stands in that order too.
+/// If links are sorted by the ports that they lead from, so is each list of their cut.
 pub fn cuts_rise()
     ensures between { (c : CutOf) (p q : ℕ) → RiseBySource c.direct → RiseBySource (between c p q) }
     ensures entrances { (c : CutOf) (p : ℕ) → RiseByPort c.entrances

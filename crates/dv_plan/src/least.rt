@@ -5,7 +5,7 @@ ghost use Rattle.dv_plan.specs.Clocks.{least_time};
 
 use dv_time::Time;
 
-/// The least of some clocks.
+/// The least of the clocks of a list that is not empty.
 pub fn least_clock(clocks: &[Time]) -> Time
     requires { 0 < length clocks.now }
     ensures { result ≡ least_time clocks.now }

@@ -1,4 +1,4 @@
-//! The inputs that lead to a process's components.
+//! The inputs that lead to the components of a process.
 
 ghost use Rattle.std.specs.Prelude.{◌≡◌, ◌&&◌, ◌||◌, ℕ, false, length, nat_eq, nat_le, nat_lt, slice_index_or, IfOk};
 ghost use Rattle.dv_share.specs.Links.{link_of, links_of};
@@ -11,8 +11,8 @@ use dv_share::tables::index_of;
 use dv_share::{Link, Member};
 use std::alloc::{AllocError, Global};
 
-/// Those of the inputs that come to one of the components by one of the links from outside. One whose microstep is above
-/// the limit never comes.
+/// The inputs that come to one of the components by one of the links from outside. An input whose
+/// microstep is above the limit never comes.
 ///
 /// # Errors
 ///
@@ -39,7 +39,7 @@ pub(crate) fn led_inputs(
     Ok(kept)
 }
 
-// Whether something leads to one of the components from each port of the outside.
+// For each input port of the model, whether a link leads from it to one of the components.
 fn led_ports(
     alloc: Global,
     ports: u32,
@@ -59,7 +59,7 @@ fn led_ports(
     Ok(led)
 }
 
-// Marks a port, if it is there.
+// Marks a port, if there is one with this number.
 fn mark(port: u32, led: &mut Vec<bool>)
     ensures long { length led.new.items ≡ length led.old.items }
     ensures marked { (p : ℕ) → slice_index_or led.new.items p false
@@ -72,7 +72,7 @@ fn mark(port: u32, led: &mut Vec<bool>)
     }
 }
 
-// Whether an input comes in a run, by a port that is marked.
+// Whether an input comes in a run, through a marked port.
 fn is_to_come(input: Input, limit: u32, led: &[bool]) -> bool
     ensures { result
         ≡ (nat_le input.time.micro limit && slice_index_or led.now input.port false) }
@@ -88,7 +88,7 @@ fn at(led: &[bool], port: u32) -> bool
     index < led.len() && led[index]
 }
 
-// Whether a link brings something to one of the components.
+// Whether a link leads values to one of the components.
 fn leads(link: &Link, members: &[Member]) -> bool
     requires { AreRising (numbers_of members.now) }
     ensures { result ≡ leads members.now (link_of link.now) }
@@ -96,7 +96,7 @@ fn leads(link: &Link, members: &[Member]) -> bool
     link.copies > 0 && is_port(members, link.to, link.to_port)
 }
 
-// Whether there is such an input port of one of the components.
+// Whether one of the components has this number and this input port.
 fn is_port(members: &[Member], component: u32, port: u32) -> bool
     requires { AreRising (numbers_of members.now) }
     ensures { result ≡ is_port members.now component port }

@@ -2,8 +2,8 @@
 
 use dv_share::Link;
 
-/// The links of a flat model, between components that go by their numbers. The outside, at which entrances begin and exits
-/// end, goes by 0.
+/// The links of a flat model, between components by their numbers. The outside, where entrances
+/// begin and exits end, has the number 0.
 #[derive(Drop)]
 pub struct Links {
     /// From component to component.

@@ -23,9 +23,9 @@ use std::alloc::{AllocError, Global};
 /// A plan of a run in processes.
 #[derive(Drop)]
 pub struct Plan<A> {
-    /// The links between processes, in the order of their numbers.
+    /// The channels between processes, by number.
     pub links: Vec<Channel>,
-    /// What each process has, in the order of the processes.
+    /// The share of each process, by its number.
     pub shares: Vec<Share<A>>,
 }
 
@@ -34,8 +34,8 @@ impl<A: Atomic + Copy> Plan<A> {
     ghost use Rattle.dv_plan.specs.Plans.{IsPlanOf};
     ghost use Rattle.dv_plan.specs.Wholes.{IsWhole, job_by};
 
-    /// The plan of a flat model with what comes to it, in these processes. The components are moved to the shares of their
-    /// processes.
+    /// The plan of a flat model with these inputs, in the processes of these groups. The components
+    /// are moved to the shares of their processes.
     ///
     /// # Errors
     ///

@@ -1,4 +1,4 @@
-//! The processes of a plan, as they begin.
+//! Begins the processes of a plan.
 
 ghost use Rattle.std.specs.Prelude.{◌≡◌, IfOk, List, map};
 ghost use Rattle.std.specs.List.{All, AllByRecursion};
@@ -15,8 +15,8 @@ use dv_record::Record;
 use dv_written::MakesRecord;
 use std::alloc::{AllocError, Global};
 
-/// A process for each share, in their order, each with a record that is made for it: nothing came to any, and none has committed,
-/// sent or handed over anything.
+/// Begins a process for each share, in their order, each with a record of its own. No process has
+/// received, committed, sent or handed over anything.
 ///
 /// # Errors
 ///
@@ -41,7 +41,7 @@ pub fn begin_each<A: Atomic + Drop, R: Record, M: MakesRecord<R>>(
     Ok(processes)
 }
 
-// The process of a share, as its run begins.
+// Begins the process of a share.
 fn begin_one<A: Atomic + Drop, R: Record, M: MakesRecord<R>>(
     alloc: Global,
     share: Share<A>,

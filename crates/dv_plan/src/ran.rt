@@ -1,11 +1,10 @@
-//! What ran.
+//! What processes committed.
 
 use dv_bag::Part;
 use dv_core::{Ended, Reply};
 use dv_time::Time;
 
-/// To which clocks the processes of a run came, each of which committed all before its clock, by their numbers; and how their
-/// rounds ended.
+/// How far the processes of a run in rounds came: each committed all before its clock.
 #[derive(Drop)]
 pub struct Committed {
     /// The clock of each process, by its number.
@@ -14,13 +13,13 @@ pub struct Committed {
     pub ended: Ended,
 }
 
-/// What processes committed by a list of steps, each before its clock, by their numbers; and what each step was answered.
+/// What processes committed by a list of steps, each before its clock.
 #[derive(Drop)]
 pub struct Stepped {
     /// What each process committed before its clock, by its number.
     pub parts: Vec<Part>,
     /// The clock of each process, by its number.
     pub clocks: Vec<Time>,
-    /// What each step was answered, in their order.
+    /// The reply to each step, in the order of the list.
     pub replies: Vec<Reply>,
 }

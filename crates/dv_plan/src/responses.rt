@@ -1,4 +1,4 @@
-//! The responses of processes: of each the least of its components'.
+//! The responses (lookaheads) of processes.
 
 ghost use Rattle.std.specs.Prelude.{◌≡◌, ◌<◌, ◌≤◌, ◌^◌, None, length, map, replicate, slice_index_or, slice_set, IfOk};
 ghost use Rattle.std.specs.List.{range_with_len};
@@ -11,7 +11,8 @@ use dv_bag::Response;
 use dv_partition::Groups;
 use std::alloc::{AllocError, Global};
 
-/// The response of each process, by that of each component, in one pass.
+/// The response of each process, which is the least one of its components, in one pass over the
+/// components.
 ///
 /// # Errors
 ///
@@ -43,7 +44,7 @@ fn no_responses(alloc: Global, count: usize) -> Result<Vec<Response>, AllocError
     Ok(found)
 }
 
-// Lowers the response of a process to that of a component.
+// Lowers the response of a process to that of a component, if that is less.
 fn lower(process: u32, response: Response, responses: &mut Vec<Response>)
     ensures { map ticks_of responses.new.items
         ≡ slice_set (map ticks_of responses.old.items) process

@@ -1,4 +1,4 @@
-//! What a process has of a plan.
+//! The shares of a plan.
 
 ghost use Rattle.std.specs.Prelude.{◌≡◌, ◌<◌, ◌≤◌, ◌^◌, IfOk, List, length, map};
 ghost use Rattle.std.specs.List.{AllByRecursion};
@@ -23,29 +23,28 @@ use dv_proc::Channel;
 use dv_share::{Entrances, Link, Member, Routes, Tables};
 use std::alloc::{AllocError, Global};
 
-/// What the shares of all processes are made of: the bounds of the run, the ports of the outside, the cut with the links
-/// between processes, the response of each process, and all that comes from outside.
+/// What the shares of all processes are made from, beside their components.
 #[derive(Clone, Copy)]
 pub struct Common<'a> {
-    /// The greatest microstep of a tick.
+    /// The limit on the microsteps of a tick.
     pub limit: u32,
     /// The last tick of the run.
     pub horizon: u64,
-    /// How many input ports the outside has.
+    /// How many input ports the model has.
     pub ports: u32,
-    /// How many output ports the outside has.
+    /// How many output ports the model has.
     pub outputs: u32,
     /// The links of the model, cut to processes.
     pub cut: &'a Cut<'a>,
-    /// The links between processes, by their numbers.
+    /// The channels between processes, by number.
     pub links: &'a [Channel],
     /// The response of each process, by its number.
     pub responses: &'a [Response],
-    /// All that comes from outside, by time.
+    /// All inputs of the model, by time.
     pub inputs: &'a Inputs,
 }
 
-/// The shares of all processes, by the components of each.
+/// The shares of all processes, from the components of each.
 ///
 /// # Errors
 ///
@@ -80,7 +79,7 @@ pub(crate) fn shares<A: Copy>(
     Ok(found)
 }
 
-// The share of a process, of its components with their models.
+// The share of a process, from its components and their models.
 fn share_of_process<A: Drop>(
     alloc: Global,
     common: &Common<'_>,
@@ -117,7 +116,7 @@ fn share_of_process<A: Drop>(
     })
 }
 
-// The tables of a process, of its components with their models.
+// The tables of a process, from its components and their models.
 fn tables_of_process<A: Drop>(
     alloc: Global,
     common: &Common<'_>,
@@ -147,7 +146,7 @@ fn tables_of_process<A: Drop>(
     })
 }
 
-// The links that lead away from a process of a plan.
+// The channels that lead away from a process, each with its links between components.
 fn ways_of_process(alloc: Global, common: &Common<'_>, process: u32) -> Result<Vec<Way>, AllocError>
     requires there { process < common.now.cut.now.grouping.processes }
     requires few { length common.now.links.now ≤ 2 ^ 32 }
@@ -160,7 +159,7 @@ fn ways_of_process(alloc: Global, common: &Common<'_>, process: u32) -> Result<V
     Ok(ways(alloc, common.cut, process, &away)?)
 }
 
-// The links that lead away from a process, with what each is made of.
+// Adds to each channel that leads away from a process its links between components.
 fn ways(alloc: Global, cut: &Cut<'_>, process: u32, away: &[Away]) -> Result<Vec<Way>, AllocError>
     requires there { process < cut.now.grouping.processes }
     requires rises { Rises cut.now }
@@ -177,7 +176,8 @@ fn ways(alloc: Global, cut: &Cut<'_>, process: u32, away: &[Away]) -> Result<Vec
     Ok(found)
 }
 
-// The links from the components of a process to those of another, if there is one.
+// The links from the components of a process to those of another process, or none if there is no
+// such process.
 fn links_to<'c>(cut: &'c Cut<'_>, source: u32, target: u32) -> &'c [Link]
     requires { source < cut.now.grouping.processes }
     ensures { links_of result.now ≡ between cut.now source target }
@@ -190,7 +190,7 @@ fn links_to<'c>(cut: &'c Cut<'_>, source: u32, target: u32) -> &'c [Link]
     }
 }
 
-// Links in the order of the ports that they lead from, to find those of each.
+// Links that are sorted by the ports that they lead from, as a table that finds those of a port.
 fn routes(alloc: Global, links: &[Link]) -> Result<Routes, AllocError>
     requires { RiseBySource (links_of links.now) }
     ensures { IfOk result (λ found. found ≡ links_of links.now) }
@@ -198,7 +198,7 @@ fn routes(alloc: Global, links: &[Link]) -> Result<Routes, AllocError>
     Routes::new(alloc, copies(alloc, links)?)
 }
 
-// The items once more.
+// A copy of a list.
 fn copies<T: Copy>(alloc: Global, items: &[T]) -> Result<Vec<T>, AllocError>
     ensures { IfOk result (λ found. found.items ≡ items.now) }
 {

@@ -1,4 +1,4 @@
-//! The processes of a plan, run by a list of steps.
+//! Runs the processes of a plan by a list of steps.
 
 ghost use Rattle.std.specs.Prelude.{◌≡◌, ℕ, List, IfOk};
 ghost use Rattle.dv_bag.specs.Bag.{Counts};
@@ -16,13 +16,13 @@ use dv_record::PartRecord;
 use dv_written::Blanks;
 use std::alloc::{AllocError, Global};
 
-/// Makes the steps of a list with the processes of a plan, from their start: turns, puts, takes and stops, in any order, with
-/// so many packets on their way on a link at most. Whatever the list, each process has committed its part of the whole run
-/// before its clock, and each turn that is done makes progress.
+/// Makes the steps of a list with the processes of a plan, from their start: turns, puts, takes and
+/// stops, in any order. Each link has room for `capacity` packets. For any list, each process has
+/// committed its part of the whole run before its clock, and each turn that is done makes progress.
 ///
 /// # Errors
 ///
-/// No memory for the processes and the replies, or to hand over what was committed.
+/// No memory for the processes and the replies, or for what was committed.
 pub fn step_plan<J: PlannedJob, A: Atomic + Drop>(
     alloc: Global,
     job: J,
@@ -39,7 +39,7 @@ pub fn step_plan<J: PlannedJob, A: Atomic + Drop>(
     step_world(alloc, world, work, steps)
 }
 
-// Makes the steps of a list in a world, and takes it apart.
+// Makes the steps of a list in a world, and takes the parts and clocks out of it.
 fn step_world<J: PlannedJob, P: LogicalProcess<Record = PartRecord>>(
     alloc: Global,
     mut world: World<J, P>,

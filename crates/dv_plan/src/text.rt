@@ -1,4 +1,4 @@
-//! The text of a plan: JSON in compact form, whose keys ascend.
+//! The text of a plan: JSON in compact form, with sorted keys.
 
 ghost use Rattle.std.specs.Prelude.{◌≡◌, ◌++◌, map, string_bytes, IfOk, OnOk};
 ghost use Rattle.std.specs.Fmt.{decimal};
@@ -14,7 +14,7 @@ use dv_share::Link;
 use serde_json::Value;
 use std::alloc::{AllocError, Global};
 
-/// The names that a plan prints. Of what is not there the name is empty.
+/// The names that a plan prints. The name of something that does not exist is empty.
 pub trait Names {
     /// How many components there are, and the names.
     ghost names: { Self → PlanNames };
@@ -48,8 +48,9 @@ pub trait Names {
         ensures { result.now ≡ (names self.now).root_output port };
 }
 
-/// A plan as one JSON object: its components by their paths, its links, and of each process its components and its response. The
-/// text is put together value by value, so that each path is held once beside it and not all of them.
+/// A plan as one JSON object: its components by their paths, its links, and of each process its
+/// components and its response. The text is made value by value, so that only one path at a time is
+/// held beside it.
 ///
 /// # Errors
 ///
@@ -100,21 +101,21 @@ pub fn plan_json<N: Names>(
     Ok(text)
 }
 
-// What stands before the value at an index of a list: its bracket or a comma.
+// Puts what comes before the value at an index of a list: the bracket or a comma.
 fn push_front(text: &mut String, index: usize) -> Result<(), AllocError>
     ensures { OnOk result (string_bytes text.new ≡ string_bytes text.old ++ front index) }
 {
     text.push_str(if index == 0 { "[" } else { "," })
 }
 
-// Ends a list of so many values.
+// Puts the end of a list of `count` values.
 fn push_back(text: &mut String, count: usize) -> Result<(), AllocError>
     ensures { OnOk result (string_bytes text.new ≡ string_bytes text.old ++ back count) }
 {
     text.push_str(if count == 0 { "[]" } else { "]" })
 }
 
-// A text in quotes.
+// Puts a text in quotes.
 #[tactic(auto, unfolding(crate::specs::Texts::quoted))]
 fn push_quoted(alloc: Global, text: &mut String, inside: &str) -> Result<(), AllocError>
     ensures { OnOk result (string_bytes text.new ≡ string_bytes text.old ++ quoted inside.now) }
@@ -148,7 +149,7 @@ fn push_path<N: Names>(
     push_quoted(alloc, text, path.as_str())
 }
 
-// To what the port at an end of a link belongs.
+// The owner of the port at an end of a link.
 #[derive(Clone, Copy)]
 enum Owner {
     Root,
@@ -263,7 +264,7 @@ fn push_response(text: &mut String, ticks: Option<u64>) -> Result<(), AllocError
     }
 }
 
-// The response of a process in ticks, where it is known and ends.
+// The response of a process in ticks, if there is one and it is not never.
 fn known(responses: &[Response], process: usize) -> Option<u64>
     ensures { result ≡ response_of (map ticks_of responses.now) process }
 {
@@ -276,7 +277,8 @@ fn known(responses: &[Response], process: usize) -> Option<u64>
     }
 }
 
-// The port from which a link leads: an input of the root, or an output by the path of its component.
+// The port from which a link leads: an input of the root, or the output of a component, with its
+// path.
 fn source_text<N: Names>(
     alloc: Global,
     names: &N,
@@ -297,7 +299,8 @@ fn source_text<N: Names>(
     }
 }
 
-// The port to which a link leads: an output of the root, or an input by the path of its component.
+// The port to which a link leads: an output of the root, or the input of a component, with its
+// path.
 fn target_text<N: Names>(
     alloc: Global,
     names: &N,

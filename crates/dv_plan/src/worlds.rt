@@ -1,4 +1,4 @@
-//! A world of the processes of a plan.
+//! Makes a world of the processes of a plan.
 
 ghost use Rattle.std.specs.Prelude.{◌≡◌, List, IfOk};
 ghost use Rattle.std.specs.List.{All};
@@ -20,8 +20,9 @@ use dv_record::Record;
 use dv_written::MakesRecord;
 use std::alloc::{AllocError, Global};
 
-/// A new world of the processes of a plan, each with a record that is made for it: none has committed, sent or handed over anything, and no packet is on its way. So many
-/// may be on their way on each link.
+/// A new world of the processes of a plan, each with a record of its own. No process has committed,
+/// sent or handed over anything, and no packet is on its way. Each link has room for `capacity`
+/// packets.
 ///
 /// # Errors
 ///
