@@ -1,4 +1,4 @@
-//! Who watches a process that runs ahead.
+//! A watch that delays a process that runs ahead.
 
 use crate::looks::comes;
 use dv_run::Watch;
@@ -7,13 +7,13 @@ use std::convert::Infallible;
 use std::sync::atomic::{AtomicBool, Ordering};
 use std::time::Clock;
 
-/// Before this tick process 0 has told its clock in some round.
+/// Before this tick, process 0 has sent its clock in some round.
 const HELD_TICK: u64 = 500;
 
-/// To this tick process 1 comes by what process 0 tells alone.
+/// Process 1 comes to this tick only by null messages of process 0.
 const TOLD_TICK: u64 = 5;
 
-/// Holds process 0, which hears of nobody, up at a tick until process 1 has come to an earlier one.
+/// Delays process 0, to which no link leads, at a tick until process 1 has come to an earlier one.
 #[derive(Drop)]
 pub struct Ahead<'r, R> {
     rt: &'r R,
@@ -23,7 +23,7 @@ pub struct Ahead<'r, R> {
 }
 
 impl<'r, R: Clock> Ahead<'r, R> {
-    /// Nobody has come yet.
+    /// A watch before the first turn.
     pub fn new(rt: &'r R) -> Self {
         Ahead {
             rt,
@@ -33,12 +33,12 @@ impl<'r, R: Clock> Ahead<'r, R> {
         }
     }
 
-    /// Whether process 0 was held up, and process 1 came each time.
+    /// Whether process 0 was delayed, and process 1 came.
     pub fn has_held(&self) -> bool {
         self.was_held.load(Ordering::SeqCst) && !self.failed.load(Ordering::SeqCst)
     }
 
-    // Waits the first time until process 1 has come, at most as long as looks for it take.
+    // Waits, the first time, until process 1 has come, but not longer than the looks for it take.
     fn hold(&self) {
         if self.was_held.swap(true, Ordering::SeqCst) {
             return;

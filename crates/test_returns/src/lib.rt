@@ -1,14 +1,14 @@
-//! Tests alone: runs by workers return, and print what they should.
+//! Tests that runs by workers return, and print what they should.
 //!
-//! That such a call returns is in no contract, so beside each run here a thread looks whether it has, and fails the
-//! test where it has not after so many looks. Runs of a ring and of clocks are slowed at one process, stopped before
-//! a turn, or written to a writer that is late or fails. The expected trace is that of the plain run of the same
-//! model (`run_plain` of `dv_job`).
+//! No contract says that such a call returns. So beside each run here, a thread looks whether it
+//! has returned, and fails the test if it has not after many looks. Runs of a ring and of clocks
+//! are slowed at one process, stopped before a turn, or written to a writer that is late or fails.
+//! The expected trace is that of the plain run of the same model (`run_plain` of `dv_job`).
 //!
-//! What is tested is `run_watched` of `dv_job`, and with it `dv_work`, `dv_board` and `dv_stream`.
+//! The tested call is `run_watched` of `dv_job`, and with it `dv_work`, `dv_board` and `dv_stream`.
 #![tactic(auto)]
 
-/// Who watches a process that runs ahead.
+/// A watch that delays a process that runs ahead.
 #[cfg(test)]
 mod ahead;
 
@@ -28,7 +28,7 @@ mod run;
 #[cfg(test)]
 mod tests;
 
-/// Who counts the turns, is slow before some, and stops a run.
+/// A watch that counts turns, is slow before some, and stops a run.
 #[cfg(test)]
 mod turns;
 

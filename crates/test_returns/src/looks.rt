@@ -4,23 +4,24 @@ use std::sync::atomic::{AtomicBool, AtomicU64, Ordering};
 use std::thread::sleep;
 use std::time::{Clock, Duration};
 
-// So often who looks for a return looks at most. Together that takes more than twenty seconds, many times what a run here does.
+// How often a thread looks at most whether a run returns. All looks take more than twenty seconds,
+// many times as long as a run here.
 const MOST_LOOKS_FOR_A_RETURN: u32 = 4_000;
 
-// So often who looks for rest looks at most.
+// How often a thread looks at most for a while without turns.
 const MOST_LOOKS_FOR_REST: u32 = 100;
 
-// Sleeps for so many thousandths of a second. Where others want the processor it may take longer.
+// Sleeps for so many milliseconds, or longer if other threads need the processor.
 fn rest<R: Clock>(rt: &R, milliseconds: u64) {
     sleep(rt, Duration::from_millis(milliseconds));
 }
 
-/// Waits for longer than it takes a worker that has nothing to do to fall asleep.
+/// Waits longer than a worker with nothing to do needs to fall asleep.
 pub fn pause<R: Clock>(rt: &R) {
     rest(rt, 3);
 }
 
-/// Looks until a flag is raised, and tells whether it was.
+/// Looks until a flag is raised, and returns whether it was.
 pub fn comes<R: Clock>(rt: &R, flag: &AtomicBool) -> bool {
     for _look in 0..MOST_LOOKS_FOR_A_RETURN {
         if flag.load(Ordering::SeqCst) {
@@ -31,7 +32,7 @@ pub fn comes<R: Clock>(rt: &R, flag: &AtomicBool) -> bool {
     false
 }
 
-/// Looks until no turn begins for a while, and tells how many began before.
+/// Looks until no turn begins for a while, and returns how many began before.
 pub fn turns_before_rest<R: Clock>(rt: &R, begun: &AtomicU64) -> u64 {
     let first = begun.load(Ordering::SeqCst);
     let mut before = first;

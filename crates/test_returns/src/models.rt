@@ -1,7 +1,8 @@
 //! The models.
 
-/// A value goes from one to the next without end. Who has it not can only wait, and where all have a worker of their own each
-/// packet has to wake one. Where a link holds one packet, a null message before it has to leave it room.
+/// A ring, in which a value goes from one component to the next without end. The others can only
+/// wait, so if each process has a worker of its own, each packet has to wake one. If a link has
+/// room for one packet, a null message before the value has to make room for it.
 pub const RING: &str = "
 atomic First {
     in x; out y; phases rest, carry; start carry; hold rest: forever; hold carry: 1;
@@ -18,8 +19,9 @@ coupled Top {
 root Top;
 ";
 
-/// Sixteen clocks, and fifteen times as many who do nothing. In sixteen processes the first one has all clocks, so that some hundred
-/// ticks of it are as much as may wait for the writer.
+/// Sixteen clocks, and fifteen times as many components that do nothing. Of sixteen processes the
+/// first one has all clocks, so that some hundred of its ticks are as much as may wait for the
+/// writer.
 pub const CLOCKS: &str = "
 atomic Clock { phases go; start go; hold go: 1; }
 atomic Idle { phases rest; start rest; hold rest: forever; }
@@ -32,7 +34,7 @@ coupled Top { part clocks: Clocks; part a: Sixty; part b: Sixty; part c: Sixty; 
 root Top;
 ";
 
-/// A clock that may send to another, which never hears of it but by null messages.
+/// A clock that is linked to another one, which gets only null messages from it.
 pub const AHEAD: &str = "
 atomic First {
     out y; var n: 0..1 = 0; phases go; start go; hold go: 1;

@@ -1,4 +1,4 @@
-//! A run beside a thread that looks whether it returns.
+//! A run, beside a thread that looks whether it returns.
 
 use crate::looks::comes;
 use dv_job::{EndedByWorkers, JobError, Options, run_plain, run_watched};
@@ -12,7 +12,7 @@ use std::sync::atomic::{AtomicBool, Ordering};
 use std::thread::{Threads, join_mut};
 use std::time::Clock;
 
-/// A model, until when it runs, in how many processes by how many workers, and how many packets a link holds.
+/// A run of a model by workers.
 #[derive(Clone, Copy)]
 pub struct Run {
     /// The text of the model.
@@ -23,7 +23,7 @@ pub struct Run {
     pub processes: u32,
     /// How many workers there are.
     pub workers: u32,
-    /// How many packets a link holds.
+    /// How many packets a link has room for.
     pub capacity: u32,
 }
 
@@ -32,7 +32,7 @@ impl Run {
         Options::new(self.horizon, 20, Some(self.workers), None, self.capacity)
     }
 
-    /// The text of its trace, by the plain run.
+    /// The text of the trace, by the plain run.
     pub fn trace(&self, alloc: Global) -> Vec<u8> {
         let mut trace = Vec::new(alloc);
         if let Some(options) = self.options() {
@@ -41,7 +41,7 @@ impl Run {
         trace
     }
 
-    // Runs it by its workers.
+    // Runs the model by workers.
     fn work<R: AllocGlobal + Threads + Wait + Sync, G: Watch, W: Write>(
         &self,
         rt: &R,
@@ -62,7 +62,7 @@ impl Run {
         )
     }
 
-    /// Runs it by its workers. Where that does not return, the test fails.
+    /// Runs the model by workers. If the run does not return, the test fails.
     pub fn returns<R: AllocGlobal + Abort + Clock + Threads + Wait + Sync, G: Watch, W: Write>(
         &self,
         rt: &R,
@@ -74,12 +74,12 @@ impl Run {
     }
 }
 
-// Fails the test where a flag is not raised.
+// Fails the test if a flag is not raised.
 fn look_for<R: Abort + Clock>(rt: &R, returned: &AtomicBool, workers: u32) {
     assert!(rt; comes(rt, returned), "no return by {workers} workers");
 }
 
-// Runs it by its workers, and raises a flag then.
+// Runs the model by workers, and then raises a flag.
 fn work_and_tell<R: AllocGlobal + Threads + Wait + Sync, G: Watch, W: Write>(
     rt: &R,
     run: Run,
@@ -92,7 +92,7 @@ fn work_and_tell<R: AllocGlobal + Threads + Wait + Sync, G: Watch, W: Write>(
     ended
 }
 
-// Runs it by its workers beside a thread that looks whether that returns.
+// Runs the model by workers, beside a thread that looks whether the run returns.
 fn work_beside<R: AllocGlobal + Abort + Clock + Threads + Wait + Sync, G: Watch, W: Write>(
     rt: &R,
     run: Run,

@@ -12,13 +12,15 @@ use std::test::Fail;
 use std::thread::Threads;
 use std::time::Clock;
 
-/// By so many workers the ring is run, fewer than it has processes and more, and so many packets a link holds.
+/// The numbers of workers for the ring, fewer and more than its processes, and the room of its
+/// links.
 const WORKERS_AND_CAPACITIES: [(u32, u32); 4] = [(2, 1), (2, 16), (4, 1), (4, 16)];
 
-/// By so many workers the clocks are run.
+/// The numbers of workers for the clocks.
 const WORKERS_OF_CLOCKS: [u32; 2] = [1, 2];
 
-/// Before the clocks are held back they have made some hundred rounds, and in each every process makes a turn.
+/// The clocks make some hundred rounds before they are held back, with a turn of each process in
+/// each round.
 const TURNS_OF_CLOCKS: u64 = 1_000 * 16;
 
 /// The last turn before which a run is stopped.
@@ -37,7 +39,7 @@ fn is_trace<C>(ended: &Result<EndedByWorkers<C>, JobError>, written: &[u8], trac
     }
 }
 
-// The ring, each of whose components has a process.
+// The ring, with a process for each component.
 fn ring(horizon: u64, workers: u32, capacity: u32) -> Run {
     Run {
         model: RING,
@@ -48,7 +50,8 @@ fn ring(horizon: u64, workers: u32, capacity: u32) -> Run {
     }
 }
 
-// Whether a short run of the ring returns, with its whole trace, where one of its processes is slow, or none.
+// Whether a short run of the ring returns with its whole trace, if one of its processes is slow, or
+// none.
 fn is_whole<R: AllocGlobal + Abort + Clock + Threads + Wait + Sync>(
     rt: &R,
     workers: u32,
@@ -94,7 +97,7 @@ fn a_process_that_runs_ahead_tells_its_clock(rt: HostRuntime) -> Result<(), Fail
     Ok(())
 }
 
-// Whether a run that would go on for very long is stopped before a turn, and returns.
+// Whether a run that would take very long is stopped before a turn, and returns.
 fn is_stopped<R: AllocGlobal + Abort + Clock + Threads + Wait + Sync>(
     rt: &R,
     workers: u32,
@@ -122,7 +125,7 @@ fn a_stop_before_a_turn_ends_all_workers(rt: HostRuntime) -> Result<(), Fail> {
     Ok(())
 }
 
-// The clocks, whose entries wait for the writer until there are too many of them.
+// The clocks, whose lines wait for the writer until there are too many.
 fn clocks(horizon: u64, workers: u32) -> Run {
     Run {
         model: CLOCKS,

@@ -1,4 +1,4 @@
-//! Who counts the turns, is slow before some, and stops a run.
+//! A watch that counts turns, is slow before some, and stops a run.
 
 use crate::looks::pause;
 use dv_run::Watch;
@@ -6,13 +6,14 @@ use dv_time::Time;
 use std::sync::atomic::{AtomicU64, Ordering};
 use std::time::Clock;
 
-/// A number of turns that no run here comes to.
+/// A number of turns that no run here reaches.
 pub const NEVER: u64 = u64::MAX;
 
 /// No process is slow.
 pub const NONE: u32 = u32::MAX;
 
-/// Counts turns, is slow before those of one process, and stops the run before one, for its number. It is slow before that one, too.
+/// Counts turns, is slow before those of one process, and stops the run before one of them, with
+/// its number as the cause. It is slow before that one, too.
 #[derive(Drop)]
 pub struct Turns<'r, R> {
     rt: &'r R,
@@ -23,7 +24,8 @@ pub struct Turns<'r, R> {
 }
 
 impl<'r, R: Clock> Turns<'r, R> {
-    /// This process is slow, and the turn with this number is not made; the first is 1.
+    /// A watch that is slow before the turns of process `slow`, and stops the run before the turn
+    /// with the number `stop`; the first one is 1.
     pub fn new(rt: &'r R, slow: u32, stop: u64) -> Self {
         Turns {
             rt,

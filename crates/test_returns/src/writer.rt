@@ -7,7 +7,8 @@ use std::io::{ErrorKind, Write};
 use std::sync::atomic::AtomicU64;
 use std::time::Clock;
 
-/// A writer that takes its first bytes once no process makes a turn for a while, and then takes all, or fails.
+/// A writer that takes its first bytes when no process has made a turn for a while. After that it
+/// takes all bytes, or fails.
 #[derive(Drop)]
 pub struct Late<'r, R> {
     rt: &'r R,
@@ -21,7 +22,7 @@ pub struct Late<'r, R> {
 }
 
 impl<'r, R: Clock> Late<'r, R> {
-    /// It looks at how many turns have begun.
+    /// A writer that looks at how many turns have begun.
     pub fn new(rt: &'r R, alloc: Global, begun: &'r AtomicU64, fails: bool) -> Self {
         Late {
             rt,

@@ -1,5 +1,5 @@
-//! Workers that make their first turns at once: each waits in its first turn until the other is in its own, and the one then until
-//! a process of the other is at the end.
+//! Two workers that make their first turns at the same time: each waits in its first turn until the
+//! other one is in its own, and worker 0 also until the process of worker 1 is at the end.
 
 use crate::first_line::comes;
 use crate::runs::{Model, run_by};
@@ -29,7 +29,7 @@ impl Meeting {
         }
     }
 
-    // What does not hold fails the meeting.
+    // Fails the meeting if a condition does not hold.
     fn wants(&self, holds: bool) {
         if !holds {
             self.failed.store(true, Ordering::SeqCst);
@@ -78,8 +78,8 @@ impl Watch for Meeting {
     }
 }
 
-/// Whether two workers are in their first turns at once, one of them until a process of the other is at the end, and the run is
-/// whole.
+/// Whether two workers are in their first turns at the same time, one of them until a process of
+/// the other is at the end, and the run is whole.
 pub fn are_beside<R: AllocGlobal + Threads + Wait + Sync>(rt: &R, model: &Model<'_>) -> bool {
     let meeting = Meeting::new();
     let mut bytes = Vec::new(rt.alloc());

@@ -1,4 +1,5 @@
-//! The cause that is told of a run that is stopped: that of the one worker that was given one, and of two the one of worker 0.
+//! The cause that a stopped run returns: that of the worker that was given one, and of two causes
+//! that of worker 0.
 
 use crate::first_line::comes;
 use crate::runs::{Model, run_to_a_cause};
@@ -46,7 +47,7 @@ struct StopsBoth {
 }
 
 impl StopsBoth {
-    // A worker has come to its first turn, and waits until the other has, too.
+    // A worker has come to its first turn, and waits until the other one has.
     fn meet(&self, own: &AtomicBool, other: &AtomicBool) {
         own.store(true, Ordering::SeqCst);
         if !comes(other) {
@@ -83,7 +84,7 @@ fn is_stopped_at(ended: &Result<EndedByWorkers<Moment>, JobError>, moment: Momen
     }
 }
 
-// Whether a run by two workers that is stopped at a moment tells it.
+// Whether a run by two workers that is stopped at a moment returns it.
 fn tells_moment<R: AllocGlobal + Threads + Wait + Sync>(
     rt: &R,
     model: &Model<'_>,
@@ -94,7 +95,8 @@ fn tells_moment<R: AllocGlobal + Threads + Wait + Sync>(
     is_stopped_at(&ended, moment)
 }
 
-// Whether a run by two workers, both of which are stopped, tells the moment of worker 0, whose first process is 0.
+// Whether a run by two workers, both of which are stopped, returns the moment of worker 0, whose
+// first process is 0.
 fn tells_first<R: AllocGlobal + Threads + Wait + Sync>(rt: &R, model: &Model<'_>) -> bool {
     let both = StopsBoth {
         first_came: AtomicBool::new(false),
@@ -110,8 +112,8 @@ fn tells_first<R: AllocGlobal + Threads + Wait + Sync>(rt: &R, model: &Model<'_>
     !both.failed.load(Ordering::SeqCst) && is_stopped_at(&ended, moment)
 }
 
-/// Whether that is so: worker 0 owns the processes 0 and 2, and worker 1 owns process 1. The processes 0 and 1 come to tick 5 by their
-/// first turns, since nothing comes to them.
+/// Whether stopped runs return these causes. Worker 0 owns the processes 0 and 2, and worker 1 owns
+/// process 1. The first turns of the processes 0 and 1 lead to tick 5, since nothing arrives there.
 pub fn are_told<R: AllocGlobal + Threads + Wait + Sync>(rt: &R, model: &Model<'_>) -> bool {
     let clock = Time { tick: 5, micro: 0 };
     let of_first = tells_moment(rt, model, Moment { process: 0, clock });

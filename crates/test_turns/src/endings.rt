@@ -1,4 +1,4 @@
-//! How endings are told: the statuses of the program, and the lines of errors.
+//! How endings are reported: the exit statuses of the program, and the lines of errors.
 
 use crate::tell;
 use dv_job::{JobEnded, JobError, Options, run_plain, status};
@@ -9,7 +9,7 @@ use std::io;
 /// A text whose second line has no token.
 const NO_TOKEN: &[u8] = b"root Top;\n?";
 
-/// Whether endings have their statuses and their lines; each is told.
+/// Whether endings have their statuses and their lines. Prints each fact.
 pub fn are_told<R: AllocGlobal + Print>(rt: &R) -> io::Result<bool> {
     let have_statuses = have_statuses();
     tell(
@@ -45,13 +45,14 @@ fn have_lines(alloc: Global) -> Result<bool, AllocError> {
     Ok(write && memory && partition)
 }
 
-/// Whether an error is told by this line, behind the program's name.
+/// Whether an error prints as this line, after the name of the program.
 fn is_line(alloc: Global, error: &JobError, line: &str) -> Result<bool, AllocError> {
     let told = error.to_string(alloc)?;
     Ok(told.as_str() == line)
 }
 
-/// Whether a plain run of a refused text writes nothing, and its refusal has its line and its status.
+/// Whether a plain run of a refused text writes nothing, and its refusal has its line and its
+/// status.
 fn is_refused(alloc: Global) -> Result<bool, AllocError> {
     let Some(options) = Options::new(5, 20, None, None, 16) else {
         return Ok(false);

@@ -1,4 +1,5 @@
-//! Writes that fail: at each call in turn what prints ends, and the bytes of the calls before it stand.
+//! Writes that fail: printing ends at the call that fails, and the bytes of the calls before it are
+//! written.
 
 use crate::runs::{Model, run_by, run_in_rounds, run_plainly};
 use crate::tell;
@@ -23,7 +24,7 @@ pub enum Printer<'m> {
     Workers(&'m Model<'m>, u32),
 }
 
-/// Prints to a writer. Where all of a listing is printed, that is whole too.
+/// Prints to a writer. A listing that is printed to its end counts as whole.
 fn print<R: AllocGlobal + Threads + Wait + Sync, W: Write>(
     rt: &R,
     printer: Printer<'_>,
@@ -40,7 +41,7 @@ fn print<R: AllocGlobal + Threads + Wait + Sync, W: Write>(
     }
 }
 
-/// Whether a writer that never fails, and takes one byte a call, gets all that is wanted.
+/// Whether a writer that never fails, and takes one byte a call, gets all wanted bytes.
 fn goes_out<R: AllocGlobal + Threads + Wait + Sync>(
     rt: &R,
     printer: Printer<'_>,
@@ -51,14 +52,14 @@ fn goes_out<R: AllocGlobal + Threads + Wait + Sync>(
     matches!(ended, Ok(JobEnded::Whole)) && writer.bytes.as_slice() == wanted
 }
 
-/// Whether a writer that takes nothing ends what prints.
+/// Whether printing to a writer that takes nothing ends with a write error.
 fn ends_at_once<R: AllocGlobal + Threads + Wait + Sync>(rt: &R, printer: Printer<'_>) -> bool {
     let ended = print(rt, printer, &mut Full);
     matches!(ended, Err(JobError::Write))
 }
 
-/// Whether a writer that fails at a call ends what prints: the call is the last one, and what was written before is the beginning
-/// of what is wanted.
+/// Whether printing ends when a writer fails at a call: this call is the last one, and what was
+/// written before is the beginning of the wanted bytes.
 fn ends_at<R: AllocGlobal + Threads + Wait + Sync>(
     rt: &R,
     printer: Printer<'_>,
@@ -73,7 +74,7 @@ fn ends_at<R: AllocGlobal + Threads + Wait + Sync>(
         && Some(writer.bytes.as_slice()) == beginning
 }
 
-/// Whether each failing write ends what prints, at one call for each byte that is wanted; that is told.
+/// Whether each failing write ends printing, with one call for each wanted byte. Prints this fact.
 pub fn does_end<R: AllocGlobal + Print + Threads + Wait + Sync>(
     rt: &R,
     printer: Printer<'_>,
@@ -87,7 +88,8 @@ pub fn does_end<R: AllocGlobal + Print + Threads + Wait + Sync>(
     Ok(does_end)
 }
 
-/// Whether that is so in rounds and by one, two and three workers; each is told.
+/// Whether each failing write ends printing, in rounds and by one, two and three workers. Prints
+/// each fact.
 pub fn do_all_end<R: AllocGlobal + Print + Threads + Wait + Sync>(
     rt: &R,
     model: &Model<'_>,

@@ -1,4 +1,5 @@
-//! A line that is written while the run goes on: the last turn is held up until the first line was written.
+//! A line that is written while the run goes on: the last turn is delayed until the first line is
+//! written.
 
 use crate::runs::{Model, run_by};
 use crate::writers::Telling;
@@ -9,7 +10,7 @@ use std::sync::Wait;
 use std::sync::atomic::{AtomicBool, AtomicU64, Ordering};
 use std::thread::{Threads, yield_now};
 
-/// So often a turn that is held up looks at most.
+/// How often a delayed turn looks at most.
 const MOST_LOOKS: u64 = 10_000_000;
 
 /// Counts turns.
@@ -29,7 +30,7 @@ impl Watch for Counter {
     fn after_turn(&self, _worker: usize, _process: u32, _clock: Time) {}
 }
 
-/// Holds one turn up until a flag is raised. Where that does not come, it gives up.
+/// Delays one turn until a flag is raised, and gives up after so many looks.
 #[derive(Drop)]
 struct Holding<'f> {
     turns: AtomicU64,
@@ -52,7 +53,7 @@ impl<'f> Watch for Holding<'f> {
     fn after_turn(&self, _worker: usize, _process: u32, _clock: Time) {}
 }
 
-/// Looks until a flag is raised, and tells whether it was.
+/// Looks until a flag is raised, and returns whether it was.
 pub fn comes(flag: &AtomicBool) -> bool {
     for _look in 0..MOST_LOOKS {
         if flag.load(Ordering::SeqCst) {
@@ -63,7 +64,8 @@ pub fn comes(flag: &AtomicBool) -> bool {
     false
 }
 
-/// Whether the first line of a run by one worker is written before its last turn, and the run is whole.
+/// Whether the first line of a run by one worker is written before its last turn, and the run is
+/// whole.
 pub fn comes_early<R: AllocGlobal + Threads + Wait + Sync>(rt: &R, model: &Model<'_>) -> bool {
     let counter = Counter {
         turns: AtomicU64::new(0),

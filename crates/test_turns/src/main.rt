@@ -1,25 +1,26 @@
-//! A test that is a program: it runs a model by workers whose turns are watched, held up and stopped; it runs and
-//! lists models with writers that fail; and it looks how endings are told.
+//! A test that is a program. It runs a model by workers whose turns are watched, delayed and
+//! stopped; it runs and lists models with writers that fail; and it tests how endings are reported.
 //!
-//! The expected traces of workers are those of the plain run; of a stopped run they are the lines before the least of
-//! the clocks that it tells. What the plain run and the listing have to print stands in files. What is tested are
-//! `run_watched`, `run_bytes`, `run_plain`, `list_code` and `status` of `dv_job`.
+//! The expected trace of a run by workers is that of the plain run; of a stopped run, the lines
+//! before the least of the clocks that it prints. What the plain run and the listing have to print
+//! is in files. The tested calls are `run_watched`, `run_bytes`, `run_plain`, `list_code` and
+//! `status` of `dv_job`.
 //!
-//! The words name files: a model of three components, which is run by workers; a model, its inputs and its trace to
-//! the tick 3; and a model and its listing.
+//! The arguments name files: a model of three components, which is run by workers; a model, its
+//! inputs and its trace to tick 3; and a model and its listing.
 #![tactic(auto)]
 
-/// Workers that make their first turns at once.
+/// Workers that make their first turns at the same time.
 mod at_once;
 /// The causes for which runs are stopped.
 mod causes;
-/// How endings are told.
+/// How endings are reported.
 mod endings;
 /// Writes that fail.
 mod failing;
 /// A line that is written while the run goes on.
 mod first_line;
-/// Which worker a turn is told of.
+/// Which worker makes a turn.
 mod owners;
 /// The runs of the models.
 mod runs;
@@ -52,7 +53,7 @@ fn main(rt: HostRuntime) -> io::Result<ExitCode> {
     })
 }
 
-/// Tells whether all that is wanted of runs by workers holds for the model of this file.
+/// Tests runs by workers of the model in a file, and prints each fact.
 fn holds<R: AllocGlobal + Files + Print + Threads + Wait + Sync>(
     rt: &R,
     name: &str,
@@ -96,7 +97,8 @@ fn holds<R: AllocGlobal + Files + Print + Threads + Wait + Sync>(
     Ok(is_early && are_beside && are_own && do_stop && are_told && do_fail)
 }
 
-/// Tells whether the plain run of a model with inputs prints its trace, and each failing write ends it.
+/// Tests that the plain run of a model with inputs prints its trace, and that each failing write
+/// ends it.
 fn does_run<R: AllocGlobal + Files + Print + Threads + Wait + Sync>(
     rt: &R,
     model: &str,
@@ -118,7 +120,7 @@ fn does_run<R: AllocGlobal + Files + Print + Threads + Wait + Sync>(
     )
 }
 
-/// Tells whether the listing of a model is printed, and each failing write ends it.
+/// Tests that the listing of a model is printed, and that each failing write ends it.
 fn does_list<R: AllocGlobal + Files + Print + Threads + Wait + Sync>(
     rt: &R,
     model: &str,
@@ -134,7 +136,7 @@ fn does_list<R: AllocGlobal + Files + Print + Threads + Wait + Sync>(
     )
 }
 
-/// Tells a fact, or that it does not hold.
+/// Prints a fact, or that it does not hold.
 pub fn tell<R: Print>(rt: &R, holds: bool, fact: &str) -> io::Result<()> {
     if holds {
         println!(rt; "{fact}")

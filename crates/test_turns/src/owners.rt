@@ -1,5 +1,4 @@
-//! Which worker a turn is told of: the processes are dealt to the workers one after the other, so that it is the number of the
-//! process modulo the number of the workers.
+//! Which worker makes a turn: process p belongs to worker p mod the number of workers.
 
 use crate::runs::{Model, PROCESSES, run_by};
 use dv_run::Watch;
@@ -9,10 +8,10 @@ use std::sync::Wait;
 use std::sync::atomic::{AtomicBool, AtomicU32, Ordering};
 use std::thread::Threads;
 
-/// The most workers of such a run, which are more than its processes.
+/// The greatest number of workers, which is more than there are processes.
 const MOST_WORKERS: u32 = 4;
 
-/// Looks at each turn whether it is told of the worker that owns the process, and counts the turns.
+/// Checks at each turn that the worker owns the process, and counts the turns.
 #[derive(Drop)]
 struct Owners {
     workers: u32,
@@ -43,7 +42,7 @@ impl Watch for Owners {
     }
 }
 
-// Whether each turn of a whole run by so many workers is told of the worker that owns its process.
+// Whether each turn of a whole run is made by the worker that owns the process.
 fn is_own<R: AllocGlobal + Threads + Wait + Sync>(rt: &R, model: &Model<'_>, workers: u32) -> bool {
     let owners = Owners {
         workers,
@@ -57,7 +56,7 @@ fn is_own<R: AllocGlobal + Threads + Wait + Sync>(rt: &R, model: &Model<'_>, wor
     !differs && turns >= PROCESSES && model.is_trace(&ended, &bytes)
 }
 
-/// Whether that is so by one worker up to more than there are processes.
+/// Whether the owner makes each turn, by one worker up to more workers than processes.
 pub fn are_own<R: AllocGlobal + Threads + Wait + Sync>(rt: &R, model: &Model<'_>) -> bool {
     (1..=MOST_WORKERS).all(|workers| is_own(rt, model, workers))
 }

@@ -14,7 +14,7 @@ const HORIZON: u64 = 10;
 /// The last tick of the run that has a trace of its own.
 const PLAIN_HORIZON: u64 = 3;
 
-/// So many processes a run has.
+/// How many processes a run has.
 pub const PROCESSES: u32 = 3;
 
 /// The model, and the text of its trace by the plain run.
@@ -27,7 +27,7 @@ pub struct Model<'t> {
 }
 
 impl<'t> Model<'t> {
-    /// A model with its trace; `None` where the plain run does not end whole.
+    /// A model with its trace, or `None` if the plain run does not end whole.
     pub fn of(alloc: Global, text: &'t [u8]) -> Option<Self> {
         let options = options_to(HORIZON, None)?;
         let mut trace = Vec::new(alloc);
@@ -47,7 +47,7 @@ fn options_to(horizon: u64, workers: Option<u32>) -> Option<Options> {
     Options::new(horizon, 20, workers, None, 16)
 }
 
-/// Runs the model in three processes by so many workers, whose turns are watched.
+/// Runs the model in three processes by workers whose turns are watched.
 pub fn run_by<R: AllocGlobal + Threads + Wait + Sync, G: Watch, W: Write>(
     rt: &R,
     model: &Model<'_>,
@@ -59,7 +59,7 @@ pub fn run_by<R: AllocGlobal + Threads + Wait + Sync, G: Watch, W: Write>(
     Ok(ended.ended)
 }
 
-/// Runs the model as [`run_by`] does, and tells the cause for which the run was stopped, too.
+/// Runs the model as [`run_by`] does, and also returns the cause for which the run was stopped.
 pub fn run_to_a_cause<R: AllocGlobal + Threads + Wait + Sync, G: Watch, W: Write>(
     rt: &R,
     model: &Model<'_>,

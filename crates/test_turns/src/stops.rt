@@ -1,5 +1,5 @@
-//! Runs that are stopped before a turn: what is written is the trace before the least clock, and says that it is partial; and the cause
-//! is told, which is the number of that turn.
+//! Runs that are stopped before a turn: what is written is the trace before the least clock, and
+//! says that it is partial. The cause that is returned is the number of the turn.
 
 use crate::runs::{Model, PROCESSES, run_to_a_cause};
 use dv_job::{EndedByWorkers, JobEnded, JobError, Why};
@@ -13,10 +13,10 @@ use std::thread::Threads;
 /// The last turn before which a run is stopped; the first is 1.
 const LAST_STOP: u64 = 50;
 
-/// No run is whole before so many turns: each process takes one to leave 0.0.
+/// How many turns a whole run has at least: each process needs one to leave 0.0.
 const FIRST_TURNS: u64 = 3;
 
-/// Stops a run before one of its turns, for its number, and counts them.
+/// Stops a run before one of its turns, with the number of the turn as the cause, and counts turns.
 #[derive(Drop)]
 struct Stopping {
     turns: AtomicU64,
@@ -38,7 +38,7 @@ impl Watch for Stopping {
     fn after_turn(&self, _worker: usize, _process: u32, _clock: Time) {}
 }
 
-// The time that a word spells, as `12.3`.
+// The time that a word such as `12.3` spells.
 fn time_of(word: &str) -> Option<Time> {
     let (tick, micro) = word.split_once('.')?;
     let tick = tick.parse().ok()?;
@@ -46,7 +46,7 @@ fn time_of(word: &str) -> Option<Time> {
     Some(Time { tick, micro })
 }
 
-// The clock that the line of a process tells, as `process 0 clock 4.0`.
+// The clock in the line of a process, such as `process 0 clock 4.0`.
 fn clock_of(line: &str) -> Option<Time> {
     let mut words = line.split(' ');
     if words.next() != Some("process") {
@@ -55,7 +55,8 @@ fn clock_of(line: &str) -> Option<Time> {
     time_of(words.nth(2)?)
 }
 
-// The least of the clocks that the lines of processes tell; `None` where there are not as many lines as processes.
+// The least of the clocks in the lines of processes, or `None` if there are not as many lines as
+// processes.
 fn least_clock(text: &str) -> Option<Time> {
     let mut least = None;
     let mut count = 0u32;
@@ -83,7 +84,7 @@ fn length_before(trace: &str, time: Time) -> usize {
     length
 }
 
-// Whether a text is the lines of a trace before the least of the clocks that it tells, with the clocks, and `partial`.
+// Whether a text is the lines of a trace before the least of its clocks, the clocks, and `partial`.
 fn is_cut(text: &str, trace: &str) -> bool {
     let Some(least) = least_clock(text) else {
         return false;
@@ -95,7 +96,8 @@ fn is_cut(text: &str, trace: &str) -> bool {
     rest.starts_with("process 0 clock ") && rest.ends_with("\npartial\n")
 }
 
-// Whether a run that was to stop before a turn ended as it has to: stopped and cut, or whole where it made no turn that was still due.
+// Whether a run that was to stop before a turn ended rightly: it was stopped and cut, or it is
+// whole, because it needed no more turns.
 fn stops<R: AllocGlobal + Threads + Wait + Sync>(
     rt: &R,
     model: &Model<'_>,
@@ -121,7 +123,7 @@ fn stops<R: AllocGlobal + Threads + Wait + Sync>(
     is_stopped(&ended, before) && is_cut(text, trace)
 }
 
-// Whether a run is whole, and no cause is told.
+// Whether a run is whole, and no cause is returned.
 fn is_whole(
     model: &Model<'_>,
     ended: &Result<EndedByWorkers<u64>, JobError>,
@@ -133,7 +135,7 @@ fn is_whole(
     }
 }
 
-// Whether a run is stopped for the turn of this number.
+// Whether a run was stopped before the turn with this number.
 fn is_stopped(ended: &Result<EndedByWorkers<u64>, JobError>, before: u64) -> bool {
     match ended {
         Ok(
@@ -146,7 +148,8 @@ fn is_stopped(ended: &Result<EndedByWorkers<u64>, JobError>, before: u64) -> boo
     }
 }
 
-/// Whether that is so of each stop, by one, two and three workers.
+/// Whether runs that are stopped before any of these turns end rightly, by one, two and three
+/// workers.
 pub fn do_all_stop<R: AllocGlobal + Threads + Wait + Sync>(rt: &R, model: &Model<'_>) -> bool {
     (1..=LAST_STOP).all(|before| (1..=3).all(|workers| stops(rt, model, workers, before)))
 }

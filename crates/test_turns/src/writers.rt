@@ -5,7 +5,7 @@ use std::io;
 use std::io::{ErrorKind, Write};
 use std::sync::atomic::{AtomicBool, Ordering};
 
-/// A writer that raises a flag as it gets its first byte.
+/// A writer that raises a flag when it gets its first byte.
 #[derive(Drop)]
 pub struct Telling<'f> {
     /// What was written.
@@ -39,7 +39,7 @@ pub struct Reluctant {
 }
 
 impl Reluctant {
-    /// It fails at this call, the first of which is 1; at 0 it never does.
+    /// A writer that fails at this call (the first one is 1), or never if it is 0.
     pub fn new(alloc: Global, fails_at: usize) -> Self {
         Reluctant {
             bytes: Vec::new(alloc),
