@@ -18,7 +18,8 @@ use Rattle.dv_work.proofs.Making.{nothing_there, snoc_each, stands_at}
 
 module _ {P : Type 0} (workers : ℕ) where
   -- a worker more, with no processes
-  pub nobody_more : (by_worker more : List (Vec (Seat P) Global)) (seats : Vec (Seat P) Global) → more ≡ by_worker ++ seats ∷ [] → seats.items ≡ []
+  pub nobody_more : (by_worker more : List (Vec (Seat P) Global)) (seats : Vec (Seat P) Global) → more ≡ by_worker ++ seats ∷ []
+      → seats.items ≡ []
       → AreByWorker workers by_worker → AreByWorker workers more
   nobody_more by_worker more seats is none are =
       snoc_each (λ w (c : Vec (Seat P) Global). AreOfWorker workers w c.items) by_worker more seats is are

@@ -101,7 +101,8 @@ module _ {N P : Type 0} (job : Job) (state : P → ProcessState) (handed : P →
   -- a new process, before any link is made
   pub new_seat : (processes : List P) → AreNew job state handed IsValid processes → (p : ℕ) (x : P) → slice_get processes p ≡ Some x
       → (outs : Vec Out Global) (ins : Vec In Global) → outs.items ≡ [] → ins.items ≡ []
-      → IsSeat job state handed IsValid (no_links {N = N}) 0 0 (let s : Seat P = record { number = p; process = x; outs = outs; ins = ins; posted = first_time; pause = Over } in s)
+      → IsSeat job state handed IsValid (no_links {N = N}) 0 0
+      (let s : Seat P = record { number = p; process = x; outs = outs; ins = ins; posted = first_time; pause = Over } in s)
   new_seat processes new p x at outs ins no_outs no_ins =
       let one = new.shares p x at in
       let fresh = one.1 in
@@ -180,7 +181,8 @@ module _ {N P : Type 0} (job : Job) (state : P → ProcessState) (handed : P →
         ins = is.ins;
       }
 
-  pub seats_grown : (links : List (Link N)) (l : Link N) (a b : ℕ) (seats : List (Seat P)) → AreSeated job state handed IsValid links a b seats
+  pub seats_grown : (links : List (Link N)) (l : Link N) (a b : ℕ) (seats : List (Seat P)) → AreSeated job state handed IsValid links a b
+      seats
       → AreSeated job state handed IsValid (links ++ l ∷ []) a b seats
   seats_grown links l a b seats are = record {
     count = are.count;

@@ -1,5 +1,6 @@
 -- What becomes of a process with its ends when a packet comes or leaves, and when it takes a turn.
-use Rattle.std.proofs.Common.{◌≡◌, ℕ, ◌<◌, ◌≤◌, Bool, true, false, nat_eq, List, [], ◌∷◌, ◌++◌, length, Some, refl, sym, ap, subst, ◌∙◌, arith}
+use Rattle.std.proofs.Common.{◌≡◌, ℕ, ◌<◌, ◌≤◌, Bool, true, false, nat_eq, List, [], ◌∷◌, ◌++◌, length, Some}
+use Rattle.std.proofs.Common.{refl, sym, ap, subst, ◌∙◌, arith}
 use Rattle.std.specs.List.{All, list_any, slice_get}
 use Rattle.std.proofs.lemmas.List.Elements.{All-weaker}
 use Rattle.std.proofs.Math.ListN.{set}
@@ -110,7 +111,8 @@ seat_with s process outs ins pause = record {
   pause = pause;
 }
 
-module _ {N P : Type 0} (job : Job) (state : P → ProcessState) (handed : P → Handed) (IsValid : P → Type 0) (links : List (Link N)) (s : Seat P)
+module _ {N P : Type 0} (job : Job) (state : P → ProcessState) (handed : P → Handed) (IsValid : P → Type 0) (links : List (Link N))
+    (s : Seat P)
     (sits : Sits job state handed IsValid links s) where
   abbrev x : ProcessState
   x = state s.process
@@ -226,7 +228,8 @@ module _ {N P : Type 0} (job : Job) (state : P → ProcessState) (handed : P →
         (given_the_same job s.number x o q number same (sits.outs.gives i o there)) (λ r gives other. gives)
 
     pub sent_sits : (process : P) (packet : Packet) → IsSent o.number x (state process) → x.position.standing o.number ≡ Some packet
-        → given q ≡ given o ++ packet ∷ [] → IsValid process → handed process ≡ handed s.process → (outs : Vec Out Global) → outs.items ≡ set s.outs.items i q
+        → given q ≡ given o ++ packet ∷ [] → IsValid process → handed process ≡ handed s.process → (outs : Vec Out Global)
+        → outs.items ≡ set s.outs.items i q
         → Sits job state handed IsValid links (seat_with s process outs s.ins s.pause)
     sent_sits process packet sent stood more valid kept outs is = record {
       valid = valid;

@@ -25,4 +25,5 @@ AreOfWorker {P} workers worker seats = (i : ℕ) (s : Seat P) → slice_get seat
 
 -- this holds of each worker
 abbrev pub AreByWorker : {P : Type 0} → (workers : ℕ) → List (Vec (Seat P) Global) → Type 0
-AreByWorker {P} workers by_worker = (w : ℕ) (seats : Vec (Seat P) Global) → slice_get by_worker w ≡ Some seats → AreOfWorker workers w seats.items
+AreByWorker {P} workers by_worker =
+    (w : ℕ) (seats : Vec (Seat P) Global) → slice_get by_worker w ≡ Some seats → AreOfWorker workers w seats.items

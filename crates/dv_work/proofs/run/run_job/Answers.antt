@@ -28,7 +28,8 @@ seats_by_worker-requires-clause-seats g c =
     let job = g.N.OfJob.job in
     let are = c.in_ok-links.ensures.seated in
     subst (λ (ls : List (Link g.row.N.Denot)).
-    All (λ (s : Seat g.row.P.Denot). Sits job g.P.LogicalProcess.state g.P.LogicalProcess.handed g.P.LogicalProcess.valid ls s) c.connect.new.seats.items)
+    All (λ (s : Seat g.row.P.Denot). Sits job g.P.LogicalProcess.state g.P.LogicalProcess.handed g.P.LogicalProcess.valid ls s)
+    c.connect.new.seats.items)
     (sym c.deref-2.ensures.value)
     (all_sit job g.P.LogicalProcess.state g.P.LogicalProcess.handed g.P.LogicalProcess.valid c.in_ok-links.links.items are.0 are.0
     c.connect.new.seats.items are.1)
@@ -37,6 +38,7 @@ pub run_all-requires-clause-seated : goal.run_all-requires-clause-seated
 run_all-requires-clause-seated g c κs _ =
     let job = g.N.OfJob.job in
     subst (λ (ls : List (Link g.row.N.Denot)).
-    All (λ (v : Vec (Seat g.row.P.Denot) Global). Seated job g.P.LogicalProcess.state g.P.LogicalProcess.handed g.P.LogicalProcess.valid ls v)
+    All (λ (v : Vec (Seat g.row.P.Denot) Global). Seated job g.P.LogicalProcess.state g.P.LogicalProcess.handed g.P.LogicalProcess.valid ls
+    v)
     c.in_ok-by_worker.by_worker.items)
     (c.deref-2.ensures.value ∙ sym c.deref-3.ensures.value) c.in_ok-by_worker.ensures.seated

@@ -65,14 +65,18 @@ add_out-requires-clause-seat g c =
     let number : c.len-number.result ≡ n = omega (arith, c.len-number.ensures, c.loop-channel.links.ok.0, inv.0) in
     let last : c.len-number.result ≡ length old = omega (arith, c.len-number.ensures, c.loop-channel.links.ok.0) in
     let more : c.deref.result.now ≡ old ++ link ∷ [] = c.deref.ensures.value ∙ c.in_ok-push.ensures.items in
-    let grown : AreSeated g.N.OfJob.job g.P.LogicalProcess.state g.P.LogicalProcess.handed g.P.LogicalProcess.valid c.deref.result.now n n seats
-    = subst (λ (ls : List (Link g.row.N.Denot)). AreSeated g.N.OfJob.job g.P.LogicalProcess.state g.P.LogicalProcess.handed g.P.LogicalProcess.valid ls n n seats)
-    (sym more) (seats_grown g.N.OfJob.job g.P.LogicalProcess.state g.P.LogicalProcess.handed g.P.LogicalProcess.valid old link n n seats inv.1) in
+    let grown : AreSeated g.N.OfJob.job g.P.LogicalProcess.state g.P.LogicalProcess.handed g.P.LogicalProcess.valid c.deref.result.now n n
+    seats
+    = subst (λ (ls : List (Link g.row.N.Denot)). AreSeated g.N.OfJob.job g.P.LogicalProcess.state g.P.LogicalProcess.handed
+    g.P.LogicalProcess.valid ls n n seats)
+    (sym more) (seats_grown g.N.OfJob.job g.P.LogicalProcess.state g.P.LogicalProcess.handed g.P.LogicalProcess.valid old link n n seats
+    inv.1) in
     let named = subst (λ (m : ℕ). slice_get g.N.OfJob.job.channels m ≡ Some (meant_channel ch)) (sym number) there in
     let s = c.index_mut.result.now in
     let inside : ch.source < length seats = omega (arith, ends.0, count) in
     let at = slice_get_read seats (length seats) ch.source s refl inside c.index_mut.ensures.value in
-    subst (λ (k : ℕ). IsSeat g.N.OfJob.job g.P.LogicalProcess.state g.P.LogicalProcess.handed g.P.LogicalProcess.valid c.deref.result.now k k s) (sym number)
+    subst (λ (k : ℕ). IsSeat g.N.OfJob.job g.P.LogicalProcess.state g.P.LogicalProcess.handed g.P.LogicalProcess.valid c.deref.result.now k
+    k s) (sym number)
     (grown.each ch.source s at)
 
 pub add_out-requires-clause-out : goal.add_out-requires-clause-out
@@ -90,9 +94,12 @@ add_out-requires-clause-out g c =
     let number : c.len-number.result ≡ n = omega (arith, c.len-number.ensures, c.loop-channel.links.ok.0, inv.0) in
     let last : c.len-number.result ≡ length old = omega (arith, c.len-number.ensures, c.loop-channel.links.ok.0) in
     let more : c.deref.result.now ≡ old ++ link ∷ [] = c.deref.ensures.value ∙ c.in_ok-push.ensures.items in
-    let grown : AreSeated g.N.OfJob.job g.P.LogicalProcess.state g.P.LogicalProcess.handed g.P.LogicalProcess.valid c.deref.result.now n n seats
-    = subst (λ (ls : List (Link g.row.N.Denot)). AreSeated g.N.OfJob.job g.P.LogicalProcess.state g.P.LogicalProcess.handed g.P.LogicalProcess.valid ls n n seats)
-    (sym more) (seats_grown g.N.OfJob.job g.P.LogicalProcess.state g.P.LogicalProcess.handed g.P.LogicalProcess.valid old link n n seats inv.1) in
+    let grown : AreSeated g.N.OfJob.job g.P.LogicalProcess.state g.P.LogicalProcess.handed g.P.LogicalProcess.valid c.deref.result.now n n
+    seats
+    = subst (λ (ls : List (Link g.row.N.Denot)). AreSeated g.N.OfJob.job g.P.LogicalProcess.state g.P.LogicalProcess.handed
+    g.P.LogicalProcess.valid ls n n seats)
+    (sym more) (seats_grown g.N.OfJob.job g.P.LogicalProcess.state g.P.LogicalProcess.handed g.P.LogicalProcess.valid old link n n seats
+    inv.1) in
     let named = subst (λ (m : ℕ). slice_get g.N.OfJob.job.channels m ≡ Some (meant_channel ch)) (sym number) there in
     let s = c.index_mut.result.now in
     let inside : ch.source < length seats = omega (arith, ends.0, count) in
@@ -126,9 +133,12 @@ add_in-requires-clause-seat g c =
     let number : c.len-number.result ≡ n = omega (arith, c.len-number.ensures, c.loop-channel.links.ok.0, inv.0) in
     let last : c.len-number.result ≡ length old = omega (arith, c.len-number.ensures, c.loop-channel.links.ok.0) in
     let more : c.deref.result.now ≡ old ++ link ∷ [] = c.deref.ensures.value ∙ c.in_ok-push.ensures.items in
-    let grown : AreSeated g.N.OfJob.job g.P.LogicalProcess.state g.P.LogicalProcess.handed g.P.LogicalProcess.valid c.deref.result.now n n seats
-    = subst (λ (ls : List (Link g.row.N.Denot)). AreSeated g.N.OfJob.job g.P.LogicalProcess.state g.P.LogicalProcess.handed g.P.LogicalProcess.valid ls n n seats)
-    (sym more) (seats_grown g.N.OfJob.job g.P.LogicalProcess.state g.P.LogicalProcess.handed g.P.LogicalProcess.valid old link n n seats inv.1) in
+    let grown : AreSeated g.N.OfJob.job g.P.LogicalProcess.state g.P.LogicalProcess.handed g.P.LogicalProcess.valid c.deref.result.now n n
+    seats
+    = subst (λ (ls : List (Link g.row.N.Denot)). AreSeated g.N.OfJob.job g.P.LogicalProcess.state g.P.LogicalProcess.handed
+    g.P.LogicalProcess.valid ls n n seats)
+    (sym more) (seats_grown g.N.OfJob.job g.P.LogicalProcess.state g.P.LogicalProcess.handed g.P.LogicalProcess.valid old link n n seats
+    inv.1) in
     let named = subst (λ (m : ℕ). slice_get g.N.OfJob.job.channels m ≡ Some (meant_channel ch)) (sym number) there in
     let s = c.index_mut.result.now in
     let inside : ch.source < length seats = omega (arith, ends.0, count) in
@@ -138,14 +148,20 @@ add_in-requires-clause-seat g c =
     let t = c.add_out.new.seat in
     let got = c.in_ok-add_out.ensures in
     let next : c.len-number.result + 1 ≡ n + 1 = omega (arith, number) in
-    let first : IsSeat g.N.OfJob.job g.P.LogicalProcess.state g.P.LogicalProcess.handed g.P.LogicalProcess.valid c.deref.result.now (n + 1) n t
-    = subst (λ (y : ℕ × ℕ). IsSeat g.N.OfJob.job g.P.LogicalProcess.state g.P.LogicalProcess.handed g.P.LogicalProcess.valid c.deref.result.now y.0 y.1 t)
+    let first : IsSeat g.N.OfJob.job g.P.LogicalProcess.state g.P.LogicalProcess.handed g.P.LogicalProcess.valid c.deref.result.now (n + 1)
+    n t
+    = subst (λ (y : ℕ × ℕ). IsSeat g.N.OfJob.job g.P.LogicalProcess.state g.P.LogicalProcess.handed g.P.LogicalProcess.valid
+    c.deref.result.now y.0 y.1 t)
     (λ i. (next i, number i)) got.seat in
-    let one : AreSeated g.N.OfJob.job g.P.LogicalProcess.state g.P.LogicalProcess.handed g.P.LogicalProcess.valid c.deref.result.now (n + 1) n (set seats ch.source t)
-    = seated_more g.N.OfJob.job g.P.LogicalProcess.state g.P.LogicalProcess.handed g.P.LogicalProcess.valid c.deref.result.now n n (n + 1) n (omega arith)
+    let one : AreSeated g.N.OfJob.job g.P.LogicalProcess.state g.P.LogicalProcess.handed g.P.LogicalProcess.valid c.deref.result.now
+    (n + 1) n (set seats ch.source t)
+    = seated_more g.N.OfJob.job g.P.LogicalProcess.state g.P.LogicalProcess.handed g.P.LogicalProcess.valid c.deref.result.now n n (n + 1)
+    n (omega arith)
     (omega arith) seats grown ch.source s t at got.number first in
-    let two : AreSeated g.N.OfJob.job g.P.LogicalProcess.state g.P.LogicalProcess.handed g.P.LogicalProcess.valid links2 (n + 1) n (set seats ch.source t)
-    = subst (λ (ls : List (Link g.row.N.Denot)). AreSeated g.N.OfJob.job g.P.LogicalProcess.state g.P.LogicalProcess.handed g.P.LogicalProcess.valid ls (n + 1) n
+    let two : AreSeated g.N.OfJob.job g.P.LogicalProcess.state g.P.LogicalProcess.handed g.P.LogicalProcess.valid links2 (n + 1) n
+    (set seats ch.source t)
+    = subst (λ (ls : List (Link g.row.N.Denot)). AreSeated g.N.OfJob.job g.P.LogicalProcess.state g.P.LogicalProcess.handed
+    g.P.LogicalProcess.valid ls (n + 1) n
     (set seats ch.source t)) same one in
     let u = c.index_mut-in-loop-channel.result.now in
     let below : ch.target < length (set seats ch.source t) = omega (arith, ends.1, count, length-set seats ch.source t) in
@@ -169,9 +185,12 @@ add_in-requires-clause-end g c =
     let number : c.len-number.result ≡ n = omega (arith, c.len-number.ensures, c.loop-channel.links.ok.0, inv.0) in
     let last : c.len-number.result ≡ length old = omega (arith, c.len-number.ensures, c.loop-channel.links.ok.0) in
     let more : c.deref.result.now ≡ old ++ link ∷ [] = c.deref.ensures.value ∙ c.in_ok-push.ensures.items in
-    let grown : AreSeated g.N.OfJob.job g.P.LogicalProcess.state g.P.LogicalProcess.handed g.P.LogicalProcess.valid c.deref.result.now n n seats
-    = subst (λ (ls : List (Link g.row.N.Denot)). AreSeated g.N.OfJob.job g.P.LogicalProcess.state g.P.LogicalProcess.handed g.P.LogicalProcess.valid ls n n seats)
-    (sym more) (seats_grown g.N.OfJob.job g.P.LogicalProcess.state g.P.LogicalProcess.handed g.P.LogicalProcess.valid old link n n seats inv.1) in
+    let grown : AreSeated g.N.OfJob.job g.P.LogicalProcess.state g.P.LogicalProcess.handed g.P.LogicalProcess.valid c.deref.result.now n n
+    seats
+    = subst (λ (ls : List (Link g.row.N.Denot)). AreSeated g.N.OfJob.job g.P.LogicalProcess.state g.P.LogicalProcess.handed
+    g.P.LogicalProcess.valid ls n n seats)
+    (sym more) (seats_grown g.N.OfJob.job g.P.LogicalProcess.state g.P.LogicalProcess.handed g.P.LogicalProcess.valid old link n n seats
+    inv.1) in
     let named = subst (λ (m : ℕ). slice_get g.N.OfJob.job.channels m ≡ Some (meant_channel ch)) (sym number) there in
     let more2 : c.deref-in-loop-channel.result.now ≡ old ++ link ∷ []
     = c.deref-in-loop-channel.ensures.value ∙ c.in_ok-push.ensures.items in
@@ -193,9 +212,12 @@ loop-channel-preserved g c =
     let number : c.len-number.result ≡ n = omega (arith, c.len-number.ensures, c.loop-channel.links.ok.0, inv.0) in
     let last : c.len-number.result ≡ length old = omega (arith, c.len-number.ensures, c.loop-channel.links.ok.0) in
     let more : c.deref.result.now ≡ old ++ link ∷ [] = c.deref.ensures.value ∙ c.in_ok-push.ensures.items in
-    let grown : AreSeated g.N.OfJob.job g.P.LogicalProcess.state g.P.LogicalProcess.handed g.P.LogicalProcess.valid c.deref.result.now n n seats
-    = subst (λ (ls : List (Link g.row.N.Denot)). AreSeated g.N.OfJob.job g.P.LogicalProcess.state g.P.LogicalProcess.handed g.P.LogicalProcess.valid ls n n seats)
-    (sym more) (seats_grown g.N.OfJob.job g.P.LogicalProcess.state g.P.LogicalProcess.handed g.P.LogicalProcess.valid old link n n seats inv.1) in
+    let grown : AreSeated g.N.OfJob.job g.P.LogicalProcess.state g.P.LogicalProcess.handed g.P.LogicalProcess.valid c.deref.result.now n n
+    seats
+    = subst (λ (ls : List (Link g.row.N.Denot)). AreSeated g.N.OfJob.job g.P.LogicalProcess.state g.P.LogicalProcess.handed
+    g.P.LogicalProcess.valid ls n n seats)
+    (sym more) (seats_grown g.N.OfJob.job g.P.LogicalProcess.state g.P.LogicalProcess.handed g.P.LogicalProcess.valid old link n n seats
+    inv.1) in
     let named = subst (λ (m : ℕ). slice_get g.N.OfJob.job.channels m ≡ Some (meant_channel ch)) (sym number) there in
     let s = c.index_mut.result.now in
     let inside : ch.source < length seats = omega (arith, ends.0, count) in
@@ -205,14 +227,20 @@ loop-channel-preserved g c =
     let t = c.add_out.new.seat in
     let got = c.in_ok-add_out.ensures in
     let next : c.len-number.result + 1 ≡ n + 1 = omega (arith, number) in
-    let first : IsSeat g.N.OfJob.job g.P.LogicalProcess.state g.P.LogicalProcess.handed g.P.LogicalProcess.valid c.deref.result.now (n + 1) n t
-    = subst (λ (y : ℕ × ℕ). IsSeat g.N.OfJob.job g.P.LogicalProcess.state g.P.LogicalProcess.handed g.P.LogicalProcess.valid c.deref.result.now y.0 y.1 t)
+    let first : IsSeat g.N.OfJob.job g.P.LogicalProcess.state g.P.LogicalProcess.handed g.P.LogicalProcess.valid c.deref.result.now (n + 1)
+    n t
+    = subst (λ (y : ℕ × ℕ). IsSeat g.N.OfJob.job g.P.LogicalProcess.state g.P.LogicalProcess.handed g.P.LogicalProcess.valid
+    c.deref.result.now y.0 y.1 t)
     (λ i. (next i, number i)) got.seat in
-    let one : AreSeated g.N.OfJob.job g.P.LogicalProcess.state g.P.LogicalProcess.handed g.P.LogicalProcess.valid c.deref.result.now (n + 1) n (set seats ch.source t)
-    = seated_more g.N.OfJob.job g.P.LogicalProcess.state g.P.LogicalProcess.handed g.P.LogicalProcess.valid c.deref.result.now n n (n + 1) n (omega arith)
+    let one : AreSeated g.N.OfJob.job g.P.LogicalProcess.state g.P.LogicalProcess.handed g.P.LogicalProcess.valid c.deref.result.now
+    (n + 1) n (set seats ch.source t)
+    = seated_more g.N.OfJob.job g.P.LogicalProcess.state g.P.LogicalProcess.handed g.P.LogicalProcess.valid c.deref.result.now n n (n + 1)
+    n (omega arith)
     (omega arith) seats grown ch.source s t at got.number first in
-    let two : AreSeated g.N.OfJob.job g.P.LogicalProcess.state g.P.LogicalProcess.handed g.P.LogicalProcess.valid links2 (n + 1) n (set seats ch.source t)
-    = subst (λ (ls : List (Link g.row.N.Denot)). AreSeated g.N.OfJob.job g.P.LogicalProcess.state g.P.LogicalProcess.handed g.P.LogicalProcess.valid ls (n + 1) n
+    let two : AreSeated g.N.OfJob.job g.P.LogicalProcess.state g.P.LogicalProcess.handed g.P.LogicalProcess.valid links2 (n + 1) n
+    (set seats ch.source t)
+    = subst (λ (ls : List (Link g.row.N.Denot)). AreSeated g.N.OfJob.job g.P.LogicalProcess.state g.P.LogicalProcess.handed
+    g.P.LogicalProcess.valid ls (n + 1) n
     (set seats ch.source t)) same one in
     let u = c.index_mut-in-loop-channel.result.now in
     let below : ch.target < length (set seats ch.source t) = omega (arith, ends.1, count, length-set seats ch.source t) in
@@ -221,9 +249,11 @@ loop-channel-preserved g c =
     let v = c.add_in.new.seat in
     let got2 = c.in_ok-add_in.ensures in
     let second : IsSeat g.N.OfJob.job g.P.LogicalProcess.state g.P.LogicalProcess.handed g.P.LogicalProcess.valid links2 (n + 1) (n + 1) v
-    = subst (λ (y : ℕ × ℕ). IsSeat g.N.OfJob.job g.P.LogicalProcess.state g.P.LogicalProcess.handed g.P.LogicalProcess.valid links2 y.0 y.1 v)
+    = subst (λ (y : ℕ × ℕ). IsSeat g.N.OfJob.job g.P.LogicalProcess.state g.P.LogicalProcess.handed g.P.LogicalProcess.valid links2 y.0 y.1
+    v)
     (λ i. (next i, next i)) got2.seat in
-    let three = seated_more g.N.OfJob.job g.P.LogicalProcess.state g.P.LogicalProcess.handed g.P.LogicalProcess.valid links2 (n + 1) n (n + 1) (n + 1) (omega arith)
+    let three = seated_more g.N.OfJob.job g.P.LogicalProcess.state g.P.LogicalProcess.handed g.P.LogicalProcess.valid links2 (n + 1) n
+    (n + 1) (n + 1) (omega arith)
     (omega arith) (set seats ch.source t) two ch.target u v
     at2 got2.number second in
     let W : Seat g.row.P.Denot → Type 0 = λ z. NamesWorkers g.N.OfJob.job c.args.workers z in
@@ -234,7 +264,8 @@ loop-channel-preserved g c =
     (at_index W seats ch.source s inv.3 at)) inv.3 in
     let items = c.in_ok-push.ensures.items in (
       (let e = ap length items in let l = length-append old (link ∷ []) in let h = inv.0 in omega arith),
-      subst (λ (ls : List (Link g.row.N.Denot)). AreSeated g.N.OfJob.job g.P.LogicalProcess.state g.P.LogicalProcess.handed g.P.LogicalProcess.valid ls (n + 1)
+      subst (λ (ls : List (Link g.row.N.Denot)). AreSeated g.N.OfJob.job g.P.LogicalProcess.state g.P.LogicalProcess.handed
+          g.P.LogicalProcess.valid ls (n + 1)
           (n + 1) (set (set seats ch.source t) ch.target v))
           c.deref-in-loop-channel.ensures.value three,
       All-same C c.push.new.self.items _ items (All-push C old link inv.2 c.in_ok-link.ensures.capacity),

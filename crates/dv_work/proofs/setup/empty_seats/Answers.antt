@@ -11,8 +11,10 @@ use Rattle.dv_work.proofs.setup.empty_seats.Goals as goal
 
 pub loop-worker-preserved : goal.loop-worker-preserved
 loop-worker-preserved g c =
-    let S : Seat g.row.P.Denot → Type 0 = λ s. Sits g.N.OfJob.job g.P.LogicalProcess.state g.P.LogicalProcess.handed g.P.LogicalProcess.valid c.args.links.now s in
-    let C : Vec (Seat g.row.P.Denot) Global → Type 0 = λ v. Seated g.N.OfJob.job g.P.LogicalProcess.state g.P.LogicalProcess.handed g.P.LogicalProcess.valid
+    let S : Seat g.row.P.Denot → Type 0
+    = λ s. Sits g.N.OfJob.job g.P.LogicalProcess.state g.P.LogicalProcess.handed g.P.LogicalProcess.valid c.args.links.now s in
+    let C : Vec (Seat g.row.P.Denot) Global → Type 0
+    = λ v. Seated g.N.OfJob.job g.P.LogicalProcess.state g.P.LogicalProcess.handed g.P.LogicalProcess.valid
     c.args.links.now v in
     let xs = c.loop-worker.by_worker.items in
     let is : c.push.new.self.items ≡ xs ++ c.new.result ∷ [] = c.in_ok-push.ensures.items in

@@ -19,7 +19,8 @@ index_mut-requires g c =
 
 pub add_seat-requires-clause-seats : goal.add_seat-requires-clause-seats
 add_seat-requires-clause-seats g c =
-    let C : Vec (Seat g.row.P.Denot) Global → Type 0 = λ v. Seated g.N.OfJob.job g.P.LogicalProcess.state g.P.LogicalProcess.handed g.P.LogicalProcess.valid
+    let C : Vec (Seat g.row.P.Denot) Global → Type 0
+    = λ v. Seated g.N.OfJob.job g.P.LogicalProcess.state g.P.LogicalProcess.handed g.P.LogicalProcess.valid
     c.args.links.now v in
     let is = c.loop-seat.invariant in
     let i = c.in-Some.seat.number % c.args.workers in
@@ -28,14 +29,17 @@ add_seat-requires-clause-seats g c =
 
 pub add_seat-requires-clause-seat : goal.add_seat-requires-clause-seat
 add_seat-requires-clause-seat g c =
-    let S : Seat g.row.P.Denot → Type 0 = λ s. Sits g.N.OfJob.job g.P.LogicalProcess.state g.P.LogicalProcess.handed g.P.LogicalProcess.valid c.args.links.now s in
+    let S : Seat g.row.P.Denot → Type 0
+    = λ s. Sits g.N.OfJob.job g.P.LogicalProcess.state g.P.LogicalProcess.handed g.P.LogicalProcess.valid c.args.links.now s in
     let rest = subst (λ (l : List (Seat g.row.P.Denot)). All S l) c.in-Some.ensures.steps.0 c.loop-seat.invariant.rest in
     rest 0 c.in-Some.seat (omega arith)
 
 pub loop-seat-preserved : goal.loop-seat-preserved
 loop-seat-preserved g c =
-    let S : Seat g.row.P.Denot → Type 0 = λ s. Sits g.N.OfJob.job g.P.LogicalProcess.state g.P.LogicalProcess.handed g.P.LogicalProcess.valid c.args.links.now s in
-    let C : Vec (Seat g.row.P.Denot) Global → Type 0 = λ v. Seated g.N.OfJob.job g.P.LogicalProcess.state g.P.LogicalProcess.handed g.P.LogicalProcess.valid
+    let S : Seat g.row.P.Denot → Type 0
+    = λ s. Sits g.N.OfJob.job g.P.LogicalProcess.state g.P.LogicalProcess.handed g.P.LogicalProcess.valid c.args.links.now s in
+    let C : Vec (Seat g.row.P.Denot) Global → Type 0
+    = λ v. Seated g.N.OfJob.job g.P.LogicalProcess.state g.P.LogicalProcess.handed g.P.LogicalProcess.valid
     c.args.links.now v in
     let is = c.loop-seat.invariant in
     let by_worker = c.loop-seat.by_worker.items in

@@ -34,15 +34,24 @@ loop-process-preserved g c =
     let here : slice_get c.args.processes.items c.len-number.result ≡ Some c.in-Some.process
     = subst (λ (n : ℕ). slice_get c.args.processes.items n ≡ Some c.in-Some.process) (sym index) at in
     let made : Seat g.row.P.Denot
-    = record { number = c.len-number.result; process = c.in-Some.process; outs = c.new.result; ins = c.new-in-loop-process.result; posted = first_time; pause = Over } in
+    = record {
+      number = c.len-number.result;
+      process = c.in-Some.process;
+      outs = c.new.result;
+      ins = c.new-in-loop-process.result;
+      posted = first_time;
+      pause = Over;
+    } in
     record {
       count = (let e = is.count in let l = ap length items in let k = length-append old (made ∷ []) in
           let y = length-append c.loop-process.yielded (c.in-Some.process ∷ []) in omega arith);
       numbers = snoc_each (λ p (s : Seat g.row.P.Denot). s.number ≡ p) old c.push.new.self.items _ items is.numbers number;
-      each = snoc_each (λ p (s : Seat g.row.P.Denot). IsSeat g.N.OfJob.job g.P.LogicalProcess.state g.P.LogicalProcess.handed g.P.LogicalProcess.valid
+      each = snoc_each (λ p (s : Seat g.row.P.Denot). IsSeat g.N.OfJob.job g.P.LogicalProcess.state g.P.LogicalProcess.handed
+          g.P.LogicalProcess.valid
           (no_links {N = g.row.N.Denot}) 0 0 s)
           old c.push.new.self.items _ items is.each
-          (new_seat g.N.OfJob.job g.P.LogicalProcess.state g.P.LogicalProcess.handed g.P.LogicalProcess.valid c.args.processes.items c.requires c.len-number.result
+          (new_seat g.N.OfJob.job g.P.LogicalProcess.state g.P.LogicalProcess.handed g.P.LogicalProcess.valid c.args.processes.items
+          c.requires c.len-number.result
           c.in-Some.process here c.new.result
           c.new-in-loop-process.result c.new.ensures.items c.new-in-loop-process.ensures.items);
     }

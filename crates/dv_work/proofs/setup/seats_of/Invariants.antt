@@ -8,5 +8,6 @@ invariant-loop-process g l = record {
   count : length l.seats.items ≡ length l.yielded;
   numbers : (p : ℕ) (s : Seat g.row.P.Denot) → slice_get l.seats.items p ≡ Some s → s.number ≡ p;
   each : (p : ℕ) (s : Seat g.row.P.Denot) → slice_get l.seats.items p ≡ Some s
-      → IsSeat g.N.OfJob.job g.P.LogicalProcess.state g.P.LogicalProcess.handed g.P.LogicalProcess.valid (no_links {N = g.row.N.Denot}) 0 0 s;
+      → IsSeat g.N.OfJob.job g.P.LogicalProcess.state g.P.LogicalProcess.handed g.P.LogicalProcess.valid (no_links {N = g.row.N.Denot}) 0 0
+      s;
 }

@@ -12,10 +12,12 @@ pub returns-in-Err-clause-all : goal.returns-in-Err-clause-all
 returns-in-Err-clause-all g c =
     let S : Seat g.row.P.Denot → Type 0
     = λ s. Sits g.N.OfJob.job g.P.LogicalProcess.state g.P.LogicalProcess.handed g.P.LogicalProcess.valid c.args.floor.now.links.now s in
-    let R : Seat g.row.P.Denot → Type 0 = λ s. Reports g.N.OfJob.job g.P.LogicalProcess.state g.P.LogicalProcess.handed g.P.LogicalProcess.valid s in
+    let R : Seat g.row.P.Denot → Type 0
+    = λ s. Reports g.N.OfJob.job g.P.LogicalProcess.state g.P.LogicalProcess.handed g.P.LogicalProcess.valid s in
     All-set R c.loop-i.seats c.loop-i.i c.visit.new.seat c.in-Err.ensures.err
     (All-weaker S R
-    (λ s sits. reports g.N.OfJob.job g.P.LogicalProcess.state g.P.LogicalProcess.handed g.P.LogicalProcess.valid c.args.floor.now.links.now s sits)
+    (λ s sits. reports g.N.OfJob.job g.P.LogicalProcess.state g.P.LogicalProcess.handed g.P.LogicalProcess.valid c.args.floor.now.links.now
+    s sits)
     c.loop-i.seats c.loop-i.invariant.0)
 
 pub loop-i-preserved : goal.loop-i-preserved
@@ -52,7 +54,9 @@ pub returns-clause-all : goal.returns-clause-all
 returns-clause-all g c =
     let S : Seat g.row.P.Denot → Type 0
     = λ s. Sits g.N.OfJob.job g.P.LogicalProcess.state g.P.LogicalProcess.handed g.P.LogicalProcess.valid c.args.floor.now.links.now s in
-    let R : Seat g.row.P.Denot → Type 0 = λ s. Reports g.N.OfJob.job g.P.LogicalProcess.state g.P.LogicalProcess.handed g.P.LogicalProcess.valid s in
+    let R : Seat g.row.P.Denot → Type 0
+    = λ s. Reports g.N.OfJob.job g.P.LogicalProcess.state g.P.LogicalProcess.handed g.P.LogicalProcess.valid s in
     All-weaker S R
-    (λ s sits. reports g.N.OfJob.job g.P.LogicalProcess.state g.P.LogicalProcess.handed g.P.LogicalProcess.valid c.args.floor.now.links.now s sits)
+    (λ s sits. reports g.N.OfJob.job g.P.LogicalProcess.state g.P.LogicalProcess.handed g.P.LogicalProcess.valid c.args.floor.now.links.now
+    s sits)
     c.loop-i.seats c.loop-i.invariant.0

@@ -21,7 +21,8 @@ returns-clause-sits g c =
     let packet = meant_packet c.sent.result in
     let before : (put ++ packets_held o.held) ++ packet ∷ [] ≡ put ++ packet ∷ []
     = ap (λ h. (put ++ packets_held h) ++ packet ∷ []) c.in-None.is ∙ ap (λ (l : List Packet). l ++ packet ∷ []) (append-nil put) in
-    sent_sits g.N.OfJob.job g.P.LogicalProcess.state g.P.LogicalProcess.handed g.P.LogicalProcess.valid c.args.floor.now.links.now s sits c.args.index o _ read refl
+    sent_sits g.N.OfJob.job g.P.LogicalProcess.state g.P.LogicalProcess.handed g.P.LogicalProcess.valid c.args.floor.now.links.now s sits
+    c.args.index o _ read refl
     (record { at = end.at; is_at = end.is_at; pass_of = end.pass_of; link_is = end.link_is })
     c.sent.new.self packet c.sent.ensures.sent c.sent.ensures.packet (sym before) c.sent.ensures.valid c.sent.ensures.handed
     _ refl

@@ -25,7 +25,8 @@ returns-then-not-put_or_ask-clause-sits g c =
     record {
       valid = sits.valid;
       fed = sits.fed;
-      outs = given_outs g.N.OfJob.job g.P.LogicalProcess.state g.P.LogicalProcess.handed g.P.LogicalProcess.valid c.args.floor.now.links.now s sits
+      outs = given_outs g.N.OfJob.job g.P.LogicalProcess.state g.P.LogicalProcess.handed g.P.LogicalProcess.valid
+          c.args.floor.now.links.now s sits
           c.args.index c.index_mut-end.result.now c.put_or_ask.new.end read c.put_or_ask.ensures.number c.put_or_ask.ensures.end
           c.put_or_ask.ensures.given;
       ins = sits.ins;
@@ -42,7 +43,8 @@ returns-clause-sits g c =
     record {
       valid = sits.valid;
       fed = sits.fed;
-      outs = given_outs g.N.OfJob.job g.P.LogicalProcess.state g.P.LogicalProcess.handed g.P.LogicalProcess.valid c.args.floor.now.links.now s sits
+      outs = given_outs g.N.OfJob.job g.P.LogicalProcess.state g.P.LogicalProcess.handed g.P.LogicalProcess.valid
+          c.args.floor.now.links.now s sits
           c.args.index c.index_mut-end.result.now c.put_or_ask.new.end read c.put_or_ask.ensures.number c.put_or_ask.ensures.end
           c.put_or_ask.ensures.given;
       ins = sits.ins;
