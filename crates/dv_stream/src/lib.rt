@@ -32,15 +32,13 @@ pub mod ran;
 pub mod rest;
 /// Runs the processes of a plan in rounds on one thread, and writes between them.
 pub mod rounds;
-/// Who watches the turns of processes by workers.
-pub mod watch;
-/// Workers; while they run the trace is written.
+/// Runs workers, and writes the trace while they run.
 pub mod workers;
 /// What was written of a trace.
 pub mod written;
 
+pub use dv_work::{Unwatched, Watch};
 pub use planned::{Workers, stream_plan_by_workers};
 pub use ran::{Ran, RanByWorkers, RunEnded, Why};
 pub use rounds::{Bounds, stream_plan};
-pub use watch::{Unwatched, Watch};
 pub use written::Written;

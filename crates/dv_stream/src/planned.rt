@@ -14,8 +14,7 @@ ghost use Rattle.dv_text.specs.Names.{tree_names};
 ghost use Rattle.dv_work.specs.Crews.{IsCrewFor};
 
 use crate::ran::RanByWorkers;
-use crate::watch::{Watch, Watched};
-use crate::workers::stream_watched;
+use crate::workers::stream_crew;
 use dv_core::PlannedJob;
 use dv_lines::{TreeWords, WrittenRecord, WrittenRecords};
 use dv_local::LocalRun;
@@ -25,7 +24,7 @@ use dv_proc::Process;
 use dv_react::Atomic;
 use dv_text::WriteError;
 use dv_tree::Tree;
-use dv_work::Crew;
+use dv_work::{Crew, Watch};
 use dv_written::{HandsOver, MakesRecord, OfJob};
 use std::alloc::{AllocError, Global};
 use std::io::Write;
@@ -89,8 +88,8 @@ where
     stream_with_words::<Brand, J, A, G, R, W>(rt, alloc, job, plan, workers, &words, writer)
 }
 
-// Makes a record by the words for each process of a plan, and runs them. No argument has the job in
-// its type, so the caller chooses the job.
+// Makes the records by the words, and runs the processes of a plan with them. No argument has the
+// job in its type, so the caller chooses the job.
 fn stream_with_words<
     'w,
     N: OfJob + Send + Sync,
@@ -172,9 +171,8 @@ where
         watch,
     } = workers;
     let crew = begin_crew::<N, J, A, K, M>(alloc, job, plan, works, capacity, records)?;
-    let gate = Watched { watch };
-    stream_watched::<N, J, Process<LocalRun<A, K>>, G, R, W>(
-        rt, alloc, job, crew, &gate, words, writer,
+    stream_crew::<N, J, Process<LocalRun<A, K>>, G, R, W>(
+        rt, alloc, job, crew, watch, words, writer,
     )
 }
 

@@ -17,7 +17,6 @@ use crate::merged::Merger;
 use crate::news::{Signals, write_news};
 use crate::ran::{Ran, RanByWorkers};
 use crate::rest::{Left, all_are, clocks_at, ended_as, write_rest};
-use crate::watch::{Watch, Watched};
 use crate::written::Written;
 use dv_bag::Bags;
 use dv_core::{PlannedJob, ProcessHandsOver};
@@ -25,7 +24,7 @@ use dv_lines::TreeWords;
 use dv_text::WriteError;
 use dv_text::laws::a_trace_is_its_pieces;
 use dv_time::Time;
-use dv_work::{Crew, Ended, Gate, Report, run_streamed};
+use dv_work::{Crew, Ended, Report, Watch, run_streamed};
 use dv_written::OfJob;
 use std::alloc::{AllocError, Global};
 use std::io::Write;
@@ -62,13 +61,13 @@ struct CrewedJob<N: OfJob, P, K> {
 fn run_posting<
     N: OfJob + Send + Sync,
     P: ProcessHandsOver<N> + Send,
-    G: Gate<P>,
+    G: Watch,
     R: Threads + Wait + Sync,
 >(
     rt: &R,
     alloc: Global,
     crewed: &mut Option<CrewedJob<N, P, P::Work>>,
-    gate: &G,
+    watch: &G,
     signals: &Signals<N>,
 ) -> Result<Left<N, G::Cause>, AllocError>
 where
@@ -89,7 +88,7 @@ where
         alloc,
         &job,
         crew,
-        gate,
+        watch,
         signals.stream(),
     );
     signals.end(rt);
@@ -144,7 +143,7 @@ impl<'t, N: OfJob> WritesPosts<N> for Merger<'t, N> {
 fn run_and_write<
     N: OfJob + Send + Sync,
     P: ProcessHandsOver<N> + Send,
-    G: Gate<P>,
+    G: Watch,
     R: Threads + Wait + Sync,
     M: WritesPosts<N>,
     W: Write,
@@ -152,7 +151,7 @@ fn run_and_write<
     rt: &R,
     alloc: Global,
     crewed: CrewedJob<N, P, P::Work>,
-    gate: &G,
+    watch: &G,
     signals: &Signals<N>,
     merger: &mut M,
     writer: &mut W,
@@ -180,7 +179,7 @@ where
         requires bells { IfSome crewed (λ c.
             length c.crew.works.items ≤ length signals.now.bells.items) }
         ensures { IfOk result (IsReportOf N.job) }
-    { run_posting(rt, alloc, &mut crewed, gate, signals) };
+    { run_posting(rt, alloc, &mut crewed, watch, signals) };
     let mut write = || -> Result<Written, WriteError>
         ensures tree { M.tree merger.exit.now ≡ M.tree merger.entry.now }
         ensures written { IfOk result (IsWrittenTo N.job (M.tree merger.entry.now)
@@ -200,9 +199,9 @@ where
 ///
 /// # Errors
 ///
-/// A write failed, or there is no memory for the links and the threads, or for a piece of the trace. All threads have ended, and
-/// the writer holds a beginning of the lines.
-pub(crate) fn stream_watched<
+/// A write failed, or there is no memory for the links and the threads, or for a piece of the
+/// trace. All threads have ended, and the writer holds a beginning of the lines.
+pub(crate) fn stream_crew<
     N: OfJob + Send + Sync,
     J: PlannedJob,
     P: ProcessHandsOver<N> + Send,
@@ -214,44 +213,7 @@ pub(crate) fn stream_watched<
     alloc: Global,
     job: &J,
     crew: Crew<P, P::Work>,
-    gate: &Watched<'_, G>,
-    words: &TreeWords,
-    writer: &mut W,
-) -> Result<RanByWorkers<G::Cause>, WriteError>
-where
-    P::Work: Send + Drop,
-    P::Record: Send,
-    requires job { N.job ≡ J.means job.now }
-    requires lines { (e : MeantEntry) → line_of (tree_names words.now) e ≡ N.line e }
-    requires crew { IsCrewFor (J.means job.now) P.state P.handed P.valid crew }
-    requires merges { IsMergeable (J.means job.now) }
-    requires some { 0 < (J.means job.now).processes }
-    ensures run { IfOk result (HasRunByWorkers (J.means job.now)) }
-    ensures written { IfOk result (λ w. IsWrittenTo (J.means job.now) words.now
-        (W.contents writer.old) (W.contents writer.new) w.ran.written) }
-    ensures err { OnErr result (IsBegun (J.means job.now) words.now
-        (W.contents writer.old) (W.contents writer.new)) }
-{
-    stream_crew::<N, J, P, Watched<'_, G>, R, W>(rt, alloc, job, crew, gate, words, writer)
-}
-
-// Runs a crew of new processes of a job on threads behind a gate, and writes the trace, with the words of a tree, while they run. What
-// was written is the trace before the least of the clocks, none of which is past the end, and a run is told whole exactly where every
-// clock is at the end. Where a write failed, or memory is refused, all threads have ended, and the writer holds a beginning of the
-// lines.
-fn stream_crew<
-    N: OfJob + Send + Sync,
-    J: PlannedJob,
-    P: ProcessHandsOver<N> + Send,
-    G: Gate<P>,
-    R: Threads + Wait + Sync,
-    W: Write,
->(
-    rt: &R,
-    alloc: Global,
-    job: &J,
-    crew: Crew<P, P::Work>,
-    gate: &G,
+    watch: &G,
     words: &TreeWords,
     writer: &mut W,
 ) -> Result<RanByWorkers<G::Cause>, WriteError>
@@ -277,7 +239,7 @@ where
         crew.works.len(),
         words.tree().component_count(),
     )?;
-    run_and_write_rest(rt, job, crew, gate, &signals, &mut merger, writer)
+    run_and_write_rest(rt, job, crew, watch, &signals, &mut merger, writer)
 }
 
 // Runs a crew and writes its trace, with given signals and a given merger.
@@ -285,14 +247,14 @@ fn run_and_write_rest<
     N: OfJob + Send + Sync,
     J: PlannedJob,
     P: ProcessHandsOver<N> + Send,
-    G: Gate<P>,
+    G: Watch,
     R: Threads + Wait + Sync,
     W: Write,
 >(
     rt: &R,
     job: &J,
     crew: Crew<P, P::Work>,
-    gate: &G,
+    watch: &G,
     signals: &Signals<N>,
     merger: &mut Merger<'_, N>,
     writer: &mut W,
@@ -317,7 +279,7 @@ where
         of: PhantomData,
     };
     let crewed = CrewedJob { job: until, crew };
-    let (written, report) = run_and_write(rt, merger.alloc, crewed, gate, signals, merger, writer);
+    let (written, report) = run_and_write(rt, merger.alloc, crewed, watch, signals, merger, writer);
     let written = written?;
     let Left { rest, ended } = report?;
     let written = write_rest(rt, &signals.board, merger, rest, written, writer)?;

@@ -18,7 +18,7 @@ module _ {C : Type 0} where
   lacks_memory (Some halt.Memory) = true
   lacks_memory (Some (halt.Cause c)) = false
 
-  -- the cause for which the gate stopped a worker
+  -- the cause for which the watch stopped a worker
   abbrev pub cause_of : Option (Halt C) → Option C
   cause_of None = None
   cause_of (Some halt.Flag) = None
@@ -36,7 +36,7 @@ module _ {C : Type 0} where
   first_cause [] = None
   first_cause (h ∷ hs) = first_of (cause_of h) (first_cause hs)
 
-  -- Whole if every clock is at the end; else out of memory if a worker was; else stopped by the gate if there is a cause; else
+  -- Whole if every clock is at the end; else out of memory if a worker was; else stopped by the watch if there is a cause; else
   -- cancelled if the caller's flag was raised. Anything else that keeps a clock from the end counts as out of memory, as a worker
   -- without a thread does.
   abbrev pub ended_by : (is_whole memory : Bool) → Option C → (is_stopped : Bool) → Ended C

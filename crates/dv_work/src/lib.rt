@@ -4,7 +4,7 @@
 //! of workers, and stays there. A worker visits its processes one after the other, again and
 //! again. At a visit it takes a packet from each link that leads to the process, lets the process
 //! make a turn, and puts the packets that the process prepared. Now and then it posts what its
-//! processes committed on the board of a [`Stream`]. A [`Gate`] is called before and after each
+//! processes committed on the board of a [`Stream`]. A [`Watch`] is called before and after each
 //! turn, and may stop the run.
 //!
 //! For any timing of the threads, what a process posts and what it leaves in the [`Report`] is its
@@ -110,7 +110,7 @@
 //!
 //! A caller stops a run by a flag of its own (`stop` of [`Stream`]), and rings all bells after it.
 //! Each worker looks at it at each visit. A worker that sees it ends, and raises the flag of the
-//! workers, at which the others end too. A worker that lacks memory, or is stopped by a [`Gate`],
+//! workers, at which the others end too. A worker that lacks memory, or is stopped by a [`Watch`],
 //! does the same.
 #![tactic(auto)]
 
@@ -118,9 +118,7 @@
 pub mod bell;
 /// The parts of a run by workers.
 pub mod crew;
-/// Who watches the turns.
-pub mod gate;
-/// How much of what processes posted is not written yet.
+/// How many bytes each process has posted that are not written yet.
 pub mod lead;
 /// Whether a process is held back.
 pub mod pause;
@@ -136,13 +134,15 @@ pub mod run;
 pub mod seat;
 /// Makes the links of a job, and gives each worker its processes.
 pub mod setup;
-/// Workers.
+/// Watches the turns of processes.
+pub mod watch;
+/// A worker.
 pub mod worker;
 
 pub use bell::{Bell, Flag, FlagView, Raised, bells_of};
 pub use crew::Crew;
-pub use gate::{Gate, Open};
 pub use lead::{Lead, Leads};
 pub use post::Stream;
 pub use report::{Ended, Report};
 pub use run::run_streamed;
+pub use watch::{Unwatched, Watch};

@@ -26,7 +26,7 @@ use std::alloc::{AllocError, Global};
 pub enum Ended<C> {
     /// Every clock is at the end.
     Whole,
-    /// The gate stopped it, for this cause.
+    /// The watch stopped it, for this cause.
     Stopped(C),
     /// The caller raised the flag that stops it.
     Cancelled,

@@ -12,12 +12,12 @@ ghost use Rattle.dv_work.specs.Reached.{AreReached};
 
 use crate::bell::Flag;
 use crate::crew::Crew;
-use crate::gate::Gate;
 use crate::post::Stream;
 use crate::report::{Report, report_of};
 use crate::room::rooms_of;
 use crate::seat::{Floor, Seat};
 use crate::setup::{connect, seats_by_worker, seats_of};
+use crate::watch::Watch;
 use crate::worker::{Halt, Worked, work_at};
 use dv_core::{LogicalProcess, PlannedJob, ProcessHandsOver};
 use dv_link::Link;
@@ -49,13 +49,13 @@ fn start<
     E,
     N: OfJob + Send + Sync + 's,
     P: ProcessHandsOver<N> + Send + 's,
-    G: Gate<P>,
+    G: Watch,
     R: Threads + Wait + Sync,
 >(
     scope: &'s Scope<'s, E>,
     rt: &'s R,
     floor: &'s Floor<'s, N>,
-    gate: &'s G,
+    watch: &'s G,
     number: usize,
     seats: Vec<Seat<P>>,
     work: P::Work,
@@ -73,7 +73,7 @@ where
             requires { Seated N.job P.state P.handed P.valid floor.now.links.now seats
                 × (number < length floor.now.stream.bells.now) }
             ensures { Reported N.job P.state P.handed P.valid result }
-        { work_at(rt, floor, gate, number, seats, work) },
+        { work_at(rt, floor, watch, number, seats, work) },
     );
     match started {
         Ok(handle) => Ok(handle),
@@ -135,14 +135,14 @@ fn start_and_join<
     E,
     N: OfJob + Send + Sync + 's,
     P: ProcessHandsOver<N> + Send + 's,
-    G: Gate<P>,
+    G: Watch,
     R: Threads + Wait + Sync,
 >(
     scope: &'s Scope<'s, E>,
     rt: &'s R,
     alloc: Global,
     floor: &'s Floor<'s, N>,
-    gate: &'s G,
+    watch: &'s G,
     mut by_worker: Vec<Vec<Seat<P>>>,
     mut works: Vec<P::Work>,
 ) -> Result<Vec<Worked<P, G::Cause>>, AllocError>
@@ -157,7 +157,7 @@ where
     let mut all = Vec::with_capacity(alloc, by_worker.len())?;
     while let Some((seats, work)) = last_seats(floor.links, &mut by_worker, &mut works) {
         let number = by_worker.len();
-        match start(scope, rt, floor, gate, number, seats, work) {
+        match start(scope, rt, floor, watch, number, seats, work) {
             Ok(handle) => handles.push(handle)?,
             Err(worked) => add_worked::<N, P, G::Cause>(&mut all, worked)?,
         }
@@ -172,13 +172,13 @@ where
 fn run_all<
     N: OfJob + Send + Sync,
     P: ProcessHandsOver<N> + Send,
-    G: Gate<P>,
+    G: Watch,
     R: Threads + Wait + Sync,
 >(
     rt: &R,
     alloc: Global,
     floor: &Floor<'_, N>,
-    gate: &G,
+    watch: &G,
     by_worker: Vec<Vec<Seat<P>>>,
     works: Vec<P::Work>,
 ) -> Result<Vec<Worked<P, G::Cause>>, AllocError>
@@ -196,7 +196,7 @@ where
             requires { All (Seated N.job P.state P.handed P.valid floor.now.links.now) by_worker.items
                 × (length by_worker.items ≤ length floor.now.stream.bells.now) }
             ensures { IfOk result (λ all. All (Reported N.job P.state P.handed P.valid) all.items) }
-        { start_and_join(scope, rt, alloc, floor, gate, by_worker, works) },
+        { start_and_join(scope, rt, alloc, floor, watch, by_worker, works) },
     )
 }
 
@@ -204,13 +204,13 @@ where
 fn run_job<
     N: OfJob + Send + Sync,
     P: ProcessHandsOver<N> + Send,
-    G: Gate<P>,
+    G: Watch,
     R: Threads + Wait + Sync,
 >(
     rt: &R,
     alloc: Global,
     crew: Crew<P, P::Work>,
-    gate: &G,
+    watch: &G,
     stream: Stream<'_, N>,
 ) -> Result<Vec<Worked<P, G::Cause>>, AllocError>
 where
@@ -238,7 +238,7 @@ where
         flag: &flag,
         stream,
     };
-    run_all(rt, alloc, &floor, gate, by_worker, works)
+    run_all(rt, alloc, &floor, watch, by_worker, works)
 }
 
 /// Runs a crew of new processes of a job, one thread for each worker, and posts what they commit.
@@ -251,15 +251,15 @@ where
 /// the piece is lost, and the run ends out of memory.
 ///
 /// Once `paced` is raised, a process whose lead is too long is held back until it has fallen to
-/// half: it makes one turn at most, and `gate` is not called for others. From then on, after each
+/// half: it makes one turn at most, and `watch` is not called for others. From then on, after each
 /// ring of `news`, the caller has to take all pieces, write and free all that is before the least
 /// of the clocks that it has, and count both by `take` and `keep` of the leads. It has to ring the
 /// bells if `keep` returns `true`. Otherwise the run may never return.
 ///
 /// Once the caller has raised `stop` and rung the bells, each worker ends before its next turn. The
-/// run is then reported cancelled, unless it is whole, out of memory or stopped by `gate`.
+/// run is then reported cancelled, unless it is whole, out of memory or stopped by `watch`.
 ///
-/// For any `gate`, any leads and any timing of the threads, each piece is what its process
+/// For any `watch`, any leads and any timing of the threads, each piece is what its process
 /// committed in that time. The run is reported whole exactly if every clock is at the end, and
 /// cancelled only with a token that `stop` was raised, which no worker can do.
 ///
@@ -271,14 +271,14 @@ pub fn run_streamed<
     N: OfJob + Send + Sync,
     J: PlannedJob,
     P: ProcessHandsOver<N> + Send,
-    G: Gate<P>,
+    G: Watch,
     R: Threads + Wait + Sync,
 >(
     rt: &R,
     alloc: Global,
     job: &J,
     crew: Crew<P, P::Work>,
-    gate: &G,
+    watch: &G,
     stream: Stream<'a, N>,
 ) -> Result<Report<'a, N, G::Cause>, AllocError>
 where
@@ -296,6 +296,6 @@ where
 {
     let count = crew.processes.len();
     let stop = stream.stop;
-    let all = run_job::<N, P, G, R>(rt, alloc, crew, gate, stream)?;
+    let all = run_job::<N, P, G, R>(rt, alloc, crew, watch, stream)?;
     report_of::<N, J, P, G::Cause>(alloc, job, count, all, stop)
 }

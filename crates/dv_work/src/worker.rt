@@ -8,9 +8,9 @@ ghost use Rattle.dv_work.specs.Seats.{HasEvents, HasToldAll, HasToldAtFirst, Hol
 ghost use Rattle.dv_work.specs.Seats.{EachKeepsNoneBack, KeepsNoneBack, KeepsNoneBackAt, NoneIsNew, OthersStay};
 
 use crate::bell::Bell;
-use crate::gate::Gate;
 use crate::post::{Pace, is_any_long, post_all};
 use crate::seat::{Floor, Seat};
+use crate::watch::Watch;
 use dv_core::{LogicalProcess, ProcessHandsOver};
 use dv_proc::Turned;
 use dv_written::OfJob;
@@ -26,7 +26,7 @@ pub enum Halt<C> {
     Stop,
     /// No memory.
     Memory,
-    /// The gate stopped it, for this cause.
+    /// The watch stopped it, for this cause.
     Cause(C),
 }
 
@@ -122,10 +122,10 @@ fn progress(turned: Turned, moved: bool, holds: bool) -> Turned
     }
 }
 
-// One turn of a process, if the gate lets it. A process that is held back waits.
-fn turn_if_near<N: OfJob, P: LogicalProcess, G: Gate<P>>(
+// Makes one turn of a process, unless it is held back or the watch stops the run.
+fn turn_if_near<N: OfJob, P: LogicalProcess, G: Watch>(
     floor: &Floor<'_, N>,
-    gate: &G,
+    watch: &G,
     worker: usize,
     seat: &mut Seat<P>,
     work: &mut P::Work,
@@ -139,14 +139,14 @@ fn turn_if_near<N: OfJob, P: LogicalProcess, G: Gate<P>>(
         return Ok(Turned::Waiting);
     }
     seat.account(floor);
-    if let Some(cause) = gate.before_turn(worker, seat.number, &seat.process) {
+    if let Some(cause) = watch.before_turn(worker, seat.number, seat.process.clock()) {
         return Err(Halt::Cause(cause));
     }
     let Ok(turned) = seat.turn(floor, work) else {
         seat.account(floor);
         return Err(Halt::Memory);
     };
-    gate.after_turn(worker, seat.number, &seat.process);
+    watch.after_turn(worker, seat.number, seat.process.clock());
     Ok(turned)
 }
 
@@ -159,13 +159,13 @@ fn nulls_are_due(tells: bool, runs_ahead: bool) -> bool
     tells || !runs_ahead
 }
 
-// Takes, makes one turn if the process is near enough and the gate lets it, and puts. Null messages are due where a packet came,
-// since who sent it may wait for an answer, and where the process did not move. One that runs ahead by itself tells its clock in the
-// rounds that tell.
-fn visit<N: OfJob, P: LogicalProcess, G: Gate<P>, R: Wait>(
+// Visits a process: it takes packets, makes one turn, and puts packets. Null messages are due in a
+// round that `tells`, if a packet came, since its sender may wait for an answer, and if the process
+// did not move.
+fn visit<N: OfJob, P: LogicalProcess, G: Watch, R: Wait>(
     rt: &R,
     floor: &Floor<'_, N>,
-    gate: &G,
+    watch: &G,
     worker: usize,
     tells: bool,
     seat: &mut Seat<P>,
@@ -190,17 +190,17 @@ fn visit<N: OfJob, P: LogicalProcess, G: Gate<P>, R: Wait>(
     if floor.stream.stop.is_raised() {
         return Err(Halt::Stop);
     }
-    let turned = turn_if_near(floor, gate, worker, seat, work)?;
+    let turned = turn_if_near(floor, watch, worker, seat, work)?;
     let runs_ahead = turned == Turned::Moved && !took;
     let put = put_all(rt, floor, seat, nulls_are_due(tells, runs_ahead));
     Ok(progress(turned, took || put, seat.holds_packets()))
 }
 
-// One visit of each process. In a round that tells, all null messages are due.
-fn round<N: OfJob, P: LogicalProcess, G: Gate<P>, R: Wait>(
+// Visits each process once. In a round that `tells`, all null messages are due.
+fn round<N: OfJob, P: LogicalProcess, G: Watch, R: Wait>(
     rt: &R,
     floor: &Floor<'_, N>,
-    gate: &G,
+    watch: &G,
     worker: usize,
     tells: bool,
     seats: &mut [Seat<P>],
@@ -218,7 +218,7 @@ fn round<N: OfJob, P: LogicalProcess, G: Gate<P>, R: Wait>(
     let mut all = Turned::Done;
     for i in 0..seats.len() {
         let seat = &mut seats[i];
-        match visit(rt, floor, gate, worker, tells, seat, work) {
+        match visit(rt, floor, watch, worker, tells, seat, work) {
             Ok(turned) => all = of_both(all, turned),
             Err(halt) => return Err(halt),
         }
@@ -312,10 +312,10 @@ fn wait_after<N: OfJob, P: ProcessHandsOver<N>, R: Wait>(
 }
 
 // Makes rounds until all are done, or the worker has to end.
-fn rounds<N: OfJob, P: ProcessHandsOver<N>, G: Gate<P>, R: Wait>(
+fn rounds<N: OfJob, P: ProcessHandsOver<N>, G: Watch, R: Wait>(
     rt: &R,
     floor: &Floor<'_, N>,
-    gate: &G,
+    watch: &G,
     worker: usize,
     bell: &Bell,
     seats: &mut [Seat<P>],
@@ -330,7 +330,7 @@ fn rounds<N: OfJob, P: ProcessHandsOver<N>, G: Gate<P>, R: Wait>(
     for _ in rt.forever() {
         let tells = pace.tells_in_next();
         let seen = bell.rings();
-        let turned = match round(rt, floor, gate, worker, tells, seats, work) {
+        let turned = match round(rt, floor, watch, worker, tells, seats, work) {
             Ok(turned) => turned,
             Err(halt) => return Some(halt),
         };
@@ -347,13 +347,13 @@ fn rounds<N: OfJob, P: ProcessHandsOver<N>, G: Gate<P>, R: Wait>(
     unreachable!()
 }
 
-/// Works until all its processes are done, or it has to end early. If it ends early, it raises the flag, unless the
-/// flag was the reason. What its processes committed is posted before it sleeps and where they are done. If it ends because
-/// they are done, all packets that they prepared were put.
-pub fn work_at<N: OfJob, P: ProcessHandsOver<N>, G: Gate<P>, R: Wait>(
+/// Runs a worker until all its processes are done, or it has to end early. If it ends early, it
+/// raises the flag of the workers, unless this flag was the reason. It posts before it sleeps and
+/// when its processes are done. Then all packets that they prepared were put.
+pub fn work_at<N: OfJob, P: ProcessHandsOver<N>, G: Watch, R: Wait>(
     rt: &R,
     floor: &Floor<'_, N>,
-    gate: &G,
+    watch: &G,
     worker: usize,
     mut seats: Vec<Seat<P>>,
     mut work: P::Work,
@@ -370,7 +370,7 @@ where
     let halt = rounds(
         rt,
         floor,
-        gate,
+        watch,
         worker,
         bell,
         seats.as_mut_slice(),
