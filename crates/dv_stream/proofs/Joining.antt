@@ -81,7 +81,8 @@ module _ {P : Type 0} (job : Job) (state : P → ProcessState) (handed : P → H
       (shown_at handed items p x at) clock_there
 
   -- with what it handed over to its clock
-  module _ (part : (state x).part ≡ part_before (owned job p) job.limit (whole job.flat) job.outside (rank job.limit (state x).position.clock))
+  module _ (part : (state x).part ≡ part_before (owned job p) job.limit (whole job.flat) job.outside
+      (rank job.limit (state x).position.clock))
       (within : IsWithin (share_of job p) (state x).position.clock) (others : List P) (same : map state others ≡ map state items)
       (now : map handed others ≡ set (map handed items) p (record (handed x) { past = (state x).part }))
       (after : List Time) (kept : after ≡ set clocks p (later (slice_index_or clocks p first_time) (state x).position.clock)) where

@@ -18,7 +18,8 @@ returns-in_err-ran-clause-err g c =
     let job = means c.args.world.now.job in
     let after = c.stream_process.new.world in
     let alone = c.requires.alone in
-    let some : 0 < (means after.job).processes = subst (λ j. 0 < (means j).processes) (sym c.in_ok-ended.ensures.job) (omega (arith, alone)) in
+    let some : 0 < (means after.job).processes
+    = subst (λ j. 0 < (means j).processes) (sym c.in_ok-ended.ensures.job) (omega (arith, alone)) in
     let w = c.in_ok-ended.written in
     let within : rank job.limit w.mark ≤ end_of job.limit job.horizon
     = subst (λ j. rank (means j).limit w.mark ≤ end_of (means j).limit (means j).horizon) c.in_ok-ended.ensures.job

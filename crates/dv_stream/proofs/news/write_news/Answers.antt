@@ -34,7 +34,8 @@ loop-preserved g c =
     record {
       tree = c.in_ok-written.ensures.tree ∙ c.loop.invariant.tree;
       written =
-          written_further job c.args.merger.now.lines c.a_trace_is_its_pieces.ensures.lines {a = contents c.args.writer.now} {b = old} {c = new}
+          written_further job c.args.merger.now.lines c.a_trace_is_its_pieces.ensures.lines {a = contents c.args.writer.now} {b = old}
+          {c = new}
           c.loop.written c.loop.invariant.written c.in_ok-written.written
           (subst (λ t. GoesOn job t old new c.loop.written c.in_ok-written.written) c.loop.invariant.tree c.in_ok-written.ensures.ok);
       within = c.in_ok-written.ensures.within;

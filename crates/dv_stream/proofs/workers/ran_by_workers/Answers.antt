@@ -33,7 +33,8 @@ returns-clause-run g c =
     = ap (λ (n : ℕ). let t : Time = record { tick = n + 1; micro = 0 } in t)
     (c.horizon.ensures.is ∙ ap (λ (j : Job). j.horizon) (sym c.requires.job)) in
     record {
-      some_clocks = subst (λ (ts : List Time). 0 < length ts) (sym told_is) (told_some job.limit times mark (omega (arith, some, count)) kept.of_run);
+      some_clocks = subst (λ (ts : List Time). 0 < length ts) (sym told_is)
+          (told_some job.limit times mark (omega (arith, some, count)) kept.of_run);
       count = ap length told_is ∙ told_count times mark ∙ count;
       least = told_least job.limit times mark (omega (arith, some, count)) kept.of_run ∙ ap (least_rank job.limit) (sym told_is);
       within =
