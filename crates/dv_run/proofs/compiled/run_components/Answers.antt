@@ -10,4 +10,5 @@ returns-in_err-plan-clause-err g c =
 
 pub returns-clause-enough : goal.returns-clause-enough
 returns-clause-enough g c =
-    enough_of c.args.job.now c.args.bounds.capacity c.args.bounds.rounds c.in_ok-plan.ensures.run.ends c.stream_plan.result c.stream_plan.ensures.run
+    enough_of c.args.job.now c.args.bounds.capacity c.args.bounds.rounds c.in_ok-plan.ensures.run.ends c.stream_plan.result
+    c.stream_plan.ensures.run
