@@ -14,6 +14,8 @@
 
 /// Runs the compiled model of a text in rounds.
 pub mod compiled;
+/// Makes the components of a text.
+mod components;
 /// Laws of the links of a text.
 pub mod link_laws;
 /// The links of a text.

@@ -11,9 +11,10 @@ ghost use Rattle.law_sound.specs.Jobs.{responses_of};
 ghost use Rattle.dv_syntax.specs.Trees.{ModelTree, file_of};
 ghost use Rattle.dv_tree.specs.Instances.{instances};
 
+use crate::components::lone_components;
 use dv_bag::Response;
 use dv_check::laws::checked_files;
-use dv_coded::{Bench, Components, components_of};
+use dv_coded::Components;
 use dv_gen::laws::texts_are_compilable;
 use dv_partition::Groups;
 use dv_plan::responses::responses;
@@ -56,11 +57,10 @@ fn responses_of(alloc: Global, tree: &Tree) -> Result<Vec<Response>, AllocError>
     ensures { IfOk result (λ each. map ticks_of each.items
         ≡ responses_of (instances (file_of tree.now.file))) }
 {
-    let mut bench = Bench::new(alloc);
     let Components {
         models: _,
         members: _,
         responses,
-    } = components_of(&mut bench, tree, LIMIT)?;
+    } = lone_components(alloc, tree, LIMIT)?;
     Ok(responses)
 }

@@ -14,10 +14,11 @@ ghost use Rattle.dv_time.specs.Time.{end_of};
 ghost use Rattle.dv_stream.specs.declared.ran.RunEnded.TheVariants.{Cut, Whole};
 ghost use Rattle.dv_stream.specs.declared.ran.Why.TheVariants.{Rounds, Stopped};
 
+use crate::components::lone_components;
 use crate::plan::plan_of;
 use crate::text_job::TextJob;
 use dv_bag::Bags;
-use dv_coded::{Bench, Components, components_of};
+use dv_coded::{Bench, Components};
 use dv_devs::laws::parts::parts_are_of_the_trace;
 use dv_flat::LinkLists;
 use dv_gen::laws::texts_are_compilable;
@@ -92,8 +93,7 @@ pub fn compiled_workers<R: Threads + Wait + Sync, G: Watch, W: Write>(
     a_trace_is_its_instants::<Bags>();
     what_leaves_a_flat_model_is_linear();
     let _processes = job.groups.processes();
-    let mut bench = Bench::new(alloc);
-    let components = components_of(&mut bench, job.tree, job.limit)?;
+    let components = lone_components(alloc, job.tree, job.limit)?;
     let works = benches_of(alloc, bounds.workers)?;
     let workers = Workers {
         works,

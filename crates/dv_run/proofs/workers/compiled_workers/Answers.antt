@@ -7,21 +7,15 @@ use Rattle.dv_run.proofs.Merging.{Leaves, merges}
 use Rattle.dv_run.proofs.Traces.{Laws, is_cut_short, is_printed, nothing_printed, cut_before_end}
 use Rattle.dv_run.proofs.workers.compiled_workers.Goals as goal
 
-pub components_of-requires : goal.components_of-requires
-components_of-requires g c = record {
+pub lone_components-requires : goal.lone_components-requires
+lone_components-requires g c = record {
   compilable =
       c.texts_are_compilable.ensures c.args.job.now.tree.now.names (file_of c.args.job.now.tree.now.file) c.requires.text
       c.requires.accepted;
 }
 
 pub work_components-requires-clause-components : goal.work_components-requires-clause-components
-work_components-requires-clause-components g c κs _ = record {
-  members = c.in_ok-components.ensures.members;
-  rise = c.in_ok-components.ensures.rise;
-  among = c.in_ok-components.ensures.among;
-  responses = c.in_ok-components.ensures.responses;
-  short = c.in_ok-components.ensures.short;
-}
+work_components-requires-clause-components g c κs _ = c.in_ok-components.ensures
 
 pub returns-in_err-components-clause-err : goal.returns-in_err-components-clause-err
 returns-in_err-components-clause-err g c =
