@@ -7,7 +7,8 @@ use Rattle.dv_plan.proofs.worlds.world_of.Goals as goal
 
 pub new-requires : goal.new-requires
 new-requires g c =
-    made_for (view_by g.A.Atomic.behaviour g.R.Record.told) (settled_by g.A.Atomic.behaviour g.R.Record.settled) c.args.job c.args.plan c.requires.run
+    made_for (view_by g.A.Atomic.behaviour g.R.Record.told) (settled_by g.A.Atomic.behaviour g.R.Record.settled) c.args.job c.args.plan
+    c.requires.run
     c.in_ok-processes.processes.items c.in_ok-processes.ensures.begun
 
 pub returns-clause-handed : goal.returns-clause-handed
