@@ -15,7 +15,7 @@ pub(crate) fn insert(words: &mut [u64], number: usize)
     words[number / 64] |= 1 << (number % 64);
 }
 
-/// Takes a number out of a set.
+/// Removes a number from a set.
 #[inline]
 pub(crate) fn remove(words: &mut [u64], number: usize)
     requires { number < 64 * length words.old }
@@ -26,7 +26,7 @@ pub(crate) fn remove(words: &mut [u64], number: usize)
     words[number / 64] &= !(1 << (number % 64));
 }
 
-/// The least number of a set from one on and below an end, or else the end.
+/// The least number of a set in `from..end`, or `end` if it has none there.
 #[inline]
 pub(crate) fn next(words: &[u64], from: usize, end: usize) -> usize
     requires within { end ≤ 64 * length words.now }
@@ -48,7 +48,7 @@ pub(crate) fn next(words: &[u64], from: usize, end: usize) -> usize
     end
 }
 
-/// A word without a number.
+/// The word with the bit of a number cleared.
 #[inline]
 fn without(word: u64, number: usize) -> u64
     requires { number < 64 }
@@ -59,7 +59,7 @@ fn without(word: u64, number: usize) -> u64
     word & !(1 << number)
 }
 
-/// Takes the least number out of a word that is not 0.
+/// Removes the least number from a word that is not 0, and returns it.
 #[inline]
 pub(crate) fn take_least(word: &mut u64) -> usize
     requires { 0 < word.old }

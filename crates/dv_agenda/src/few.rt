@@ -1,4 +1,4 @@
-//! An agenda of few components: each is looked at.
+//! An agenda of few components looks at each of them.
 
 ghost use Rattle.std.specs.Prelude.{◌≡◌, ◌+◌, ◌^◌, ◌<◌, ◌≤◌, ◌++◌, OnErr, OnOk, length};
 ghost use Rattle.std.specs.Vec.{vec_capacity, vec_len};
@@ -8,7 +8,7 @@ use crate::wait::{is_due, push_due};
 use dv_time::{Time, earliest};
 use std::alloc::AllocError;
 
-/// So many components at most are few: it takes less time to look at each than to keep them in slots.
+/// Up to this number of components, a look at each takes less time than a wheel.
 pub(crate) const FEW: usize = 16;
 
 /// The first time that a component waits for.

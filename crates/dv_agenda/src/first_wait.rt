@@ -8,17 +8,17 @@ ghost use Rattle.dv_agenda.specs.Waits.{first_of};
 use crate::wait::is_same;
 use dv_time::{Time, earliest};
 
-/// The first wait, or what it was when it was last known.
+/// The first wait, or the last one that was known.
 #[derive(Clone, Copy)]
 pub(crate) struct FirstWait {
     pub(crate) wait: Option<Time>,
     pub(crate) known: bool,
-    /// How many of the components that were due last wait still as they did then. The next first wait is looked for when none is left,
-    /// and not each time that one of them has another wait.
+    /// How many of the components that were due last have not changed their waits since. The next
+    /// first wait is looked for when none is left, and not at each change.
     pub(crate) left: usize,
 }
 
-/// The first wait, when it has been found.
+/// A first wait that has just been found.
 #[inline]
 pub(crate) fn found(wait: Option<Time>) -> FirstWait
     ensures { (ws : List (Option Time)) → wait ≡ first_of ws → IsKnown result ws }
@@ -30,7 +30,7 @@ pub(crate) fn found(wait: Option<Time>) -> FirstWait
     }
 }
 
-/// Keeps what is known when a component waits for another time than before.
+/// Updates what is known when the wait of a component changes from `before` to `wait`.
 #[inline]
 pub(crate) fn change(first: &mut FirstWait, before: Option<Time>, wait: Option<Time>)
     ensures { (ws : List (Option Time)) (index : ℕ) → index < length ws

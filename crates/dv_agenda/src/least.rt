@@ -8,7 +8,7 @@ ghost use Rattle.dv_agenda.specs.Wheel.{IsHeld, IsLow, slot};
 use crate::wait::is_same;
 use dv_time::{Time, earliest};
 
-/// The least wait of the components in a slot, or that it is to be looked for.
+/// The least wait of the components in a slot, if it is known.
 #[derive(Clone, Copy)]
 pub(crate) enum Least {
     Known(Option<Time>),
@@ -16,7 +16,7 @@ pub(crate) enum Least {
 }
 
 impl Least {
-    /// Keeps what is known of a slot when one more component waits for a time of it.
+    /// Updates the least wait of a slot when a component with this wait is added.
     #[inline]
     pub(crate) fn enter(&mut self, time: Time)
         ensures here { IsLow self.new (Some time) }
@@ -30,7 +30,7 @@ impl Least {
         }
     }
 
-    /// Keeps what is known of a slot when a component that waited for a time of it has another wait.
+    /// Updates the least wait of a slot when a component with this wait is removed.
     #[inline]
     pub(crate) fn leave(&mut self, time: Time)
         ensures low { (w : Option Time) → IsLow self.old w → IsLow self.new w }

@@ -1,4 +1,4 @@
-//! A set of numbers, of which the next is found fast even where there are few.
+//! A set of numbers whose members are found fast, also if there are few of them.
 
 ghost use Rattle.std.specs.Prelude.{◌≡◌, ◌≢◌, ℕ, ◌+◌, ◌*◌, ◌/◌, ◌^◌, ◌<◌, ◌≤◌, List, length, replicate, slice_index_or, IfOk};
 ghost use Rattle.dv_agenda.specs.Sets.{has};
@@ -7,11 +7,11 @@ use crate::bits;
 use std::alloc::{AllocError, Global};
 use std::marker::Model;
 
-/// A set of numbers as the bits of words.
+/// A set of numbers, stored as the bits of words.
 #[derive(Drop)]
 pub(crate) struct Set {
     words: Vec<u64>,
-    /// The words that are not 0.
+    /// The set of the indices of the words that are not 0.
     heads: Vec<u64>,
 }
 
@@ -27,11 +27,11 @@ impl Model for Set {
 }
 
 impl Set {
-    /// An empty set with room for the numbers of so many words.
+    /// An empty set for numbers below `64 * words`.
     ///
     /// # Errors
     ///
-    /// No memory for the words, and for one more for each 64 of them.
+    /// No memory for the words and one more for each 64 of them.
     pub(crate) fn new(alloc: Global, words: usize) -> Result<Set, AllocError>
         requires { words ≤ 2 ^ 44 }
         ensures { IfOk result (λ s. s ≡ replicate words 0) }
@@ -55,7 +55,7 @@ impl Set {
         bits::insert(&mut self.heads, number / 64);
     }
 
-    /// Takes a number out.
+    /// Removes a number.
     #[inline]
     pub(crate) fn remove(&mut self, number: usize)
         requires { number < 64 * length self.old }
@@ -68,7 +68,7 @@ impl Set {
         }
     }
 
-    /// The least number from one on and below an end, or else the end.
+    /// The least number in `from..end`, or `end` if there is none.
     #[inline]
     pub(crate) fn next(&self, from: usize, end: usize) -> usize
         requires within { end ≤ 64 * length self.now }
@@ -90,7 +90,7 @@ impl Set {
         end
     }
 
-    /// The least word that has a number, from one on and below an end, or else the end.
+    /// The first word in `from..end` that is not 0, or `end` if there is none.
     #[inline]
     pub(crate) fn next_word(&self, from: usize, end: usize) -> usize
         requires within { end ≤ length self.now }
@@ -102,7 +102,7 @@ impl Set {
         bits::next(&self.heads, from, end)
     }
 
-    /// The numbers of a word.
+    /// A word: bit `i` says whether `64 * at + i` is in the set.
     #[inline]
     pub(crate) fn word(&self, at: usize) -> u64
         requires { at < length self.now }
@@ -111,7 +111,7 @@ impl Set {
         self.words[at]
     }
 
-    /// Takes the numbers of a word out.
+    /// Removes all numbers of a word, and returns the word.
     #[inline]
     pub(crate) fn take_word(&mut self, at: usize) -> u64
         requires { at < length self.old }

@@ -3,7 +3,11 @@
 ghost use Rattle.std.specs.Prelude.{◌≡◌, ◌<◌};
 ghost use Rattle.dv_agenda.specs.Wheel.{slot};
 
-/// The slot of a tick that is not before the present one: its first digit in base 64 that differs.
+/// The slot of a tick that is not before the present tick `now`.
+///
+/// A slot is `64 * level + digit`, where the level is the place of the highest digit in base 64
+/// that differs from `now`. Level 0 has the ticks that differ in the last digit alone, and `now`
+/// itself. All ticks that differ above the tenth digit have slot 640.
 #[inline]
 pub(crate) fn slot_of(tick: u64, now: u64) -> usize
     ensures slot { result ≡ slot tick now }

@@ -15,7 +15,7 @@ pub(crate) fn is_same(one: Option<Time>, other: Option<Time>) -> bool
     one == other
 }
 
-/// What a component waits for. One that is not there waits for nothing.
+/// The wait of a component. It is none for an index past the end.
 #[inline]
 pub(crate) fn wait_at(waits: &[Option<Time>], index: usize) -> Option<Time>
     ensures { result ≡ slice_index_or waits.now index None }
@@ -39,7 +39,7 @@ pub(crate) fn is_due(waits: &[Option<Time>], index: usize, time: Time) -> bool
     }
 }
 
-/// Adds a component to a list, if it waits for a time.
+/// Adds a component to a list, if it waits for the time.
 #[inline]
 pub(crate) fn push_due(
     waits: &[Option<Time>],

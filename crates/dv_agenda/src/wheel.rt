@@ -1,4 +1,4 @@
-//! A wheel of times: each component stands in the set of the slot that its wait has at the present tick.
+//! A wheel of times: each component is in the slot of its wait.
 
 ghost use Rattle.std.specs.Prelude.{◌≡◌, ◌≢◌, ℕ, None, Some, false, ◌+◌, ◌*◌, ◌^◌, ◌<◌, ◌≤◌, ◌++◌, IfOk, IsTrue, Option, OnErr, OnOk, List};
 ghost use Rattle.std.specs.Prelude.{length, replicate, slice_index_or, slice_set, take};
@@ -20,22 +20,25 @@ use crate::wait::{push_due, wait_at};
 use dv_time::{Time, earliest};
 use std::alloc::{AllocError, Global};
 
-/// What components wait for, by slots: 64 for each digit in base 64 of a tick, by the first digit that differs from the present tick's.
+/// The components by the slots of their waits.
+///
+/// There are 64 slots for each of the ten low digits of a tick in base 64, and one for all ticks
+/// that differ from the present one above these (see `slot_of`).
 #[derive(Drop)]
 pub(crate) struct Wheel {
-    /// The present tick: no component waits for an earlier one.
+    /// The present tick. No component waits for an earlier one.
     pub(crate) present: u64,
-    /// The slots that may have members.
+    /// The slots that may have a component.
     used: Set,
-    /// The components in each slot. A component's number is `slot * span + index`.
+    /// The components of each slot, with the numbers `slot * span + index`.
     members: Set,
     /// The least wait in each slot.
     leasts: Vec<Least>,
-    /// How many components a slot has room for.
+    /// How many numbers a slot has: a multiple of 64 that is at least the number of components.
     span: usize,
 }
 
-/// The least of a wait and of those of the components of a word.
+/// The earliest of a wait and the waits of the components of a word.
 #[inline]
 fn least_of_word(
     waits: &[Option<Time>],
@@ -88,7 +91,7 @@ fn gather_word(
     Ok(())
 }
 
-/// Whether a wait has a slot.
+/// Whether the time of a wait has this slot.
 #[inline]
 fn in_slot(wait: Option<Time>, slot: usize, now: u64) -> bool
     ensures { result ≡ in_slot now slot wait }
@@ -99,7 +102,7 @@ fn in_slot(wait: Option<Time>, slot: usize, now: u64) -> bool
     }
 }
 
-/// The present tick, or the tick of a wait that ends before it.
+/// The earlier one of the present tick and the tick of a wait.
 #[inline]
 fn earlier(now: u64, wait: Option<Time>) -> u64
     ensures low { result ≤ now }
@@ -111,7 +114,7 @@ fn earlier(now: u64, wait: Option<Time>) -> u64
     }
 }
 
-/// Whether a wait does not end before a tick.
+/// Whether a wait does not end before a tick. A wait for no time does not.
 #[inline]
 fn is_from(wait: Option<Time>, tick: u64) -> bool
     ensures { IsTrue result → IsFrom tick wait }
@@ -123,11 +126,11 @@ fn is_from(wait: Option<Time>, tick: u64) -> bool
 }
 
 impl Wheel {
-    /// A wheel for so many components, of which none waits for a time.
+    /// A wheel for a number of components. None of them waits for a time yet.
     ///
     /// # Errors
     ///
-    /// No memory for 641 bits a component, and for 641 waits.
+    /// No memory for 641 bits a component and 641 waits.
     pub(crate) fn new(alloc: Global, components: u32) -> Result<Self, AllocError>
         ensures { IfOk result (λ wheel. IsKept (replicate components None) wheel) }
     {
@@ -145,7 +148,7 @@ impl Wheel {
         })
     }
 
-    /// Puts a component into the set of the slot of its wait.
+    /// Puts a component into the slot of its wait.
     #[inline(always)]
     fn put(&mut self, index: usize, wait: Option<Time>)
         requires room { HasRoom self.old }
@@ -164,7 +167,7 @@ impl Wheel {
         }
     }
 
-    /// Puts each component into the set of the slot of its wait.
+    /// Puts all components into the slots of their waits.
     fn put_all(&mut self, waits: &[Option<Time>])
         requires room { HasRoom self.old }
         requires fits { length waits.now ≤ self.old.span }
@@ -180,7 +183,7 @@ impl Wheel {
         }
     }
 
-    /// Takes each component out of the set of the slot of its wait, and the slot out of use.
+    /// Removes all components from the slots of their waits.
     fn take_all(&mut self, waits: &[Option<Time>])
         requires room { HasRoom self.old }
         requires fits { length waits.now ≤ self.old.span }
@@ -197,7 +200,8 @@ impl Wheel {
         }
     }
 
-    /// Puts all components into the sets of their slots anew. Where a wait ends before the present tick, its tick is the present one then.
+    /// Puts all components into their slots again. If a wait is before the present tick, the
+    /// present tick goes back to it.
     fn put_anew(&mut self, waits: &[Option<Time>], wait: Option<Time>)
         requires room { HasRoom self.old }
         requires fits { length waits.now ≤ self.old.span }
@@ -214,7 +218,8 @@ impl Wheel {
         self.put_all(waits);
     }
 
-    /// Whether a slot has no component. The word where a component would stand is looked at first, since it mostly has others.
+    /// Whether a slot has no component. The word of a component is looked at first, since it mostly
+    /// has others.
     #[inline]
     fn is_empty(&self, slot: usize, index: usize) -> bool
         requires room { HasRoom self.now }
@@ -231,7 +236,7 @@ impl Wheel {
         self.members.next_word(base, end) == end
     }
 
-    /// Takes a component out of the set of the slot of its wait, and the slot out of use where no component is left in it.
+    /// Removes a component from the slot of its wait. A slot without components is not in use.
     #[inline]
     fn leave(&mut self, index: usize, wait: Option<Time>)
         requires room { HasRoom self.old }
@@ -257,7 +262,8 @@ impl Wheel {
         }
     }
 
-    /// Lets a component wait for another time, or for none. Where the time is before the present tick, its tick is the present one then.
+    /// Changes the wait of a component. If it is before the present tick, the present tick goes
+    /// back to it.
     #[inline]
     pub(crate) fn replace(&mut self, waits: &mut [Option<Time>], index: usize, wait: Option<Time>)
         requires kept { IsKept waits.old self.old }
@@ -274,7 +280,8 @@ impl Wheel {
         self.put_anew(waits, wait);
     }
 
-    /// The least wait of the components in a slot, if there is one.
+    /// The least wait of the components in a slot. Old members may be among them, so a wait of
+    /// another slot may be the answer.
     #[inline]
     fn least_in(&self, waits: &[Option<Time>], slot: usize) -> Option<Time>
         requires room { HasRoom self.now }
@@ -296,7 +303,7 @@ impl Wheel {
         least
     }
 
-    /// The least wait of a slot, which is looked for where it is not known.
+    /// The least wait of a slot, found by a walk through it if it is not known.
     #[inline]
     fn least_of(&self, waits: &[Option<Time>], at: usize) -> Option<Time>
         requires kept { IsKept waits.now self.now }
@@ -327,7 +334,7 @@ impl Wheel {
         None
     }
 
-    /// The first time that a component waits for, where no slot has to be looked through for it.
+    /// The first time that a component waits for, if it can be told without a walk through a slot.
     #[inline]
     pub(crate) fn at_hand(&self) -> Least
         requires { HasRoom self.now }
@@ -347,7 +354,7 @@ impl Wheel {
         }
     }
 
-    /// Keeps the first time that a component waits for as the least wait of its slot.
+    /// Keeps the first wait of all as the least wait of its slot.
     #[inline]
     pub(crate) fn keep(&mut self, first: Option<Time>)
         requires { HasRoom self.old }
@@ -386,7 +393,7 @@ impl Wheel {
         Ok(())
     }
 
-    /// Puts each component of a word into the set of the slot of its wait.
+    /// Puts the components of a word into the slots of their waits.
     #[inline]
     fn spread_word(&mut self, waits: &[Option<Time>], word: u64, base: usize)
         requires room { HasRoom self.old }
@@ -405,7 +412,8 @@ impl Wheel {
         }
     }
 
-    /// Lets time go on to a tick, and puts each component in the slot that the tick had into the set of its slot then.
+    /// Moves the present tick on to a tick, and the components in the slot of that tick to the
+    /// slots that they have then.
     fn spread(&mut self, waits: &[Option<Time>], tick: u64)
         requires kept { IsKept waits.now self.old }
         requires on { self.old.present ≤ tick }
@@ -427,7 +435,7 @@ impl Wheel {
         }
     }
 
-    /// Lets time go on to a tick before which no component waits for one.
+    /// Moves the present tick on to a tick before which no component waits.
     pub(crate) fn go_on(&mut self, waits: &[Option<Time>], tick: u64)
         requires kept { IsKept waits.now self.old }
         requires on { self.old.present ≤ tick }
