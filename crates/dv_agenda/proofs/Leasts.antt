@@ -118,3 +118,19 @@ none_in ws now s (suc n) (suc q) = none_in ws now s n q
 -- no slot is known to have a wait
 pub held_empty : (ws : List (Option Time)) (now n s : ℕ) → IsHeld ws now s (least_at (replicate n (Known None)) s)
 held_empty ws now n s = none_in ws now s n s
+
+-- what is known of a slot is forgotten
+pub low_unknown : (leasts : List Least) (s q : ℕ) (w : Option Time) → s < length leasts → IsLow (least_at leasts q) w
+    → IsLow (least_at (set leasts s Unknown) q) w
+low_unknown leasts s q w lt h = elim (cases_eq q s) [
+  | inl d ↦ subst (λ (k : Least). IsLow k w) (sym (written leasts s q Unknown lt d)) tt
+  | inr ne ↦ subst (λ (k : Least). IsLow k w) (sym (elsewhere leasts s q Unknown ne)) h
+]
+
+-- nothing is known of a slot but that no wait is
+pub held_closed : (leasts : List Least) (ws : List (Option Time)) (now at : ℕ) → at < length leasts
+    → ((q : ℕ) → IsHeld ws now q (least_at leasts q)) → (s : ℕ) → IsHeld ws now s (least_at (set leasts at (Known None)) s)
+held_closed leasts ws now at lt h s = elim (cases_eq s at) [
+  | inl d ↦ subst (IsHeld ws now s) (sym (written leasts at s (Known None) lt d)) tt
+  | inr ne ↦ subst (IsHeld ws now s) (sym (elsewhere leasts at s (Known None) ne)) (h s)
+]

@@ -253,12 +253,15 @@ has_word words at j lt =
     ∙ ap (λ (i : ℕ). bit_at (get_or words i 0) ((64 * at + j) % 64)) d
     ∙ ap (bit_at (get_or words at 0)) m
 
--- a word is written as 0
-pub others_nil : (words : List ℕ) (at p : ℕ) → p / 64 ≢ at → has (set words at 0) p ≡ has words p
-others_nil words at p ne =
-    has_is (set words at 0) p
-    ∙ ap (λ (y : ℕ). bit_at y (p % 64)) (get_or-set_other words at (p / 64) 0 0 ne)
+-- a word is written
+pub others_written : (words : List ℕ) (at x p : ℕ) → p / 64 ≢ at → has (set words at x) p ≡ has words p
+others_written words at x p ne =
+    has_is (set words at x) p
+    ∙ ap (λ (y : ℕ). bit_at y (p % 64)) (get_or-set_other words at (p / 64) x 0 ne)
     ∙ sym (has_is words p)
+
+pub others_nil : (words : List ℕ) (at p : ℕ) → p / 64 ≢ at → has (set words at 0) p ≡ has words p
+others_nil words at p ne = others_written words at 0 p ne
 
 pub nil_there : (words : List ℕ) (at p : ℕ) → at < length words → p / 64 ≡ at → has (set words at 0) p ≡ 0
 nil_there words at p lt e =
@@ -282,5 +285,22 @@ headed_taken heads heads2 words at h lt size others =
       headed = λ p e. elim (cases_eq (p / 64) at) [
         | inl d ↦ let zero : has (set words at 0) p ≡ 0 = nil_there words at p lt d in absurd (omega arith)
         | inr ne ↦ others (p / 64) ne ∙ h.headed p (sym (others_nil words at p ne) ∙ e)
+      ];
+    }
+
+pub headed_written : (heads heads2 words : List ℕ) (at x : ℕ) → IsHeaded heads words → length heads2 ≡ length heads
+    → has heads2 at ≡ 1 → ((q : ℕ) → q ≢ at → has heads2 q ≡ has heads q) → IsHeaded heads2 (set words at x)
+headed_written heads heads2 words at x h size there others =
+    let same : length (set words at x) ≡ length words = length-set words at x in
+    let room : length words ≤ 64 * length heads = h.room in
+    let few : length words ≤ 2 ^ 50 = h.few in
+    let heads_few : length heads ≤ 2 ^ 50 = h.heads_few in
+    record {
+      room = omega arith;
+      few = omega arith;
+      heads_few = omega arith;
+      headed = λ p e. elim (cases_eq (p / 64) at) [
+        | inl d ↦ ap (has heads2) d ∙ there
+        | inr ne ↦ others (p / 64) ne ∙ h.headed p (sym (others_written words at x p ne) ∙ e)
       ];
     }

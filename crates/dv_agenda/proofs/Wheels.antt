@@ -56,7 +56,7 @@ past ws wheel p t h lt = past_by wheel.present t (get_or ws p None) (h.from p) l
 pub tick_from : (now : ℕ) (w : Option Time) (t : Time) → w ≡ Some t → IsFrom now w → now ≤ t.tick
 tick_from now w t e h = subst (IsFrom now) e h
 
-from_at : (ws : List (Option Time)) (now p : ℕ) (t : Time) → AreFrom ws now → get_or ws p None ≡ Some t → now ≤ t.tick
+pub from_at : (ws : List (Option Time)) (now p : ℕ) (t : Time) → AreFrom ws now → get_or ws p None ≡ Some t → now ≤ t.tick
 from_at ws now p t h e = tick_from now (get_or ws p None) t e (h p)
 
 pub in_at : (ws : List (Option Time)) (wheel : Wheel) (p : ℕ) (t : Time) → IsKept ws wheel → get_or ws p None ≡ Some t
@@ -69,7 +69,7 @@ within [] p t e = absurd (cc)
 within (w ∷ ws) zero t e = omega arith
 within (w ∷ ws) (suc p) t e = let h : p < length ws = within ws p t e in omega arith
 
-later_by : (tick : ℕ) (f w : Option Time) → IsFrom tick f → earliest f w ≡ f → IsFrom tick w
+pub later_by : (tick : ℕ) (f w : Option Time) → IsFrom tick f → earliest f w ≡ f → IsFrom tick w
 later_by tick f None h e = tt
 later_by tick None (Some u) h e = absurd (cc)
 later_by tick (Some f) (Some u) h e = elim (cases_lt u.tick f.tick) [
@@ -346,7 +346,7 @@ moved_on ws before after span s at then p t whole low high e lt is now_is wide r
       ]
     ]
 
-all_by : (wheel : Wheel) (p : ℕ) (w : Option Time) → ((t : Time) → w ≡ Some t → IsIn wheel p (Some t)) → IsIn wheel p w
+pub all_by : (wheel : Wheel) (p : ℕ) (w : Option Time) → ((t : Time) → w ≡ Some t → IsIn wheel p (Some t)) → IsIn wheel p w
 all_by wheel p None h = tt
 all_by wheel p (Some t) h = h t refl
 
@@ -456,52 +456,6 @@ left_by before after s index now_is wide l removed rest p (Some t) lp ne h =
           absurd (omega arith)
     ]
 
--- no wait ends before the first, so that it is low in its slot
-first_low : (ws : List (Option Time)) (p : ℕ) (t u : Time) → Some t ≡ first_of ws → get_or ws p None ≡ Some u
-    → IsLow (Known (Some t)) (Some u)
-first_low ws p t u first e =
-    ap (λ (f : Option Time). earliest f (Some u)) first ∙ ap (earliest (first_of ws)) (sym e) ∙ first_least ws p ∙ sym first
-
--- the first wait is the least of its slot
-pub kept_first : (before after : Wheel) (s : ℕ) (f : Option Time) (t : Time) → f ≡ Some t → s ≡ slot t.tick before.present
-    → s < length before.leasts.items → after.present ≡ before.present → after.span ≡ before.span → after.used ≡ before.used
-    → after.members ≡ before.members → after.leasts.items ≡ set before.leasts.items s (Known (Some t))
-    → (ws : List (Option Time)) → f ≡ first_of ws → IsKept ws before → IsKept ws after
-kept_first before after s f t some is lt now_is wide used members leasts ws least_of_all h =
-    let first : Some t ≡ first_of ws = sym some ∙ least_of_all in
-    let l : Least = Known (Some t) in
-    let now : ℕ = before.present in
-    let least : (q : ℕ) → least_at after.leasts.items q ≡ least_at (set before.leasts.items s l) q =
-    λ q. ap (λ (ls : List Least). least_at ls q) leasts in
-    let fits : length ws ≤ before.span = h.fits in
-    record {
-      room = room_after before after h.room wide (ap length used) (ap length members)
-          (ap length leasts ∙ length-set before.leasts.items s l);
-      fits = omega arith;
-      from = subst (AreFrom ws) (sym now_is) h.from;
-      there = λ p. all_by after p (get_or ws p None) (λ u e.
-          let here = in_at ws before p u h e in
-          let q : ℕ = slot u.tick before.present in
-          let same : slot u.tick after.present ≡ slot u.tick before.present = ap (slot u.tick) now_is in
-          let low : IsLow (least_at (set before.leasts.items s l) q) (Some u) = elim (cases_eq q s) [
-            | inl d ↦ subst (λ (k : Least). IsLow k (Some u)) (sym (written before.leasts.items s q l lt d)) (first_low ws p t u first e)
-            | inr ne ↦ subst (λ (k : Least). IsLow k (Some u)) (sym (elsewhere before.leasts.items s q l ne)) here.2
-          ] in (
-            ap (has after.used) same ∙ ap (λ (ns : List ℕ). has ns q) used ∙ here.0,
-            ap (has after.members) (same_number before after u.tick p now_is wide)
-                ∙ ap (λ (ns : List ℕ). has ns (q * before.span + p)) members ∙ here.1,
-            subst (λ (k : Least). IsLow k (Some u)) (sym (ap (least_at after.leasts.items) same ∙ least q)) low,
-          ));
-      held = λ q.
-          subst (λ (n : ℕ). IsHeld ws n q (least_at after.leasts.items q)) (sym now_is)
-          (subst (IsHeld ws now q) (sym (least q)) (elim (cases_eq q s) [
-            | inl d ↦
-                subst (IsHeld ws now q) (sym (written before.leasts.items s q l lt d))
-                (sym is ∙ sym d, first_there ws t (sym first))
-            | inr ne ↦ subst (IsHeld ws now q) (sym (elsewhere before.leasts.items s q l ne)) (h.held q)
-          ]));
-    }
-
 of_slot_above : (ws : List (Option Time)) (now s : ℕ) (w : Option Time) → IsOfSlot ws now s w
     → earliest (first_of ws) w ≡ first_of ws
 of_slot_above ws now s None h = earliest-none (first_of ws)
@@ -609,3 +563,65 @@ kept_empty wheel n room fits now_is leasts =
       there = λ p. subst (IsIn wheel p) (sym (nothing_there n p)) tt;
       held = λ s. subst (λ (ls : List Least). IsHeld ws wheel.present s (least_at ls s)) (sym leasts) (held_empty ws wheel.present 641 s);
     }
+
+-- where the first wait is not before the present tick, and all are put into the sets of their slots
+pub kept_all : (ws : List (Option Time)) (wheel : Wheel) (w : Option Time) → w ≡ first_of ws → HasRoom wheel → length ws ≤ wheel.span
+    → IsFrom wheel.present w → AreIn ws wheel → AreHeld ws wheel → IsKept ws wheel
+kept_all ws wheel w first room fits from there held = record {
+  room = room;
+  fits = fits;
+  from = all_from ws wheel.present w first from;
+  there = there;
+  held = held;
+}
+
+-- a slot without components is taken out of use
+pub closed_by : (before after : Wheel) (s : ℕ) → after.present ≡ before.present → after.span ≡ before.span
+    → after.members ≡ before.members
+    → ((q : ℕ) → q ≢ s → has before.used q ≡ 1 → has after.used q ≡ 1)
+    → ((q : ℕ) → q ≢ s → least_at after.leasts.items q ≡ least_at before.leasts.items q)
+    → ((i : ℕ) → i < before.span → has before.members (s * before.span + i) ≡ 0)
+    → (p : ℕ) (w : Option Time) → p < before.span → IsIn before p w → IsIn after p w
+closed_by before after s now_is wide members used leasts none p None lt h = tt
+closed_by before after s now_is wide members used leasts none p (Some t) lt h =
+    let q : ℕ = slot t.tick before.present in
+    let same : slot t.tick after.present ≡ slot t.tick before.present = ap (slot t.tick) now_is in
+    elim (cases_eq (slot t.tick before.present) s) [
+      | inl d ↦
+          let one : has before.members (slot t.tick before.present * before.span + p) ≡ 1 = h.1 in
+          let nil : has before.members (slot t.tick before.present * before.span + p) ≡ 0 =
+          ap (λ (x : ℕ). has before.members (x * before.span + p)) d ∙ none p lt in
+          absurd (omega arith)
+      | inr ne ↦ (
+        ap (has after.used) same ∙ used q ne h.0,
+        ap (has after.members) (same_number before after t.tick p now_is wide)
+            ∙ ap (λ (ns : List ℕ). has ns (q * before.span + p)) members ∙ h.1,
+        subst (λ (n : ℕ). IsLow (least_at after.leasts.items n) (Some t)) (sym same)
+            (subst (λ (k : Least). IsLow k (Some t)) (sym (leasts q ne)) h.2),
+      )
+    ]
+
+-- a number that is in a word of which those that are due are taken out
+pub still_there : (members members2 : List ℕ) (ws : List (Option Time)) (span s at p q : ℕ) (t time : Time)
+    → span ≡ 64 * (span / 64) → s * (span / 64) ≤ at → at < s * (span / 64) + span / 64 → p < span
+    → get_or ws p None ≡ Some t → ends_at time (Some t) ≡ false → has members (q * span + p) ≡ 1
+    → ((n : ℕ) → n / 64 ≢ at → has members n ≡ 1 → has members2 n ≡ 1)
+    → ((j : ℕ) → j < 64 → bit_at (get_or members at 0) j ≡ 1
+    → ends_at time (get_or ws (64 * (at - s * (span / 64)) + j) None) ≡ false → bit_at (get_or members2 at 0) j ≡ 1)
+    → has members2 (q * span + p) ≡ 1
+still_there members members2 ws span s at p q t time whole low high lt e later one others there =
+    elim (cases_eq ((q * span + p) / 64) at) [
+      | inl d ↦
+          let j : ℕ = (q * span + p) % 64 in
+          let sum : q * span + p ≡ 64 * at + (q * span + p) % 64 = omega arith in
+          let row : s * span ≡ 64 * (s * (span / 64)) = aligned s span whole in
+          let bit : bit_at (get_or members at 0) ((q * span + p) % 64) ≡ 1 =
+          sym (has_word members at ((q * span + p) % 64) (omega arith)) ∙ ap (has members) (sym sum) ∙ one in
+          let here : p ≡ 64 * (at - s * (span / 64)) + (q * span + p) % 64 =
+          same_index q s span p (64 * (at - s * (span / 64)) + (q * span + p) % 64) lt (omega arith) (omega arith) in
+          ap (has members2) sum
+          ∙ has_word members2 at ((q * span + p) % 64) (omega arith)
+          ∙ there j (omega arith) bit
+          (ap (λ (i : ℕ). ends_at time (get_or ws i None)) (sym here) ∙ ap (ends_at time) e ∙ later)
+      | inr ne ↦ others (q * span + p) ne one
+    ]

@@ -50,7 +50,7 @@ pub(crate) fn next(words: &[u64], from: usize, end: usize) -> usize
 
 /// The word with the bit of a number cleared.
 #[inline]
-fn without(word: u64, number: usize) -> u64
+pub(crate) fn without(word: u64, number: usize) -> u64
     requires { number < 64 }
     ensures gone { bit_at result number ≡ 0 }
     ensures others { (p : ℕ) → p < 64 → p ≢ number → bit_at result p ≡ bit_at word p }

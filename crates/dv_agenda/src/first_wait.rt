@@ -13,20 +13,26 @@ use dv_time::{Time, earliest};
 pub(crate) struct FirstWait {
     pub(crate) wait: Option<Time>,
     pub(crate) known: bool,
-    /// How many of the components that were due last have not changed their waits since. The next
-    /// first wait is looked for when none is left, and not at each change.
-    pub(crate) left: usize,
 }
 
 /// A first wait that has just been found.
 #[inline]
 pub(crate) fn found(wait: Option<Time>) -> FirstWait
-    ensures { (ws : List (Option Time)) → wait ≡ first_of ws → IsKnown result ws }
+    ensures first { (ws : List (Option Time)) → wait ≡ first_of ws → IsKnown result ws }
+    ensures wait { result.wait ≡ wait }
+    ensures known { result.known ≡ true }
+{
+    FirstWait { wait, known: true }
+}
+
+/// A first wait that is not known.
+#[inline]
+pub(crate) fn not_found() -> FirstWait
+    ensures { (ws : List (Option Time)) → IsKnown result ws }
 {
     FirstWait {
-        wait,
-        known: true,
-        left: 0,
+        wait: None,
+        known: false,
     }
 }
 
@@ -43,6 +49,5 @@ pub(crate) fn change(first: &mut FirstWait, before: Option<Time>, wait: Option<T
     }
     if is_same(before, first.wait) {
         first.known = false;
-        first.left = first.left.saturating_sub(1);
     }
 }

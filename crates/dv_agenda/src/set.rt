@@ -124,4 +124,20 @@ impl Set {
         bits::remove(&mut self.heads, at);
         word
     }
+
+    /// Writes a word: bit `i` says whether `64 * at + i` is in the set from now on.
+    #[inline]
+    pub(crate) fn set_word(&mut self, at: usize, word: u64)
+        requires { at < length self.old }
+        ensures size { length self.new ≡ length self.old }
+        ensures there { slice_index_or self.new at 0 ≡ word }
+        ensures others { (p : ℕ) → p / 64 ≢ at → has self.old p ≡ 1 → has self.new p ≡ 1 }
+    {
+        self.words[at] = word;
+        if word == 0 {
+            bits::remove(&mut self.heads, at);
+        } else {
+            bits::insert(&mut self.heads, at);
+        }
+    }
 }

@@ -27,16 +27,24 @@ pub(crate) fn wait_at(waits: &[Option<Time>], index: usize) -> Option<Time>
     }
 }
 
+/// Whether a wait ends at a time.
+#[inline]
+pub(crate) fn ends_at(wait: Option<Time>, time: Time) -> bool
+    ensures { result ≡ ends_at time wait }
+{
+    match wait {
+        Some(end) => (end.tick == time.tick) & (end.micro == time.micro),
+        None => false,
+    }
+}
+
 /// Whether a component waits for a time.
 #[inline]
 pub(crate) fn is_due(waits: &[Option<Time>], index: usize, time: Time) -> bool
     ensures due { result ≡ ends_at time (slice_index_or waits.now index None) }
     ensures within { IsTrue result → index < length waits.now }
 {
-    match wait_at(waits, index) {
-        Some(end) => (end.tick == time.tick) & (end.micro == time.micro),
-        None => false,
-    }
+    ends_at(wait_at(waits, index), time)
 }
 
 /// Adds a component to a list, if it waits for the time.

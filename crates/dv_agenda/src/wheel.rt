@@ -6,17 +6,18 @@ ghost use Rattle.std.specs.Int.{bit_at};
 ghost use Rattle.std.specs.Vec.{vec_capacity, vec_len};
 ghost use Rattle.dv_time.specs.declared.time.Time.{Time};
 ghost use Rattle.dv_time.specs.Time.{earliest};
-ghost use Rattle.dv_agenda.specs.declared.least.Least.TheVariants.{Known};
-ghost use Rattle.dv_agenda.specs.Agendas.{AreHeld, AreIn, HasMore, HasRoom, IsIn, IsKept};
+ghost use Rattle.dv_agenda.specs.Agendas.{AreHeld, AreIn, HasMore, HasRoom, IsAgenda, IsIn, IsKept, IsKnown};
 ghost use Rattle.dv_agenda.specs.Sets.{has};
-ghost use Rattle.dv_agenda.specs.Waits.{due_at, ends_at, first_of};
+ghost use Rattle.dv_agenda.specs.Waits.{due_at, ends_at, first_of, without};
 ghost use Rattle.dv_agenda.specs.Wheel.{AreFrom, IsFrom, in_slot, slot};
 
 use crate::bits;
+use crate::first_wait::{FirstWait, found, not_found};
+use crate::hand::Hand;
 use crate::least::Least;
 use crate::set::Set;
 use crate::slot::slot_of;
-use crate::wait::{push_due, wait_at};
+use crate::wait::{is_due, push_due, wait_at};
 use dv_time::{Time, earliest};
 use std::alloc::{AllocError, Global};
 
@@ -89,6 +90,24 @@ fn gather_word(
         push_due(waits, index, time, into)?;
     }
     Ok(())
+}
+
+/// A word of components without those that wait for a time.
+#[inline]
+fn later_of_word(waits: &[Option<Time>], word: u64, base: usize, time: Time) -> u64
+    requires small { base ≤ 2 ^ 40 }
+    ensures { (p : ℕ) → p < 64 → bit_at word p ≡ 1
+        → ends_at time (slice_index_or waits.now (base + p) None) ≡ false → bit_at result p ≡ 1 }
+{
+    let mut rest = word;
+    let mut later = word;
+    while rest != 0 {
+        let number = bits::take_least(&mut rest);
+        if is_due(waits, base + number, time) {
+            later = bits::without(later, number);
+        }
+    }
+    later
 }
 
 /// Whether the time of a wait has this slot.
@@ -202,7 +221,7 @@ impl Wheel {
 
     /// Puts all components into their slots again. If a wait is before the present tick, the
     /// present tick goes back to it.
-    fn put_anew(&mut self, waits: &[Option<Time>], wait: Option<Time>)
+    pub(crate) fn put_anew(&mut self, waits: &[Option<Time>], wait: Option<Time>)
         requires room { HasRoom self.old }
         requires fits { length waits.now ≤ self.old.span }
         ensures low { self.new.present ≤ self.old.present }
@@ -260,6 +279,20 @@ impl Wheel {
                 self.leasts[slot].leave(time);
             }
         }
+    }
+
+    /// Moves a component from the slot of one wait to the slot of another one.
+    #[inline(always)]
+    pub(crate) fn exchange(&mut self, index: usize, before: Option<Time>, wait: Option<Time>)
+        requires room { HasRoom self.old }
+        requires index { index < self.old.span }
+        ensures present { self.new.present ≡ self.old.present }
+        ensures kept { (ws : List (Option Time)) → index < length ws
+            → slice_index_or ws index None ≡ before → IsFrom self.old.present wait
+            → IsKept ws self.old → IsKept (slice_set ws index wait) self.new }
+    {
+        self.leave(index, before);
+        self.put(index, wait);
     }
 
     /// Changes the wait of a component. If it is before the present tick, the present tick goes
@@ -334,35 +367,22 @@ impl Wheel {
         None
     }
 
-    /// The first time that a component waits for, if it can be told without a walk through a slot.
+    /// The first wait, if it can be told without a walk through a slot.
     #[inline]
-    pub(crate) fn at_hand(&self) -> Least
+    pub(crate) fn at_hand(&self) -> FirstWait
         requires { HasRoom self.now }
-        ensures { (waits : List (Option Time)) (first : Option Time) → IsKept waits self.now
-            → result ≡ Known first → first ≡ first_of waits }
+        ensures { (waits : List (Option Time)) → IsKept waits self.now → IsKnown result waits }
     {
         let at = self.used.next(0, 641);
         if at == 641 {
-            return Least::Known(None);
+            return found(None);
         }
         match self.leasts[at] {
             Least::Known(first) => match first {
-                Some(time) => Least::Known(Some(time)),
-                None => Least::Unknown,
+                Some(time) => found(Some(time)),
+                None => not_found(),
             },
-            Least::Unknown => Least::Unknown,
-        }
-    }
-
-    /// Keeps the first wait of all as the least wait of its slot.
-    #[inline]
-    pub(crate) fn keep(&mut self, first: Option<Time>)
-        requires { HasRoom self.old }
-        ensures { (waits : List (Option Time)) → first ≡ first_of waits → IsKept waits self.old
-            → IsKept waits self.new }
-    {
-        if let Some(time) = first {
-            self.leasts[slot_of(time.tick, self.present)] = Least::Known(first);
+            Least::Unknown => not_found(),
         }
     }
 
@@ -391,6 +411,54 @@ impl Wheel {
             at = self.members.next_word(at + 1, end);
         }
         Ok(())
+    }
+
+    /// Takes a slot out of use if it has no component.
+    fn close(&mut self, slot: usize)
+        requires room { HasRoom self.old }
+        requires slot { slot < 641 }
+        ensures room { HasRoom self.new }
+        ensures present { self.new.present ≡ self.old.present }
+        ensures span { self.new.span ≡ self.old.span }
+        ensures others { (p : ℕ) (w : Option Time) → p < self.old.span → IsIn self.old p w
+            → IsIn self.new p w }
+        ensures held { (ws : List (Option Time)) → AreHeld ws self.old → AreHeld ws self.new }
+    {
+        let base = slot * (self.span / 64);
+        let end = base + self.span / 64;
+        if self.members.next_word(base, end) == end {
+            self.used.remove(slot);
+            self.leasts[slot] = Least::Known(None);
+        }
+    }
+
+    /// Removes the components that wait for a time from its slot.
+    pub(crate) fn remove_due(&mut self, waits: &[Option<Time>], time: Time)
+        requires kept { IsKept waits.now self.old }
+        ensures kept { IsKept (without time waits.now) self.new }
+        ensures present { self.new.present ≡ self.old.present }
+    {
+        let slot = slot_of(time.tick, self.present);
+        self.leasts[slot] = Least::Unknown;
+        let base = slot * (self.span / 64);
+        let end = base + self.span / 64;
+        let mut at = self.members.next_word(base, end);
+        while at < end {
+            let later = later_of_word(waits, self.members.word(at), 64 * (at - base), time);
+            self.members.set_word(at, later);
+            at = self.members.next_word(at + 1, end);
+        }
+        self.close(slot);
+    }
+
+    /// Puts the components in hand back into their slots.
+    pub(crate) fn take_back(&mut self, waits: &[Option<Time>], first: FirstWait, hand: Hand)
+        requires { IsAgenda waits.now self.old first hand }
+        ensures { IsKept waits.now self.new }
+    {
+        if hand.left > 0 {
+            self.put_anew(waits, Some(hand.time));
+        }
     }
 
     /// Puts the components of a word into the slots of their waits.

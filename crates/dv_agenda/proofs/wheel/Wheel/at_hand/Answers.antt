@@ -1,28 +1,24 @@
-use Rattle.std.proofs.Common.{◌≡◌, ◌<◌, ◌≤◌, Option, None, Some, length, ap, arith, ◌∙◌}
-use Rattle.dv_time.specs.declared.time.Time.{Time}
+use Rattle.std.proofs.Common.{◌≡◌, ◌<◌, ◌≤◌, Some, length, ap, arith, ◌∙◌}
 use Rattle.dv_agenda.specs.Wheel.{least_at}
 use Rattle.dv_agenda.specs.declared.least.Least.TheVariants.{Known}
 use Rattle.dv_agenda.proofs.Leasts.{known_is}
 use Rattle.dv_agenda.proofs.Wheels.{known_lowest, none_used}
 use Rattle.dv_agenda.proofs.wheel.Wheel.at_hand.Goals as goal
 
-same_known : (v w : Option Time) → Known v ≡ Known w → w ≡ v
-same_known v w e = cc
-
 pub returns-then-at-eq641 : goal.returns-then-at-eq641
-returns-then-at-eq641 c = λ waits first kept e.
+returns-then-at-eq641 c = λ waits kept.
     let end : c.next-at.result ≡ 641 = c.if-at-eq641.true in
-    same_known None first e
-    ∙ none_used waits c.args.self.now kept (λ p lt. c.next-at.ensures.none p (omega arith) (omega arith))
+    c.found.ensures.first waits
+    (none_used waits c.args.self.now kept (λ p lt. c.next-at.ensures.none p (omega arith) (omega arith)))
 
 pub returns-in-Some : goal.returns-in-Some
-returns-in-Some c = λ waits first kept e.
+returns-in-Some c = λ waits kept.
     let high : c.next-at.result ≤ 641 = c.next-at.ensures.high in
     let room : 641 ≤ length c.args.self.now.leasts.items = c.requires.known in
     let lt : c.next-at.result < length c.args.self.now.leasts.items = omega (arith, c.if-at-eq641.false) in
     let known : least_at c.args.self.now.leasts.items c.next-at.result ≡ Known (Some c.in-Some.time) =
     known_is c.args.self.now.leasts.items c.next-at.result c.index.result.now lt c.index.ensures ∙ c.in-Known.is
     ∙ ap Known c.in-Some.is in
-    same_known (Some c.in-Some.time) first e
-    ∙ known_lowest waits c.args.self.now c.next-at.result c.in-Some.time kept
-    (λ p less. c.next-at.ensures.none p (omega arith) less) known
+    c.found-in-Some.ensures.first waits
+    (known_lowest waits c.args.self.now c.next-at.result c.in-Some.time kept
+    (λ p less. c.next-at.ensures.none p (omega arith) less) known)
