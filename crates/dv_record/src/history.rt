@@ -1,4 +1,5 @@
-//! What was told of a run, kept for contracts alone. It takes no memory, and its methods do nothing at run time.
+//! What was told to a record, as ghost data for contracts. It takes no memory, and its methods do
+//! nothing at run time.
 
 ghost use Rattle.std.specs.Prelude.{◌≡◌, ◌∷◌, [], ◌++◌};
 ghost use Rattle.std.specs.Borrow.{ftrue};
@@ -10,7 +11,7 @@ use dv_bag::{Bags, Fault, Kind, Sent, State};
 use dv_time::Time;
 use std::marker::Model;
 
-/// All that was told so far, which a clause reads as `part`. Nothing of it is in memory.
+/// All that was told so far. A clause reads it as `part`. It takes no memory.
 #[derive(Drop)]
 pub struct History {
     pub ghost part: { PartOf },
@@ -31,14 +32,15 @@ impl History {
         History {}
     }
 
-    /// The same once more.
+    /// A copy of this history.
     pub fn again(&self) -> History
         ensures { result.part ≡ self.now.part }
     {
         History {}
     }
 
-    /// With a transition of a component at a time, behind all that was told.
+    /// This history and then a transition of a component at a time, with the state after it and
+    /// what it sent.
     pub fn and_moved(
         &self,
         time: &Time,
@@ -55,7 +57,7 @@ impl History {
         History {}
     }
 
-    /// With a fault of a component at a time, behind all that was told.
+    /// This history and then a fault of a component at a time, with what it sent.
     pub fn and_faulted(&self, time: &Time, component: &u32, fault: &Fault, sent: &Sent) -> History
         ensures { result.part ≡ record self.now.part {
           entries = self.now.part.entries
@@ -65,7 +67,7 @@ impl History {
         History {}
     }
 
-    /// With what left by the ports at a time, behind all that was told.
+    /// This history and then what left the model at a time, by output port.
     pub fn and_left(&self, time: &Time, values: &Bags) -> History
         ensures { result.part ≡ record self.now.part {
           outer = self.now.part.outer

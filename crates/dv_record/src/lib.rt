@@ -1,19 +1,20 @@
-//! What happens to components, told instant after instant to whoever keeps it: the trait `Record`.
+//! Records of what happens in a run: the trait `Record`, and a record that keeps a part of a trace.
 //!
-//! A record is told first what each component did at an instant, then what left the model. Its `roll_back` takes back
-//! all that was told since `settle`, and neither can fail; so a process that gets no memory in the midst of an
-//! instant can undo it. `PartRecord` keeps all that it was told, in that order, as a part of a trace. Other records
-//! of this trait are those of `dv_lines`, which keep the lines of a trace.
+//! A process tells its record, at each instant, what each component did and then what left the
+//! model. `roll_back` takes back all that was told since the last `settle`. Neither of these two
+//! can fail, so a process that is refused memory in the middle of an instant can undo it.
+//! `PartRecord` keeps the entries and output lines that it was told, in that order, as a part of a
+//! trace. The records of `dv_lines` keep them as lines of text.
 //!
-//! The processes (`dv_share`, `dv_local`, `dv_proc`, `dv_core`) commit into a record of any kind. A record does not
-//! sort what it is told, and writes to no file.
+//! Processes (`dv_share`, `dv_local`, `dv_proc`, `dv_core`) commit into a record of any type. A
+//! record sorts nothing and writes to no file.
 #![tactic(auto)]
 
-/// What was told, kept for contracts alone.
+/// What was told, as ghost data for contracts.
 pub mod history;
 /// A record that keeps a part of a trace.
 pub mod parts;
-/// What a record is told.
+/// The trait of a record.
 pub mod records;
 
 pub use history::History;

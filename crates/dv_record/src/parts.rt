@@ -12,11 +12,11 @@ use std::alloc::{AllocError, Global};
 use std::marker::Model;
 use std::mem;
 
-/// All that was told, kept as a part of a trace.
+/// A record that keeps all that it was told as a part of a trace.
 #[derive(Drop)]
 pub struct PartRecord {
     part: Part,
-    // How many entries and lines are settled.
+    // How many entries and output lines are settled.
     entries: usize,
     lines: usize,
 }
@@ -34,7 +34,7 @@ impl Model for PartRecord {
 }
 
 impl PartRecord {
-    /// Nothing was told.
+    /// A record to which nothing was told.
     pub fn new(alloc: Global) -> Self
         ensures told { result.told ≡ nothing }
         ensures settled { result.settled ≡ nothing }
@@ -53,14 +53,14 @@ impl PartRecord {
         &self.part
     }
 
-    /// All that was told, moved out.
+    /// All that was told. The record is consumed.
     pub fn into_part(self) -> Part
         ensures { result ≡ self.told }
     {
         self.part
     }
 
-    /// All that was told, moved out of the record, to which nothing is told then.
+    /// Moves out all that was told. The record is as new afterwards.
     pub fn take(&mut self, alloc: Global) -> Part
         ensures part { result ≡ self.old.told }
         ensures told { self.new.told ≡ nothing }
@@ -132,7 +132,7 @@ impl BlankRecord for PartRecord {
     }
 }
 
-// An entry behind those that are there.
+// Appends an entry.
 fn push(
     part: &mut Part,
     time: Time,
@@ -153,11 +153,11 @@ fn push(
     })
 }
 
-/// The lines of what left at a time, behind those that are there: one for each port with values.
+/// Appends the output lines of a time: one for each port at which values left.
 ///
 /// # Errors
 ///
-/// No memory for the lines, of which some may be there then.
+/// No memory for the lines. Some of them may have been appended.
 pub fn push_lines(part: &mut Part, time: Time, values: &Bags) -> Result<(), AllocError>
     requires { length values.now ≤ 2 ^ 32 }
     ensures lines { OnOk result
@@ -174,7 +174,7 @@ pub fn push_lines(part: &mut Part, time: Time, values: &Bags) -> Result<(), Allo
     Ok(())
 }
 
-/// The parts of records, in their order.
+/// What was told to each record, in the order of the records.
 ///
 /// # Errors
 ///

@@ -1,4 +1,4 @@
-//! What a record is told.
+//! The trait of a record.
 
 ghost use Rattle.std.specs.Prelude.{◌≡◌, ◌++◌, ◌≤◌, ◌^◌, OnErr, OnOk, length};
 ghost use Rattle.dv_bag.specs.Part.{PartOf, nothing};
@@ -9,23 +9,25 @@ use dv_bag::{Bags, Fault, Kind, Sent, State};
 use dv_time::Time;
 use std::alloc::{AllocError, Global};
 
-/// What happens to the components of a process is told to a record, instant after instant: first what happened to each
-/// component, then what left the model. What was told since `settle` can be taken back by `roll_back`, and neither can fail.
+/// Keeps what a process commits. At each instant it is told first what happened to each component,
+/// then what left the model. `roll_back` takes back what was told since the last `settle`. Neither
+/// of these two can fail.
 pub trait Record: Drop {
-    /// All that was told, as entries and as lines of what left.
+    /// All that was told: entries and output lines.
     ghost told: { Self → PartOf };
 
-    /// What `roll_back` leaves of it.
+    /// The part of it that `roll_back` keeps.
     ghost settled: { Self → PartOf };
 
-    /// How it writes what is told as a text, what of that text was handed over, and what part of what was told was moved out.
+    /// How the record writes what it is told as a text, what of that text was handed over, and
+    /// which part was moved out.
     ghost handed: { Self → Handed };
 
-    /// Tells that a transition of a component took place at a time, with the state after it, and what it sent then.
+    /// Tells of a transition of a component at a time, with the state after it and what it sent.
     ///
     /// # Errors
     ///
-    /// No memory for it. What was told is as before.
+    /// No memory for it. The record is as before.
     fn moved(
         &mut self,
         time: Time,
@@ -41,11 +43,11 @@ pub trait Record: Drop {
         ensures settled { settled self.new ≡ settled self.old }
         ensures handed { handed self.new ≡ handed self.old };
 
-    /// Tells that a rule of a component had a fault at a time, and what the component sent then.
+    /// Tells of a fault of a component at a time, with what it sent.
     ///
     /// # Errors
     ///
-    /// No memory for it. What was told is as before.
+    /// No memory for it. The record is as before.
     fn faulted(
         &mut self,
         time: Time,
@@ -60,11 +62,13 @@ pub trait Record: Drop {
         ensures settled { settled self.new ≡ settled self.old }
         ensures handed { handed self.new ≡ handed self.old };
 
-    /// Tells what left the model at a time, by output port: a line for each port with values.
+    /// Tells what left the model at a time, by output port. Each port with values has an output
+    /// line.
     ///
     /// # Errors
     ///
-    /// No memory for the lines, of which some may have been told then; `roll_back` is due.
+    /// No memory for the lines. Some of them may have been told, so the caller has to call
+    /// `roll_back`.
     fn left(&mut self, time: Time, values: &Bags) -> Result<(), AllocError>
         requires is_open { IsOpenAt time (told self.old) }
         requires ports { length values.now ≤ 2 ^ 32 }
@@ -73,25 +77,26 @@ pub trait Record: Drop {
         ensures settled { settled self.new ≡ settled self.old }
         ensures handed { handed self.new ≡ handed self.old };
 
-    /// Settles what was told.
+    /// Settles all that was told.
     fn settle(&mut self)
         ensures told { told self.new ≡ told self.old }
         ensures settled { settled self.new ≡ told self.old }
         ensures handed { handed self.new ≡ handed self.old };
 
-    /// Takes back what was told since it was settled.
+    /// Takes back what was told since the last `settle`.
     fn roll_back(&mut self)
         ensures told { told self.new ≡ settled self.old }
         ensures settled { settled self.new ≡ settled self.old }
         ensures handed { handed self.new ≡ handed self.old };
 
-    /// The bytes of its text that were not handed over: behind those that were they are the text of all that was told. A record
-    /// without a text has none.
+    /// The bytes of the record's text that were not handed over yet. After those that were, they
+    /// complete the text of all that was told. A record without a text has none.
     fn bytes(&self) -> &[u8]
         ensures { (handed self.now).text_of (told self.now)
             ≡ (handed self.now).text ++ result.now };
 
-    /// Lets go of the bytes of its text, which were handed over, when all that was told is settled.
+    /// Discards the bytes of the record's text, which were handed over. All that was told has to be
+    /// settled.
     fn let_go(&mut self)
         requires { settled self.old ≡ told self.old }
         ensures told { told self.new ≡ told self.old }
@@ -101,9 +106,9 @@ pub trait Record: Drop {
         } };
 }
 
-/// A record that can be made with nothing told to it, and that writes no text.
+/// A record without a text that can be made from nothing but an allocator.
 pub trait BlankRecord: Record {
-    /// Nothing was told, and nothing was handed over.
+    /// A record to which nothing was told.
     fn blank(alloc: Global) -> Self
         ensures told { Self.told result ≡ nothing }
         ensures settled { Self.settled result ≡ nothing }
