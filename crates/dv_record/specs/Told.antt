@@ -14,18 +14,18 @@ pub record Told : Type 0 where
   pub told : PartOf
   pub settled : PartOf
 
--- What a record has handed over: of its text, how a part is written and what of it was handed over so far; and the part that was
--- moved out so far. What is told, settled or taken back leaves it as it is.
+-- What a record has handed over: how it writes a part as a text, what of the text was handed over, and the part that was moved out.
+-- To tell, settle or take back something does not change it.
 pub record Handed : Type 0 where
   pub text_of : PartOf → List ℕ
   pub text : List ℕ
   pub past : PartOf
 
--- of a record that has no text, of which a part was moved out
+-- of a record without a text, out of which a part was moved
 abbrev pub no_text_past : PartOf → Handed
 no_text_past past = record { text_of = λ p. []; text = []; past = past }
 
--- of a record that has no text, of which nothing was moved out
+-- of a record without a text, out of which nothing was moved
 abbrev pub no_text : Handed
 no_text = no_text_past nothing
 
@@ -35,7 +35,7 @@ told_of x = x.told
 abbrev pub settled_of : Told → PartOf
 settled_of x = x.settled
 
--- so many entries and lines, the first ones
+-- the first entries and output lines of a part
 abbrev pub first_of : ℕ → ℕ → PartOf → PartOf
 first_of entries lines p = record { entries = take entries p.entries; outer = take lines p.outer }
 
@@ -47,17 +47,17 @@ entry time component what sent = record { time = time; component = component; wh
 abbrev pub with_entry : Entry → PartOf → PartOf
 with_entry e p = record { entries = p.entries ++ e ∷ []; outer = p.outer }
 
--- the line of what leaves at a port; a port with no values has none
+-- the output line of a port; a port without values has none
 abbrev pub line_at : Time → ℕ → Counts → List Outer
 line_at time port values =
     if nat_eq (size values) 0 then [] else record { time = time; port = port; values = values } ∷ []
 
--- what leaves at a time, by port number from one on
+-- what leaves at a time, by the ports from this one on
 abbrev pub lines_from : Time → ℕ → List Counts → List Outer
 lines_from time port [] = []
 lines_from time port (b ∷ bs) = line_at time port b ++ lines_from time (port + 1) bs
 
--- a part with more lines of what left
+-- a part with more output lines
 abbrev pub with_lines : List Outer → PartOf → PartOf
 with_lines os p = record { entries = p.entries; outer = p.outer ++ os }
 

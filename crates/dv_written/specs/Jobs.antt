@@ -1,4 +1,4 @@
--- The job that a mark has before a call picks one.
+-- The job of `Brand`, before a call chooses one.
 use Rattle.std.specs.Prelude.{ℕ, List, [], None}
 use Rattle.dv_bag.specs.declared.entry.Entry.{Entry}
 use Rattle.dv_conservative.specs.Flat.{Flat}
@@ -7,7 +7,7 @@ use Rattle.dv_conservative.specs.World.{Job}
 abbrev no_model : Flat
 no_model = record { members = []; links = []; entrances = []; exits = []; outputs = 0 }
 
--- nothing is run by nobody
+-- a job without a model and without processes
 abbrev pub no_job : Job
 no_job = record {
   limit = 0;
@@ -20,6 +20,6 @@ no_job = record {
   responses = λ p. None;
 }
 
--- and its entries print nothing
+-- its entries print nothing
 abbrev pub no_line : Entry → List ℕ
 no_line e = []

@@ -1,6 +1,6 @@
 -- Whether a trace holds a fault.
 pub mod Faults
--- A job where none is meant.
+-- The job of `Brand`.
 pub mod Jobs
--- How long the lines are that were not handed over yet.
+-- The length of the lines that were not handed over yet.
 pub mod Rest

@@ -1,4 +1,4 @@
-//! Entries, each with the length of the line that it prints.
+//! An entry with the length of its line.
 
 ghost use Rattle.std.specs.Prelude.{◌≡◌, length};
 ghost use Rattle.dv_bag.specs.declared.entry.What.TheVariants as what;
@@ -11,8 +11,9 @@ use dv_bag::{Fault, Kind, Sent, State};
 use dv_time::Time;
 use std::marker::{Model, PhantomData};
 
-/// What happened to a component at one instant. A contract reads it as the entry; in memory are its time, its component, whether it is
-/// a fault, and how long its line is. The line lies in the text of the part that has the entry.
+/// What happened to a component at one instant. A contract reads it as the entry. In memory are its
+/// time, its component, whether it is a fault, and the length of its line in bytes. The line itself
+/// is in the text of the part that has the entry.
 #[derive(Drop)]
 pub struct WrittenEntry<N: OfJob> {
     time: Time,
@@ -39,7 +40,8 @@ impl<N: OfJob> Model for WrittenEntry<N> {
 }
 
 impl<N: OfJob> WrittenEntry<N> {
-    /// A transition of a component at a time, with the state after it and what the component sent then, by the length of its line.
+    /// A transition of a component at a time, with the state after it and what it sent. Its line
+    /// has `bytes` bytes.
     pub(crate) fn moved(
         bytes: usize,
         time: Time,
@@ -62,7 +64,7 @@ impl<N: OfJob> WrittenEntry<N> {
         }
     }
 
-    /// A fault of a component at a time, and what the component sent then, by the length of its line.
+    /// A fault of a component at a time, with what it sent. Its line has `bytes` bytes.
     pub(crate) fn faulted(
         bytes: usize,
         time: Time,
@@ -83,7 +85,7 @@ impl<N: OfJob> WrittenEntry<N> {
         }
     }
 
-    /// When it happened.
+    /// The time at which it happened.
     #[inline]
     pub fn time(&self) -> Time
         ensures { result ≡ self.now.time }
@@ -91,7 +93,7 @@ impl<N: OfJob> WrittenEntry<N> {
         self.time
     }
 
-    /// To which component it happened.
+    /// The number of the component.
     #[inline]
     pub fn component(&self) -> u32
         ensures { result ≡ self.now.component }
@@ -106,7 +108,7 @@ impl<N: OfJob> WrittenEntry<N> {
         self.fault
     }
 
-    /// How many bytes its line has.
+    /// The length of its line in bytes.
     #[inline]
     pub fn line_length(&self) -> usize
         ensures { result ≡ length (N.line self.now) }

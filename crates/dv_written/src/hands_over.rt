@@ -1,4 +1,4 @@
-//! Records of which a part is moved out.
+//! Records out of which parts are moved.
 
 ghost use Rattle.std.specs.Prelude.{◌≡◌};
 ghost use Rattle.dv_bag.specs.Part.{joined};
@@ -9,13 +9,14 @@ use crate::part::WrittenPart;
 use dv_record::Record;
 use std::alloc::Global;
 
-/// A record of which a part is moved out while more is told, as the lines that its entries print.
+/// A record that keeps entries as lines. What it was told is moved out part by part while the run
+/// goes on.
 pub trait HandsOver<N: OfJob>: Record {
-    /// How many bytes the lines have together that were told and not moved out yet.
+    /// The length in bytes of all lines that were not moved out yet.
     fn rest_length(&self) -> usize
         ensures { result ≡ rest_length N.line (Self.handed self.now).past (Self.told self.now) };
 
-    /// Moves out what was told beyond what was moved out before, when all that was told is settled.
+    /// Moves out what was told since the last call. All that was told has to be settled.
     fn hand_over(&mut self, alloc: Global) -> WrittenPart<N>
         requires { Self.settled self.old ≡ Self.told self.old }
         ensures part { Self.told self.old ≡ joined (Self.handed self.old).past result }

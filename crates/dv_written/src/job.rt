@@ -1,9 +1,9 @@
-//! Which job it is, for contracts.
+//! A job as a type, for contracts.
 
 use std::marker::Brand;
 
-/// A job, as a type, with the line that each entry of its trace prints: links, workers and parts that have the same one are of the
-/// same job. No value of it is made.
+/// A job as a type, with the line that each entry of its trace prints. Links, workers and parts of
+/// the same type are of the same job. There are no values of it.
 pub trait OfJob {
     ghost use Rattle.std.specs.Prelude.{ℕ, List};
     ghost use Rattle.dv_bag.specs.declared.entry.Entry.{Entry};
@@ -14,7 +14,7 @@ pub trait OfJob {
     ghost line: { Entry → List ℕ };
 }
 
-/// The mark under which a call picks its job.
+/// The type with which a call chooses its job.
 impl OfJob for Brand {
     ghost use Rattle.dv_written.specs.Jobs.{no_job, no_line};
 

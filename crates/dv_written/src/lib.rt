@@ -1,28 +1,30 @@
-//! Entries of a trace that are kept as the lines that they print, so that whoever writes the trace copies bytes.
+//! Entries of a trace that are kept as the lines that they print.
 //!
-//! A `WrittenEntry` has the time and the component of an entry, whether it is a fault, and how long its line is;
-//! contracts read it as that entry. A `WrittenPart` has such entries of some components with their lines in one text,
-//! and what these sent outside as data, and is joined and cut as a part of a trace. A `WrittenLine` is one of its
-//! entries with its line, where both lie. `HandsOver` is a record out of which such a part is moved while more is told.
-//! `OfJob` names a job as a type, so that parts, links and workers with the same one are of the same job.
+//! The process that commits an entry makes its line, so the writer of the trace only copies bytes.
+//! A `WrittenEntry` has the time and the component of an entry, whether it is a fault, and how many
+//! bytes its line has. Contracts read it as the entry. A `WrittenPart` has entries with their lines
+//! in one text, and the output lines as data; it is joined and cut like any part of a trace. A
+//! `WrittenLine` borrows one entry with its line. `HandsOver` is a record out of which such parts
+//! are moved while the run goes on. `OfJob` is a job as a type: parts, links and workers of the
+//! same type are of the same job.
 //!
-//! Processes, boards and merges move these parts from where they are committed to the writer. The lines themselves
-//! are made in `dv_lines`: here is only their form.
+//! Processes, boards and merges pass these parts on to the writer. The lines are made in
+//! `dv_lines`.
 #![tactic(auto)]
 
-/// Entries, each with the length of the line that it prints.
+/// An entry with the length of its line.
 pub mod entry;
-/// Records of which a part is moved out.
+/// Records out of which parts are moved.
 pub mod hands_over;
-/// Which job it is, for contracts.
+/// A job as a type, for contracts.
 pub mod job;
-/// Entries with the lines that they print, where both lie.
+/// A borrowed entry with its line.
 pub mod line;
-/// What makes records.
+/// How records are made.
 pub mod makes;
 /// Parts of written entries.
 pub mod part;
-/// What an entry is, for contracts.
+/// An entry as ghost data, for contracts.
 mod told;
 
 pub use entry::WrittenEntry;

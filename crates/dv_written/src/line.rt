@@ -1,4 +1,4 @@
-//! Entries with the lines that they print, where both lie.
+//! A borrowed entry with its line.
 
 ghost use Rattle.std.specs.Prelude.{◌≡◌};
 ghost use Rattle.dv_written.specs.Faults.{is_fault};
@@ -8,7 +8,7 @@ use crate::job::OfJob;
 use dv_time::Time;
 use std::marker::Model;
 
-/// An entry with its line. Neither is copied. A contract reads it as the entry.
+/// A borrowed entry with its line. A contract reads it as the entry.
 #[derive(Drop)]
 pub struct WrittenLine<'p, N: OfJob> {
     entry: &'p WrittenEntry<N>,
@@ -35,7 +35,7 @@ impl<'p, N: OfJob> WrittenLine<'p, N> {
         WrittenLine { entry, line }
     }
 
-    /// When it happened.
+    /// The time at which it happened.
     #[inline]
     pub fn time(&self) -> Time
         ensures { result ≡ self.now.time }
@@ -43,7 +43,7 @@ impl<'p, N: OfJob> WrittenLine<'p, N> {
         self.entry.time()
     }
 
-    /// To which component it happened.
+    /// The number of the component.
     #[inline]
     pub fn component(&self) -> u32
         ensures { result ≡ self.now.component }

@@ -1,4 +1,4 @@
-//! What makes records.
+//! How records are made.
 
 ghost use Rattle.std.specs.Prelude.{◌≡◌, IfOk};
 ghost use Rattle.dv_bag.specs.Part.{nothing};
@@ -7,7 +7,7 @@ ghost use Rattle.dv_record.specs.Told.{no_text};
 use dv_record::{BlankRecord, Record};
 use std::alloc::{AllocError, Global};
 
-/// Makes the record of each process: one to which nothing was told, and which writes no text.
+/// Makes a record for each process. Nothing was told to a new record, and it has no text.
 pub trait MakesRecord<R: Record> {
     /// A new record.
     ///
@@ -20,7 +20,7 @@ pub trait MakesRecord<R: Record> {
         ensures handed { IfOk result (λ r. R.handed r ≡ no_text) };
 }
 
-/// Makes records that can be made of nothing.
+/// Makes records that need nothing but an allocator.
 #[derive(Clone, Copy)]
 pub struct Blanks;
 

@@ -14,8 +14,9 @@ use std::alloc::{AllocError, Global};
 use std::marker::Model;
 use std::mem;
 
-/// Entries of some components with the lines that they print, and what those components sent outside, in the order in which they were
-/// pushed. The lines lie one behind the other in one text.
+/// Entries of some components with the lines that they print, and the output lines of what those
+/// components sent out of the model, each in the order in which they were pushed. The lines of the
+/// entries are in one text.
 #[derive(Drop)]
 pub struct WrittenPart<N: OfJob> {
     entries: Vec<WrittenEntry<N>>,
@@ -35,18 +36,18 @@ impl<N: OfJob> Model for WrittenPart<N> {
     ghost invariant = { λ p. p.text.items ≡ flat_map N.line p.entries.items };
 }
 
-// Four kibibytes of entries and four of lines. A part has room in whole blocks: an allocator keeps blocks back by their size, and with
-// sizes of all kinds it would keep more of them the longer a run is.
+// A part has room in blocks of four kibibytes. An allocator keeps freed memory by its size: with
+// parts of all sizes it would keep more of it the longer a run is.
 const ENTRIES_OF_A_BLOCK: usize = 128;
 
 const BYTES_OF_A_BLOCK: usize = 4_096;
 
-// So many, and as many more as fill up the last block.
+// Rounds a count up to whole blocks.
 fn whole_blocks(count: usize, block: usize) -> usize {
     count.checked_next_multiple_of(block).unwrap_or(count)
 }
 
-// How long the lines of entries are together.
+// The length of the lines of these entries in bytes.
 fn text_length<N: OfJob>(entries: &[WrittenEntry<N>]) -> usize
     requires { length (flat_map N.line entries.now) < 2 ^ 64 }
     ensures { result ≡ length (flat_map N.line entries.now) }
@@ -58,7 +59,7 @@ fn text_length<N: OfJob>(entries: &[WrittenEntry<N>]) -> usize
     bytes
 }
 
-// Those of entries that are not before a time, with their lines, which are taken out of the text of all.
+// The entries that are not before a time, with their lines.
 fn entries_since<N: OfJob>(
     alloc: Global,
     entries: Vec<WrittenEntry<N>>,
@@ -82,7 +83,7 @@ fn entries_since<N: OfJob>(
 }
 
 impl<N: OfJob> WrittenPart<N> {
-    /// No entries, and nothing sent outside.
+    /// A part without entries and output lines. It takes no memory.
     pub fn new(alloc: Global) -> Self
         ensures { result ≡ nothing }
     {
@@ -93,7 +94,8 @@ impl<N: OfJob> WrittenPart<N> {
         }
     }
 
-    /// No entries, and nothing sent outside, with room for so many entries and for lines of so many bytes where there is memory for it.
+    /// A part without entries and output lines, with room for `entries` entries and `bytes` bytes
+    /// of their lines. If there is no memory for some of it, it has no room there.
     pub fn with_room(alloc: Global, entries: usize, bytes: usize) -> Self
         ensures { result ≡ nothing }
     {
@@ -106,7 +108,7 @@ impl<N: OfJob> WrittenPart<N> {
         }
     }
 
-    // One more entry with its line, behind those that are there. Where memory is refused, the part is as before.
+    // Appends an entry with its line. If memory is refused, the part is as before.
     fn push(&mut self, entry: WrittenEntry<N>, line: &[u8]) -> Result<(), AllocError>
         requires { line.now ≡ N.line entry }
         ensures ok { OnOk result
@@ -119,8 +121,8 @@ impl<N: OfJob> WrittenPart<N> {
         Ok(())
     }
 
-    /// One more entry, behind those that are there: a transition of a component at a time, with the state after it and what the
-    /// component sent then, by its line.
+    /// Appends a transition of a component at a time, with the state after it and what it sent.
+    /// `line` is its line.
     ///
     /// # Errors
     ///
@@ -146,7 +148,7 @@ impl<N: OfJob> WrittenPart<N> {
         self.push(entry, line)
     }
 
-    /// One more entry, behind those that are there: a fault of a component at a time, and what the component sent then, by its line.
+    /// Appends a fault of a component at a time, with what it sent. `line` is its line.
     ///
     /// # Errors
     ///
@@ -170,11 +172,11 @@ impl<N: OfJob> WrittenPart<N> {
         self.push(entry, line)
     }
 
-    /// One more line of what was sent outside, after those that are there.
+    /// Appends an output line.
     ///
     /// # Errors
     ///
-    /// No memory for one more. The part is as before.
+    /// No memory for it. The part is as before.
     pub fn push_outer(&mut self, outer: Outer) -> Result<(), AllocError>
         ensures ok { OnOk result
             (self.new ≡ record self.old { outer = self.old.outer ++ outer ∷ [] }) }
@@ -183,28 +185,28 @@ impl<N: OfJob> WrittenPart<N> {
         Ok(self.outer.push(outer)?)
     }
 
-    /// How many entries there are.
+    /// The number of entries.
     pub fn entry_count(&self) -> usize
         ensures { result ≡ length self.now.entries }
     {
         self.entries.len()
     }
 
-    /// How many lines were sent outside.
-    pub fn outer_count(&self) -> usize
-        ensures { result ≡ length self.now.outer }
-    {
-        self.outer.len()
-    }
-
-    /// How many bytes the lines have together.
+    /// The length of the lines of all entries in bytes.
     pub fn byte_count(&self) -> usize
         ensures { result ≡ length (flat_map N.line self.now.entries) }
     {
         self.text.len()
     }
 
-    /// All of another part, behind what is there.
+    /// The number of output lines.
+    pub fn outer_count(&self) -> usize
+        ensures { result ≡ length self.now.outer }
+    {
+        self.outer.len()
+    }
+
+    /// Appends all of another part.
     ///
     /// # Errors
     ///
@@ -222,7 +224,7 @@ impl<N: OfJob> WrittenPart<N> {
         self.pour(&mut more)
     }
 
-    // Moves all of another part behind what is there. The other keeps its room. Where memory is refused, both are as before.
+    // Appends all of another part, which keeps its room. If memory is refused, both are as before.
     fn pour(&mut self, more: &mut Self) -> Result<(), AllocError>
         ensures joined { OnOk result (self.new ≡ joined self.old more.old) }
         ensures emptied { OnOk result (more.new ≡ nothing) }
@@ -240,8 +242,9 @@ impl<N: OfJob> WrittenPart<N> {
         Ok(())
     }
 
-    /// Moves all of it out, to a part with room for just that, in whole blocks. The room in which it was put together stays here and
-    /// serves again; where there is no memory for another part, it is moved out, too.
+    /// Moves all of it out, into a part with room for just that in whole blocks. This part keeps
+    /// its room for what comes next. If there is no memory for another part, the room is moved out,
+    /// too.
     pub fn take(&mut self, alloc: Global) -> Self
         ensures taken { result ≡ self.old }
         ensures none { self.new ≡ nothing }
@@ -253,7 +256,8 @@ impl<N: OfJob> WrittenPart<N> {
         }
     }
 
-    /// So many entries and lines of what left stay, the first ones; where there are not as many, all do.
+    /// Keeps the first `entries` entries and the first `outer` output lines, or all if there are
+    /// not as many.
     pub fn truncate(&mut self, entries: usize, outer: usize)
         ensures entries { self.new.entries ≡ take entries self.old.entries }
         ensures outer { self.new.outer ≡ take outer self.old.outer }
@@ -263,11 +267,11 @@ impl<N: OfJob> WrittenPart<N> {
         self.outer.truncate(outer);
     }
 
-    /// What is not before a time. The rest is gone.
+    /// The entries and output lines that are not before a time. The others are dropped.
     ///
     /// # Errors
     ///
-    /// No memory for it. All of the part is gone.
+    /// No memory for it. The whole part is dropped.
     pub fn since(mut self, alloc: Global, time: Time) -> Result<Self, AllocError>
         ensures { IfOk result (λ rest. rest ≡ since time self) }
     {
@@ -277,21 +281,21 @@ impl<N: OfJob> WrittenPart<N> {
         Ok(rest)
     }
 
-    /// The entries, in the order in which they were pushed: a run pushes them by time and component.
+    /// The entries in the order in which they were pushed. A run pushes them by time and component.
     pub fn entries(&self) -> &[WrittenEntry<N>]
         ensures { result.now ≡ self.now.entries }
     {
         &self.entries
     }
 
-    /// The lines of the entries, one behind the other.
+    /// The lines of the entries, one after the other.
     pub fn text(&self) -> &[u8]
         ensures { result.now ≡ flat_map N.line self.now.entries }
     {
         &self.text
     }
 
-    /// What was sent outside, in the order in which it was pushed: a run pushes it by time and port.
+    /// The output lines in the order in which they were pushed. A run pushes them by time and port.
     pub fn outer(&self) -> &[Outer]
         ensures { result.now ≡ self.now.outer }
     {

@@ -1,4 +1,5 @@
-//! What an entry is, for contracts alone. It takes no memory, and its functions do nothing at run time.
+//! An entry as ghost data, for contracts. It takes no memory, and its functions do nothing at run
+//! time.
 
 ghost use Rattle.std.specs.Prelude.{◌≡◌};
 ghost use Rattle.std.specs.Borrow.{ftrue};
@@ -10,7 +11,7 @@ use dv_bag::{Fault, Kind, Sent, State};
 use dv_time::Time;
 use std::marker::Model;
 
-/// What happened to a component, which a clause reads as `entry`. Nothing of it is in memory.
+/// What happened to a component. A clause reads it as `entry`. It takes no memory.
 #[derive(Drop)]
 pub(crate) struct ToldEntry {
     pub(crate) ghost entry: { Entry },
@@ -24,7 +25,7 @@ impl Model for ToldEntry {
 unsafe impl Send for ToldEntry {}
 
 impl ToldEntry {
-    /// A transition of a component at a time, with the state after it and what the component sent then.
+    /// A transition of a component at a time, with the state after it and what it sent.
     pub(crate) fn moved(
         time: &Time,
         component: &u32,
@@ -38,7 +39,7 @@ impl ToldEntry {
         ToldEntry {}
     }
 
-    /// A fault of a component at a time, and what the component sent then.
+    /// A fault of a component at a time, with what it sent.
     pub(crate) fn faulted(time: &Time, component: &u32, fault: &Fault, sent: &Sent) -> ToldEntry
         ensures { result.entry
             ≡ entry time.now component.now (what.Fault fault.now) sent.now }
