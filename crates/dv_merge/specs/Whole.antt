@@ -1,4 +1,4 @@
--- What parts are of.
+-- The whole that parts make up.
 use Rattle.std.specs.Prelude.{◌≡◌, ℕ, ◌<◌, nat_eq, List, length, slice_get, Some}
 use Rattle.std.specs.List.{All}
 use Rattle.dv_bag.specs.Part.{PartOf}
@@ -13,7 +13,8 @@ use Rattle.dv_conservative.specs.True.{united}
 use Rattle.dv_merge.specs.Entries.{AreInOrder, of_process}
 use Rattle.dv_merge.specs.Lines.{AllLines, lines_at}
 
--- A whole in parts by owner: each part has its components' entries, and lines of its own, which together are the whole's.
+-- A whole in parts by owner: each part has the entries of its components. The output lines of all parts together are those of the
+-- whole.
 pub record ArePartsOf (owner : ℕ → ℕ) (whole : PartOf) (parts : List PartOf) : Type 0 where
   pub order : AreInOrder whole.entries
   pub within : All (λ (e : Entry). owner e.component < length parts) whole.entries

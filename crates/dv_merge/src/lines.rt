@@ -1,4 +1,4 @@
-//! Lines of what left the model, by time and port.
+//! Output lines, merged by time and port.
 
 ghost use Rattle.std.specs.Prelude.{◌≡◌, ◌+◌, ◌<◌, ◌≤◌, ◌++◌, [], length, map, None, IfOk};
 ghost use Rattle.std.specs.List.{All};
@@ -12,7 +12,7 @@ use std::alloc::{AllocError, Global};
 use std::cmp::Ordering;
 use std::collections::VecDeque;
 
-// By time, and then by port.
+// Compares by time and then by port.
 fn compare(first: &Outer, second: &Outer) -> Ordering
     ensures { result ≡ line_cmp first.now second.now }
 {
@@ -22,7 +22,7 @@ fn compare(first: &Outer, second: &Outer) -> Ordering
         .then(first.port.cmp(&second.port))
 }
 
-// The first line of one list, with the values of the first of another.
+// Takes the first line of each list and unites their values.
 fn both_lines(
     first: &mut VecDeque<Outer>,
     second: &mut VecDeque<Outer>,
@@ -42,7 +42,8 @@ fn both_lines(
     Ok(Some(line))
 }
 
-// The next line of two lists; where both have one of its time and port, their values are united.
+// Takes the next line of two lists. If both have a line of its time and port, their values are
+// united.
 fn next_line(
     first: &mut VecDeque<Outer>,
     second: &mut VecDeque<Outer>,
@@ -68,7 +69,7 @@ fn next_line(
     }
 }
 
-// Two lists of lines, as one.
+// Merges two lists.
 fn unite_two(alloc: Global, first: Vec<Outer>, second: Vec<Outer>) -> Result<Vec<Outer>, AllocError>
     ensures { IfOk result (λ all. AreLines second.items
         → all.items ≡ union_of_lines first.items second.items) }
@@ -83,11 +84,12 @@ fn unite_two(alloc: Global, first: Vec<Outer>, second: Vec<Outer>) -> Result<Vec
     Ok(all)
 }
 
-/// The lines of lists, united by time and port. They are moved, and one list alone is handed back as it is.
+/// Merges lists by time and port. Lines of the same time and port become one. A single list is
+/// returned as it is.
 ///
 /// # Errors
 ///
-/// No memory for lists united.
+/// No memory for the merged lists.
 pub fn unite_lines(alloc: Global, mut lists: Vec<Vec<Outer>>) -> Result<Vec<Outer>, AllocError>
     ensures { let lines = map (λ list. list.items) lists.items in IfOk result (λ all.
         All AreLines lines → all.items ≡ united (list_at lines) (length lines)) }

@@ -1,4 +1,4 @@
-//! Parts of which no entry and no line was copied.
+//! Parts with borrowed entries.
 
 ghost use Rattle.std.specs.Prelude.{◌≡◌, ◌≤◌, ◌<◌, ◌++◌, Some, filter, length, not, slice_get, take, IfOk, OnOk};
 ghost use Rattle.dv_time.specs.Time.{is_before};
@@ -12,7 +12,7 @@ use dv_written::{OfJob, WrittenLine, WrittenPart};
 use std::alloc::{AllocError, Global};
 use std::marker::Model;
 
-/// Entries of a trace with their lines, which lie here and there, and what left.
+/// Borrowed entries with their lines, from one or several parts, and copies of their output lines.
 #[derive(Drop)]
 pub struct PartRefs<'p, N: OfJob> {
     pub(crate) entries: Vec<WrittenLine<'p, N>>,
@@ -27,7 +27,7 @@ impl<'p, N: OfJob> Model for PartRefs<'p, N> {
     ghost view = { λ p. record { entries = p.entries.items; outer = p.outer.items } };
 }
 
-// Puts entries of a part with their lines behind those that are there: of so many in front those that are not before a time.
+// Appends those of the first `count` entries of a part that are not before a time.
 fn push_lines<'p, N: OfJob>(
     lines: &mut Vec<WrittenLine<'p, N>>,
     part: &'p WrittenPart<N>,
@@ -50,7 +50,7 @@ fn push_lines<'p, N: OfJob>(
 }
 
 impl<'p, N: OfJob> PartRefs<'p, N> {
-    /// No entries, and nothing that left.
+    /// No entries and no output lines.
     pub fn new(alloc: Global) -> Self
         ensures { result ≡ nothing }
     {
@@ -60,7 +60,7 @@ impl<'p, N: OfJob> PartRefs<'p, N> {
         }
     }
 
-    /// All of a part. Its entries and their lines stay where they are, and what left is copied.
+    /// All of a part. Its entries are borrowed, and its output lines are copied.
     ///
     /// # Errors
     ///
@@ -74,8 +74,8 @@ impl<'p, N: OfJob> PartRefs<'p, N> {
         Ok(all)
     }
 
-    /// What a part has from one time on and before another, behind what is there, for a part that stands by time. Its entries and
-    /// their lines stay where they are, and what left is copied.
+    /// Appends what a part has from one time on and before another. The part has to be in order by
+    /// time. Its entries are borrowed, and its output lines are copied.
     ///
     /// # Errors
     ///
@@ -97,14 +97,14 @@ impl<'p, N: OfJob> PartRefs<'p, N> {
         Ok(self.outer.append(&mut outer)?)
     }
 
-    /// How many entries there are.
+    /// The number of entries.
     pub fn entry_count(&self) -> usize
         ensures { result ≡ length self.now.entries }
     {
         self.entries.len()
     }
 
-    /// One of the entries with its line. They are counted from 0 on.
+    /// An entry with its line. Indices count from 0.
     pub fn entry(&self, index: usize) -> &WrittenLine<'p, N>
         requires { index < length self.now.entries }
         ensures { slice_get self.now.entries index ≡ Some result.now }
@@ -112,7 +112,7 @@ impl<'p, N: OfJob> PartRefs<'p, N> {
         &self.entries[index]
     }
 
-    /// What left.
+    /// The output lines.
     pub fn outer(&self) -> &[Outer]
         ensures { result.now ≡ self.now.outer }
     {

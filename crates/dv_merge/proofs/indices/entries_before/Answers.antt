@@ -14,12 +14,14 @@ point g c =
     c.partition_point.ensures.partitioned (early_first (λ (e : Entry). e.time) c.args.time c.args.entries.now c.requires)
     (λ a r f' k. search rules)
 
-pub returns-clause-before : goal.returns-clause-before
-returns-clause-before g c =
-    front_passes (early (λ (e : Entry). e.time) c.args.time) c.args.entries.now c.partition_point.result
-    c.partition_point.ensures.bound (point g c)
-
-pub returns-clause-since : goal.returns-clause-since
-returns-clause-since g c =
-    rest_fails (early (λ (e : Entry). e.time) c.args.time) c.args.entries.now c.partition_point.result
-    c.partition_point.ensures.bound (point g c)
+pub returns : goal.returns
+returns g c =
+    let test = early (λ (e : Entry). e.time) c.args.time in
+    let entries = c.args.entries.now in
+    let count = c.partition_point.result in
+    let bound = c.partition_point.ensures.bound in
+    record {
+      count_within = bound;
+      front = front_passes test entries count bound (point g c);
+      rest = rest_fails test entries count bound (point g c);
+    }

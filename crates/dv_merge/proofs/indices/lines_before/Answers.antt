@@ -13,12 +13,14 @@ point c =
     c.partition_point.ensures.partitioned (early_first (λ (o : Outer). o.time) c.args.time c.args.lines.now c.requires)
     (λ a r f' k. search rules)
 
-pub returns-clause-before : goal.returns-clause-before
-returns-clause-before c =
-    front_passes (early (λ (o : Outer). o.time) c.args.time) c.args.lines.now c.partition_point.result
-    c.partition_point.ensures.bound (point c)
-
-pub returns-clause-since : goal.returns-clause-since
-returns-clause-since c =
-    rest_fails (early (λ (o : Outer). o.time) c.args.time) c.args.lines.now c.partition_point.result
-    c.partition_point.ensures.bound (point c)
+pub returns : goal.returns
+returns c =
+    let test = early (λ (o : Outer). o.time) c.args.time in
+    let lines = c.args.lines.now in
+    let count = c.partition_point.result in
+    let bound = c.partition_point.ensures.bound in
+    record {
+      count_within = bound;
+      front = front_passes test lines count bound (point c);
+      rest = rest_fails test lines count bound (point c);
+    }

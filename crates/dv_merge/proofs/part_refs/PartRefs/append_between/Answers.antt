@@ -10,7 +10,7 @@ pub returns : goal.returns
 returns g c =
     let kept = λ (e : Entry). not (is_before e.time c.args.from) in
     let early = sym (ap (take c.entries_before-count.result) c.entries.ensures)
-    ∙ c.entries_before-count.ensures.before ∙ ap (filter (λ (e : Entry). is_before e.time c.args.upto)) c.entries.ensures in
+    ∙ c.entries_before-count.ensures.front ∙ ap (filter (λ (e : Entry). is_before e.time c.args.upto)) c.entries.ensures in
     let entries = c.in_ok-push_lines.ensures
     ∙ ap₂ (λ (a b : List Entry). a ++ b) (ap (λ (p : PartOf). p.entries) c.self.view_is) (ap (filter kept) early) in
     let copied : c.in_ok-outer.outer.items ≡ c.lines_between.result.now = search rules in
