@@ -1,4 +1,4 @@
--- What a reader believes: what it is to put a text into a room, and the words of a component.
+-- What a reader has to believe: what it means to put a text into a slice, and the words of a component.
 pub mod Records
 pub mod Rooms
 pub mod Words

@@ -6,7 +6,7 @@ use Rattle.dv_lines.specs.declared.pieces.Word.{Word}
 use Rattle.dv_lines.specs.declared.words.Row.{Row}
 use Rattle.dv_lines.specs.declared.words.Words.{Words}
 
--- a blank, a name, and what stands behind it
+-- a blank, a name, and what follows it
 abbrev pub with_ends : List ℕ → List ℕ → List ℕ
 with_ends last name = (32 ∷ name) ++ last
 
@@ -41,11 +41,11 @@ no_words = record { path = 32 ∷ 32 ∷ []; phases = []; variables = []; output
 abbrev pub words_at : List WordTexts → ℕ → WordTexts
 words_at all k = unwrap_or (slice_get all k) no_words
 
--- bytes that begin with those of before
+-- bytes that begin with others
 abbrev pub Extends : List ℕ → List ℕ → Type 0
 Extends old new = take (length old) new ≡ old
 
--- a word that lies among the bytes
+-- a word within bytes
 abbrev pub IsWord : List ℕ → Word → List ℕ → Type 0
 IsWord bytes w text = (w.start + w.length ≤ length bytes) × (word_text bytes w ≡ text)
 

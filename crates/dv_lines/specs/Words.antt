@@ -1,4 +1,4 @@
--- The words by which a component is written: each name with what stands around it in a line.
+-- The words of a component: each name with the signs around it in a line.
 use Rattle.std.specs.Prelude.{ℕ, nat_eq, Bool, true, false, if◌then◌else◌, List, [], ◌∷◌, ◌++◌}
 use Rattle.std.specs.Prelude.{map, take, drop, slice_get, unwrap_or, codes}
 use Rattle.std.specs.List.{flat_map}
@@ -14,17 +14,17 @@ use Rattle.dv_text.specs.Texts.{datum_text, values_text}
 use Rattle.dv_lines.specs.declared.pieces.Word.{Word}
 use Rattle.dv_lines.specs.declared.line.ComponentWords.{ComponentWords}
 
--- a word among bytes
+-- the bytes of a word
 abbrev pub word_text : List ℕ → Word → List ℕ
 word_text bytes w = take w.length (drop w.start bytes)
 
--- each variable behind its word
+-- each variable after its word
 abbrev pub variables_words : List (List ℕ) → List Datum → List ℕ
 variables_words words [] = []
 variables_words [] (d ∷ rest) = []
 variables_words (w ∷ words) (d ∷ rest) = w ++ (datum_text d ++ variables_words words rest)
 
--- the values of a port behind its word, where there are some
+-- the values of a port after its word, if there are some
 abbrev pub port_words : List ℕ → Counts → List ℕ
 port_words word b = if nat_eq (size b) 0 then [] else word ++ values_text b
 
@@ -39,7 +39,7 @@ has_some words [] = false
 has_some [] (b ∷ bags) = false
 has_some (w ∷ words) (b ∷ bags) = if nat_eq (size b) 0 then has_some words bags else true
 
--- ` >` and what was sent, where something was
+-- ` >` and what was sent, if something was
 abbrev pub sent_words : List (List ℕ) → List Counts → List ℕ
 sent_words words bags = if has_some words bags then 32 ∷ 62 ∷ ports_words words bags else []
 
@@ -54,7 +54,7 @@ pub record WordTexts : Type 0 where
   pub variables : List (List ℕ)
   pub outputs : List (List ℕ)
 
--- those that the code looked up
+-- the words of the code
 abbrev pub words_found : ComponentWords → WordTexts
 words_found w = record {
   path = word_text w.bytes.now w.path;

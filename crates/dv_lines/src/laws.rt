@@ -1,5 +1,4 @@
-//! Laws of the text of a part to which lines are put. Each function stands for the law in its contract; its body only names
-//! those that it rests on.
+//! Laws of the text of a part that grows. Each function states a law in its contract.
 
 ghost use Rattle.std.specs.Prelude.{◌≡◌, ℕ, true, false, [], ◌∷◌, ◌++◌, List, map};
 ghost use Rattle.std.specs.List.{All};
@@ -16,8 +15,8 @@ ghost use Rattle.dv_lines.specs.Tables.{decorated, with_ends, words_at};
 ghost use Rattle.dv_record.specs.Told.{lines_from};
 ghost use Rattle.dv_lines.specs.Words.{line_words, port_words};
 
-/// The text of a part with one more entry is the text of the part and then the line of the entry, where nothing left at the
-/// time of the entry or later.
+/// One more entry adds its line to the text of a part, if nothing left the model at the time of the
+/// entry or later.
 pub fn a_line_is_appended()
     ensures { (all : List ComponentNames) (outputs : List (List ℕ)) → (p : PartOf) (e : Entry)
         → IsByTime p → IsByTime (record p { entries = p.entries ++ e ∷ [] })
@@ -26,8 +25,8 @@ pub fn a_line_is_appended()
         ≡ part_text all outputs p ++ entry_text (names_at all e.component) e }
 {}
 
-/// The text of a part with what leaves at a time is the text of the part and then the line of what leaves, where no entry
-/// is later and nothing left at that time or later.
+/// What leaves at a time adds an output line to the text of a part, if no entry is later and
+/// nothing left at that time or later.
 pub fn what_leaves_is_appended()
     ensures { (all : List ComponentNames) (outputs : List (List ℕ))
         → (p : PartOf) (t : Time) (os : List Outer)
@@ -39,7 +38,8 @@ pub fn what_leaves_is_appended()
         ≡ part_text all outputs p ++ outers_text outputs t os }
 {}
 
-/// The line by the words of the names is the line by the names, of each component; and so is what leaves at a port.
+/// A line made of the words for names is the line with these names. The same holds for a port of an
+/// output line.
 pub fn words_say_the_names()
     ensures entry { (all : List ComponentNames) (e : Entry)
         → line_words (words_at (map decorated all) e.component) e.time e.what e.sent
@@ -48,7 +48,7 @@ pub fn words_say_the_names()
         → port_words (with_ends (58 ∷ []) (name_at outputs k)) b ≡ port_text (name_at outputs k) b }
 {}
 
-/// What leaves at the time of an instant is what leaves at that instant in the run of a network.
+/// The output lines of a time are those of the instant at that time in the run of a network.
 pub fn what_leaves_is_of_the_instant()
     ensures { (limit n port : ℕ) (bags : List Counts)
         → lines_from (time_of limit n) port bags ≡ outer_from limit n port bags }

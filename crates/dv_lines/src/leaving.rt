@@ -1,4 +1,4 @@
-//! What leaves at a time, told to lines by the words of a tree.
+//! Output lines, by the words of a tree.
 
 ghost use Rattle.std.specs.Prelude.{◌≡◌, ◌++◌, ◌∷◌, [], ℕ, List, map, OnOk, OnErr};
 ghost use Rattle.std.specs.List.{flat_map};
@@ -13,11 +13,12 @@ use dv_bag::{Bags, PortBag};
 use dv_time::Time;
 use std::alloc::AllocError;
 
-/// The line of what leaves the model at a time, port after port, where something does.
+/// Appends the output line of a time, with all ports at which values left. If nothing left, there
+/// is no line.
 ///
 /// # Errors
 ///
-/// No memory for it. All is as before.
+/// No memory for it. The lines are as before.
 pub fn all_left(
     lines: &mut Lines,
     words: &Words,
@@ -44,7 +45,7 @@ pub fn all_left(
     }
 }
 
-// The line of the bags with values.
+// Appends the output line of the bags with values.
 fn line_left(
     lines: &mut Lines,
     words: &Words,
@@ -60,7 +61,7 @@ fn line_left(
     lines.end_left()
 }
 
-// Each port with its values.
+// Appends each port with its values.
 fn ports_left(lines: &mut Lines, words: &Words, bags: &[PortBag]) -> Result<(), AllocError>
     ensures more { Extends lines.old lines.new }
     ensures ok { OnOk result (lines.new ≡ lines.old
@@ -72,7 +73,7 @@ fn ports_left(lines: &mut Lines, words: &Words, bags: &[PortBag]) -> Result<(), 
     Ok(())
 }
 
-// A port with its values.
+// Appends a port with its values.
 fn port_left(lines: &mut Lines, words: &Words, held: &PortBag) -> Result<(), AllocError>
     ensures ok { OnOk result (lines.new ≡ lines.old
         ++ held_words (ports_found words.now) held.now) }

@@ -1,4 +1,4 @@
-//! What happens, told to lines by the words of a tree: each line as it stands in the text of the trace.
+//! The lines of entries, by the words of a tree.
 
 ghost use Rattle.std.specs.Prelude.{◌≡◌, ◌++◌, List, map, OnOk, OnErr};
 ghost use Rattle.dv_bag.specs.declared.entry.What.TheVariants as what;
@@ -13,11 +13,11 @@ use dv_bag::{Fault, Kind, Sent, State};
 use dv_time::Time;
 use std::alloc::AllocError;
 
-/// The line of a transition of a component, with the state after it.
+/// Appends the line of a transition of a component, with the state after it and what it sent.
 ///
 /// # Errors
 ///
-/// No memory for it. All is as before.
+/// No memory for it. The lines are as before.
 #[inline(always)]
 pub fn transition(
     lines: &mut Lines,
@@ -33,15 +33,16 @@ pub fn transition(
         (entry now component (what.Transition kind state.now) sent.now)) }
     ensures err { OnErr result (lines.new ≡ lines.old) }
 {
+    // For the prover alone.
     words_say_the_names();
     lines.transition(&words.component(component), now, kind, state, sent)
 }
 
-/// The line of a fault of a component.
+/// Appends the line of a fault of a component, with what it sent.
 ///
 /// # Errors
 ///
-/// No memory for it. All is as before.
+/// No memory for it. The lines are as before.
 pub fn faulted(
     lines: &mut Lines,
     words: &Words,
@@ -55,6 +56,7 @@ pub fn faulted(
         (entry now component (what.Fault fault) sent.now)) }
     ensures err { OnErr result (lines.new ≡ lines.old) }
 {
+    // For the prover alone.
     words_say_the_names();
     lines.faulted(&words.component(component), now, fault, sent)
 }

@@ -1,4 +1,4 @@
-//! A trace written as text, part by part, with the words of a tree.
+//! Writes a trace as text, part by part.
 
 ghost use Rattle.std.specs.Prelude.{◌≡◌, ◌++◌, ◌-◌, ◌≤◌, length, OnErr, OnOk, IfOk};
 ghost use Rattle.std.specs.Io.KnownBytes.{Appends};
@@ -27,10 +27,10 @@ use std::alloc::{AllocError, Global};
 use std::io::Write;
 use std::marker::{Brand, Model, PhantomData};
 
-// How many bytes are put together before the writer gets them.
+// How many bytes are collected before they are written.
 const PIECE_LENGTH: usize = 65_536;
 
-/// What writes a trace as text, part by part, with the words of a tree. One buffer serves all parts.
+/// Writes a trace as text, part by part, with the words of a tree. One buffer serves all parts.
 #[derive(Drop)]
 pub struct TraceWriter<'t, N: OfJob> {
     words: TreeWords<'t>,
@@ -55,8 +55,8 @@ impl<'t, N: OfJob> Model for TraceWriter<'t, N> {
 }
 
 impl<'t, N: OfJob> TraceWriter<'t, N> {
-    /// With the words of the tree that these words are of, for a job whose entries print the lines with the names of the tree. It has
-    /// words of its own, so it may be used beside records that share these.
+    /// A writer for the tree of `words`, for a job whose entries print the lines with the names of
+    /// the tree. It looks up words of its own, so it may be used beside records that share `words`.
     ///
     /// # Errors
     ///
@@ -72,20 +72,20 @@ impl<'t, N: OfJob> TraceWriter<'t, N> {
         })
     }
 
-    /// The tree whose names it writes.
+    /// The tree.
     pub fn tree(&self) -> &'t Tree<'t>
         ensures { result.now ≡ self.now }
     {
         self.words.tree()
     }
 
-    /// Writes the lines of a part of a trace that stands by time. All of them are with the writer afterwards. A write
-    /// that failed is not tried again.
+    /// Writes the text of a part that is in order by time. All of it has been passed to `writer`
+    /// afterwards. A write that failed is not tried again.
     ///
     /// # Errors
     ///
-    /// `WriteError::Write` where a write failed or took nothing, `WriteError::Memory` where memory was refused. A
-    /// beginning of the lines was written then, and what was not written is forgotten.
+    /// `WriteError::Write` if a write failed or took nothing, `WriteError::Memory` if memory was
+    /// refused. A beginning of the text was written, and the rest is lost.
     pub fn part<W: Write>(
         &mut self,
         part: &PartRefs<'_, N>,
@@ -103,13 +103,13 @@ impl<'t, N: OfJob> TraceWriter<'t, N> {
     }
 }
 
-/// Writes the text of a trace that stands by time and reaches the horizon, which is in ticks. A write that failed is not
-/// tried again.
+/// Writes the text of a trace that is in order by time and reaches the horizon, which is in ticks.
+/// A write that failed is not tried again.
 ///
 /// # Errors
 ///
-/// `WriteError::Write` where a write failed or took nothing, `WriteError::Memory` where memory was refused. A
-/// beginning of the text was written then, and not all of it.
+/// `WriteError::Write` if a write failed or took nothing, `WriteError::Memory` if memory was
+/// refused. A beginning of the text was written, but not all of it.
 pub fn write_trace<W: Write>(
     alloc: Global,
     trace: &Trace,
@@ -131,7 +131,8 @@ pub fn write_trace<W: Write>(
     write_ending(alloc, &Ending::Whole(horizon), writer)
 }
 
-// Writes the lines of a trace that stands by time. No parameter has the job in its type, so a caller can choose how entries are printed.
+// Writes the lines of a trace that is in order by time. The job is in no parameter, so the caller
+// chooses it.
 fn write_lines<N: OfJob, W: Write>(
     alloc: Global,
     trace: &Trace,
@@ -177,7 +178,7 @@ fn write_merged<N: OfJob, W: Write>(
     hand_over(writer, lines.as_bytes())
 }
 
-// Gives a writer the lines so far, once there is a piece of them.
+// Writes the lines so far if they are long enough.
 fn hand_over_if_long<W: Write>(lines: &mut Lines, writer: &mut W) -> Result<(), WriteError>
     ensures ok { OnOk result (TakesFront (W.contents writer.old) (W.contents writer.new)
         lines.old lines.new) }
@@ -191,7 +192,7 @@ fn hand_over_if_long<W: Write>(lines: &mut Lines, writer: &mut W) -> Result<(), 
     Ok(())
 }
 
-// The lines of what left before a time. What left from then on is returned.
+// Writes the output lines before a time. Returns the rest of them.
 fn write_before<'o, W: Write>(
     lines: &mut Lines,
     writer: &mut W,
@@ -217,7 +218,7 @@ fn write_before<'o, W: Write>(
     Ok(rest)
 }
 
-// The lines of all that left.
+// Writes all output lines.
 fn write_groups<W: Write>(
     lines: &mut Lines,
     writer: &mut W,
@@ -245,7 +246,7 @@ fn is_same(first: Time, second: Time) -> bool
     first == second
 }
 
-// The line of what left first, all at one time, behind those that are there. What left later is returned.
+// Appends the output line of the first time. Returns what left later.
 fn put_group<'o>(
     lines: &mut Lines,
     words: &TreeWords,

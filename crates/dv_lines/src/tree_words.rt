@@ -1,4 +1,4 @@
-//! The words of a tree, by which entries and what leaves are put into lines.
+//! The words of a tree, and the lines of entries by them.
 
 ghost use Rattle.std.specs.Prelude.{◌≡◌, ◌++◌, IfOk, OnErr, OnOk};
 ghost use Rattle.dv_tree.specs.Paths.{name_at};
@@ -18,7 +18,7 @@ use dv_written::OfJob;
 use std::alloc::{AllocError, Global};
 use std::marker::Model;
 
-/// The words of a tree. A contract reads the tree.
+/// A tree with its words. A contract reads the tree.
 #[derive(Drop)]
 pub struct TreeWords<'t> {
     tree: &'t Tree<'t>,
@@ -43,7 +43,7 @@ impl<'t> Model for TreeWords<'t> {
 }
 
 impl<'t> TreeWords<'t> {
-    /// The words of a tree, looked up once.
+    /// Looks up the words of a tree.
     ///
     /// # Errors
     ///
@@ -55,26 +55,28 @@ impl<'t> TreeWords<'t> {
         Ok(TreeWords { tree, words })
     }
 
-    /// The tree whose words they are.
+    /// The tree.
     pub fn tree(&self) -> &'t Tree<'t>
         ensures { result.now ≡ self.now }
     {
         self.tree
     }
 
-    /// What makes records by these words, for a job whose entries print the lines with the names of the tree.
+    /// Makes records that share these words, for a job whose entries print the lines with the names
+    /// of the tree.
     pub fn records<N: OfJob>(&self) -> WrittenRecords<'_, N>
         requires { (e : MeantEntry) → line_of (tree_names self.now) e ≡ N.line e }
     {
+        // For the prover alone.
         words_say_the_names();
         WrittenRecords::new(&self.words)
     }
 
-    /// The line of an entry, behind those that are there.
+    /// Appends the line of an entry.
     ///
     /// # Errors
     ///
-    /// No memory for it. All is as before.
+    /// No memory for it. The lines are as before.
     pub fn put_entry(&self, lines: &mut Lines, entry: &Entry) -> Result<(), AllocError>
         ensures ok { OnOk result (lines.new ≡ lines.old
             ++ entry_text (names_at (tree_names self.now) entry.now.component) entry.now) }
@@ -90,16 +92,17 @@ impl<'t> TreeWords<'t> {
         }
     }
 
-    /// What leaves at a port, in the line of what leaves at its time.
+    /// Appends what left at a port to an output line.
     ///
     /// # Errors
     ///
-    /// No memory for it. All is as before.
+    /// No memory for it. The lines are as before.
     pub fn put_port(&self, lines: &mut Lines, port: u32, values: &Bag) -> Result<(), AllocError>
         ensures ok { OnOk result (lines.new ≡ lines.old
             ++ port_text (name_at (tree_ports self.now) port) values.now) }
         ensures err { OnErr result (lines.new ≡ lines.old) }
     {
+        // For the prover alone.
         words_say_the_names();
         let (bytes, word) = self.words.port(port as usize);
         lines.left(bytes, word, values)

@@ -1,4 +1,5 @@
-//! Values, what a state holds, and what was sent, put into a room of bytes from an index on.
+//! Values, state variables, and what was sent, put into a slice of bytes from an index on. Calls
+//! return what those of `pieces` do.
 
 ghost use Rattle.std.specs.Prelude.{◌≡◌, ◌≤◌, ◌<◌, ◌++◌, ◌∷◌, [], if◌then◌else◌, true, length, map, replicate, IfSome};
 ghost use Rattle.std.specs.Fmt.{signed_decimal};
@@ -16,7 +17,7 @@ use crate::pieces::{Word, put_byte, put_bytes, put_number, put_word};
 use dv_bag::sent::Sending;
 use dv_bag::{Bag, Collection, DatumView, Queue, Sent, Variables};
 
-// A value, with a comma before it unless it is the first.
+// Puts a value, with a comma before it unless it is the first.
 #[inline(always)]
 fn put_value(to: &mut [u8], at: usize, is_first: bool, value: i64) -> Option<usize>
     requires { at ≤ length to.old }
@@ -31,7 +32,7 @@ fn put_value(to: &mut [u8], at: usize, is_first: bool, value: i64) -> Option<usi
     put_number(to, at, value)
 }
 
-// Copies of a value, with a comma before each but the first of all.
+// Puts copies of a value, with a comma before each of them, except before the first of all values.
 #[inline(always)]
 fn put_copies(to: &mut [u8], at: usize, is_first: bool, value: i64, copies: u64) -> Option<usize>
     requires { at ≤ length to.old }
@@ -48,7 +49,8 @@ fn put_copies(to: &mut [u8], at: usize, is_first: bool, value: i64, copies: u64)
     Some(at)
 }
 
-/// The values of a bag in ascending order, with commas between them, each as often as it has copies.
+/// Puts the values of a bag in ascending order, with commas between them. Each occurs as often as
+/// it has copies.
 pub fn put_values(to: &mut [u8], at: usize, values: &Bag) -> Option<usize>
     requires { at ≤ length to.old }
     ensures size { length to.new ≡ length to.old }
@@ -63,7 +65,7 @@ pub fn put_values(to: &mut [u8], at: usize, values: &Bag) -> Option<usize>
     Some(at)
 }
 
-/// The values of a queue from the first to the last, with commas between them.
+/// Puts the values of a queue from the first to the last, with commas between them.
 pub fn put_queue(to: &mut [u8], at: usize, values: &Queue) -> Option<usize>
     requires { at ≤ length to.old }
     ensures size { length to.new ≡ length to.old }
@@ -81,7 +83,7 @@ pub fn put_queue(to: &mut [u8], at: usize, values: &Queue) -> Option<usize>
     Some(at)
 }
 
-// The values of a bag or a queue where they lie, with commas between them.
+// Puts the values of a bag or a queue, with commas between them.
 fn put_collection(to: &mut [u8], at: usize, held: &Collection) -> Option<usize>
     requires { at ≤ length to.old }
     ensures size { length to.new ≡ length to.old }
@@ -94,7 +96,7 @@ fn put_collection(to: &mut [u8], at: usize, held: &Collection) -> Option<usize>
     }
 }
 
-// A bag or a queue in brackets.
+// Puts a bag or a queue in brackets.
 fn put_held(to: &mut [u8], at: usize, held: &Collection) -> Option<usize>
     requires { at ≤ length to.old }
     ensures size { length to.new ≡ length to.old }
@@ -106,7 +108,7 @@ fn put_held(to: &mut [u8], at: usize, held: &Collection) -> Option<usize>
     put_byte(to, at, b']')
 }
 
-/// What a state variable holds: a number, a truth value, or a bag or a queue in brackets.
+/// Puts what a state variable holds: a number, `true` or `false`, or a bag or a queue in brackets.
 #[inline(always)]
 pub fn put_datum(to: &mut [u8], at: usize, datum: DatumView) -> Option<usize>
     requires { at ≤ length to.old }
@@ -122,7 +124,7 @@ pub fn put_datum(to: &mut [u8], at: usize, datum: DatumView) -> Option<usize>
     }
 }
 
-/// The variables of a state, each behind its word.
+/// Puts the variables of a state, each after its word.
 #[inline(always)]
 pub fn put_variables(
     to: &mut [u8],
@@ -147,7 +149,7 @@ pub fn put_variables(
     Some(at)
 }
 
-// The values that went to the port of the first of these.
+// Puts the values that were sent at a port, which come first in `sendings`.
 #[inline(always)]
 fn put_sendings(to: &mut [u8], at: usize, sendings: &[Sending], port: usize) -> Option<usize>
     requires at { at ≤ length to.old }
@@ -169,7 +171,7 @@ fn put_sendings(to: &mut [u8], at: usize, sendings: &[Sending], port: usize) -> 
     Some(at)
 }
 
-/// What was sent: each port at which something was, behind its word.
+/// Puts what was sent: ` >`, and each port at which something was sent with its values.
 #[inline(always)]
 pub fn put_sent(
     to: &mut [u8],
@@ -191,7 +193,7 @@ pub fn put_sent(
     let mut next = 0;
     let sendings = sent.as_slice();
     for (index, sending) in sendings.iter().enumerate() {
-        // A port is written with the first value that went there.
+        // The first value of a port writes all values of the port.
         if sending.port >= next {
             let Some(word) = words.get(sending.port) else {
                 return Some(at);
@@ -212,7 +214,7 @@ pub fn put_sent(
     Some(at)
 }
 
-// A port with its values, and the ` >` before it if it is the first.
+// Puts a port with its values, and ` >` before it if it is the first.
 #[inline(always)]
 fn put_port(
     to: &mut [u8],

@@ -14,7 +14,7 @@ use crate::pieces::Word;
 use dv_tree::Tree;
 use std::alloc::{AllocError, Global};
 
-/// The words of a component.
+// The words of a component, within the bytes of `Words`.
 #[derive(Drop)]
 struct Row {
     path: Word,
@@ -23,7 +23,8 @@ struct Row {
     outputs: Vec<Word>,
 }
 
-/// The words of all components of a tree, and of what leaves.
+/// The words of all components of a tree, and of the output ports of its root. Their bytes are in
+/// one vector.
 #[derive(Drop)]
 pub struct Words {
     bytes: Vec<u8>,
@@ -32,7 +33,7 @@ pub struct Words {
 }
 
 impl Words {
-    /// The words of a tree.
+    /// Looks up the words of a tree.
     ///
     /// # Errors
     ///
@@ -59,7 +60,8 @@ impl Words {
         })
     }
 
-    /// The words of a component. A number that no component has goes by an empty path and no names.
+    /// The words of a component. If there is no component of this number, it has an empty path and
+    /// no names.
     #[inline(always)]
     pub fn component(&self, component: u32) -> ComponentWords<'_>
         ensures { words_found result ≡ words_at (rows_found self.now) component }
@@ -85,7 +87,7 @@ impl Words {
         }
     }
 
-    /// The word of an output port of the root, and the bytes among which it lies.
+    /// The word of an output port of the root, with the bytes that it is in.
     pub fn port(&self, port: usize) -> (&[u8], Word)
         ensures { word_text result.0.now result.1 ≡ port_at (ports_found self.now) port }
     {
@@ -102,7 +104,7 @@ impl Words {
     }
 }
 
-// A word for a name: a blank, the name, and what stands behind it.
+// Appends a word: a blank, the name, and `last`.
 fn push_word(bytes: &mut Vec<u8>, name: &str, last: &[u8]) -> Result<Word, AllocError>
     ensures more { OnOk result (Extends bytes.old.items bytes.new.items) }
     ensures word { IfOk result (λ word. IsWord bytes.new.items word
@@ -118,7 +120,7 @@ fn push_word(bytes: &mut Vec<u8>, name: &str, last: &[u8]) -> Result<Word, Alloc
     })
 }
 
-// The words for names that stand as numbers.
+// Appends a word for each name, given by the number of the name in the tree.
 fn push_words(
     alloc: Global,
     bytes: &mut Vec<u8>,
@@ -137,7 +139,7 @@ fn push_words(
     Ok(words)
 }
 
-// The words of a component.
+// Appends the words of a component.
 fn row_of(
     alloc: Global,
     bytes: &mut Vec<u8>,

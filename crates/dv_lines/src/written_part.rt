@@ -1,4 +1,4 @@
-//! A part of a trace as written entries.
+//! A part of a trace with its entries as lines.
 
 ghost use Rattle.std.specs.Prelude.{◌≡◌, ◌++◌, [], ◌∷◌, IfOk, OnOk};
 ghost use Rattle.dv_bag.specs.declared.entry.Entry.{Entry as MeantEntry};
@@ -11,7 +11,7 @@ use dv_bag::{Entry, Part, What};
 use dv_written::{OfJob, WrittenPart};
 use std::alloc::{AllocError, Global};
 
-/// A part with its entries written by the words of a tree.
+/// Makes the lines of the entries of a part, by the words of a tree.
 ///
 /// # Errors
 ///
@@ -31,7 +31,7 @@ pub(crate) fn written_part<N: OfJob>(
     Ok(written)
 }
 
-// The entries of a part, written by the words of a tree, without what left.
+// Makes the lines of the entries of a part, without its output lines.
 fn written_entries<N: OfJob>(
     alloc: Global,
     part: &Part,
@@ -49,7 +49,7 @@ fn written_entries<N: OfJob>(
     Ok(written)
 }
 
-// One more entry, written by the words of a tree. Its line is put among the lines first, in place of what stood there.
+// Appends an entry. Its line is made in `lines`, whose content is replaced.
 fn push_entry<N: OfJob>(
     written: &mut WrittenPart<N>,
     entry: &Entry,

@@ -1,4 +1,4 @@
-//! A record of a run as written entries, by words that many records share.
+//! A record that keeps entries as lines, and what makes such records.
 
 ghost use Rattle.std.specs.Prelude.{◌≡◌, ◌≤◌, ◌^◌, List, OnErr, OnOk, length};
 ghost use Rattle.dv_bag.specs.declared.entry.Entry.{Entry};
@@ -17,13 +17,13 @@ use dv_written::{HandsOver, MakesRecord, OfJob, WrittenPart};
 use std::alloc::{AllocError, Global};
 use std::marker::{Model, PhantomData};
 
-// The room of a part from the start: mostly it is handed over before it has more.
+// The room of a part from the start. Most parts are handed over before they need more.
 const ENTRIES_AT_FIRST: usize = 512;
 
 const BYTES_AT_FIRST: usize = 16_384;
 
-/// Makes records whose entries are written by words. Records share the words, and may do so on different threads. A contract reads
-/// the words.
+/// Makes records that share the words of a tree. The records may be on different threads. A
+/// contract reads the words.
 #[derive(Drop)]
 pub struct WrittenRecords<'w, N: OfJob> {
     words: &'w Words,
@@ -45,7 +45,7 @@ impl<'w, N: OfJob> Model for WrittenRecords<'w, N> {
 }
 
 impl<'w, N: OfJob> WrittenRecords<'w, N> {
-    /// By these words.
+    /// Makes records that use these words.
     pub fn new(words: &'w Words) -> Self
         requires { (e : Entry) → line_by (rows_found words.now) e ≡ N.line e }
     {
@@ -55,7 +55,7 @@ impl<'w, N: OfJob> WrittenRecords<'w, N> {
         }
     }
 
-    // The line of a transition, in place of what stood among the lines.
+    // Makes the line of a transition. The content of `lines` is replaced.
     #[inline]
     fn put_transition(
         &self,
@@ -73,7 +73,7 @@ impl<'w, N: OfJob> WrittenRecords<'w, N> {
         lines.transition(&self.words.component(component), now, kind, state, sent)
     }
 
-    // The line of a fault, in place of what stood among the lines.
+    // Makes the line of a fault. The content of `lines` is replaced.
     fn put_fault(
         &self,
         lines: &mut Lines,
@@ -106,15 +106,15 @@ impl<'w, N: OfJob> MakesRecord<WrittenRecord<'w, N>> for WrittenRecords<'w, N> {
     }
 }
 
-/// What was told since the record handed over last is kept as a part of written entries. A contract reads all that was told, what of it
-/// is settled, and what was handed over.
+/// A record that keeps what it was told since it last handed over, with each entry as its line. A
+/// contract reads all that was told, what of it is settled, and what was handed over.
 #[derive(Drop)]
 pub struct WrittenRecord<'w, N: OfJob> {
     by: WrittenRecords<'w, N>,
-    // Where a line is put before it is kept.
+    // Where a line is made before it is kept.
     line: Lines,
     kept: WrittenPart<N>,
-    // How many entries and lines are settled.
+    // How many entries and output lines are settled.
     entries: usize,
     lines: usize,
     told: History,
@@ -222,7 +222,8 @@ impl<'w, N: OfJob> HandsOver<N> for WrittenRecord<'w, N> {
     }
 }
 
-// What left at a time, behind what is there: a line for each port with values. Where memory is refused, the part is as before.
+// Appends the output lines of a time: one for each port with values. If memory is refused, the part
+// is as before.
 fn push_left<N: OfJob>(
     part: &mut WrittenPart<N>,
     time: Time,
@@ -243,8 +244,7 @@ fn push_left<N: OfJob>(
     }
 }
 
-// The lines of what left at a time, behind those that are there: one for each port with values. Where memory is refused some may be
-// there.
+// Appends the output lines of a time. If memory is refused, some of them may have been appended.
 fn push_lines<N: OfJob>(
     part: &mut WrittenPart<N>,
     time: Time,
