@@ -1,4 +1,4 @@
-//! A record of a run as its text.
+//! A record that keeps the text of a trace.
 
 ghost use Rattle.std.specs.Prelude.{◌≡◌, IfOk};
 ghost use Rattle.dv_text.specs.Names.{tree_names, tree_ports};
@@ -16,8 +16,9 @@ use dv_tree::Tree;
 use std::alloc::{AllocError, Global};
 use std::marker::Model;
 
-/// What is told is put into lines of text at once, and only the bytes that were not handed over are in memory. A contract
-/// reads all that was told, what of it is settled, and what was handed over.
+/// A record that makes the line of each entry at once and keeps the text alone. Only the bytes that
+/// were not handed over are in memory. A contract reads all that was told, what of it is settled,
+/// and what was handed over.
 #[derive(Drop)]
 pub struct TextRecord<'t> {
     tree: &'t Tree<'t>,
@@ -25,7 +26,7 @@ pub struct TextRecord<'t> {
     lines: Lines,
     // How many bytes are settled.
     mark: usize,
-    // Whether a fault was told, and whether one is settled.
+    // Whether the record was told of a fault, and whether a fault is settled.
     faulted: bool,
     settled_faulted: bool,
     told: History,
@@ -36,39 +37,26 @@ pub struct TextRecord<'t> {
 impl<'t> Model for TextRecord<'t> {
     ghost use Rattle.std.specs.Prelude.{◌≡◌, ◌∷◌, [], map};
     ghost use Rattle.dv_text.specs.Names.{tree_names, tree_ports};
-    ghost use Rattle.dv_text.specs.Texts.{part_text};
-    ghost use Rattle.dv_lines.specs.Records.{IsText, Recorded};
+    ghost use Rattle.dv_lines.specs.Records.{IsText, Recorded, recorded};
     ghost use Rattle.dv_lines.specs.Tables.{decorated, ports_found, rows_found, with_ends};
     ghost use Rattle.dv_written.specs.Faults.{has_fault};
 
     ghost Value = { Recorded };
 
-    ghost view = { λ r. record {
-      names = tree_names r.tree.now;
-      outputs = tree_ports r.tree.now;
-      told = r.told.part;
-      settled = r.settled.part;
-      handed = part_text (tree_names r.tree.now) (tree_ports r.tree.now) r.handed.part;
-      bytes = r.lines;
-    } };
+    ghost view = { λ r. recorded (tree_names r.tree.now) (tree_ports r.tree.now)
+        r.told.part r.settled.part r.handed.part r.lines };
 
     ghost invariant = { λ r.
         (rows_found r.words ≡ map decorated (tree_names r.tree.now))
         × (ports_found r.words ≡ map (with_ends (58 ∷ [])) (tree_ports r.tree.now))
         × (r.faulted ≡ has_fault r.told.part)
         × (r.settled_faulted ≡ has_fault r.settled.part)
-        × IsText (record {
-          names = tree_names r.tree.now;
-          outputs = tree_ports r.tree.now;
-          told = r.told.part;
-          settled = r.settled.part;
-          handed = part_text (tree_names r.tree.now) (tree_ports r.tree.now) r.handed.part;
-          bytes = r.lines;
-        }) r.mark };
+        × IsText (recorded (tree_names r.tree.now) (tree_ports r.tree.now)
+        r.told.part r.settled.part r.handed.part r.lines) r.mark };
 }
 
 impl<'t> TextRecord<'t> {
-    /// A record with the names of this tree, to which nothing was told.
+    /// A record with the names of a tree, to which nothing was told.
     ///
     /// # Errors
     ///
