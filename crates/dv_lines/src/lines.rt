@@ -1,11 +1,11 @@
-//! Lines, one behind the other.
+//! The lines of a trace, one after the other.
 
 ghost use Rattle.std.specs.Prelude.{◌≡◌, ◌++◌, ◌∷◌, [], codes, length, take, OnOk, OnErr};
 ghost use Rattle.dv_time.specs.Time.{time_text};
 ghost use Rattle.dv_bag.specs.declared.entry.What.TheVariants as what;
 ghost use Rattle.dv_lines.specs.Words.{line_words, port_words, word_text, words_found};
 
-use crate::line::ComponentWords;
+use crate::line::{ComponentWords, FaultLine, OutFront, OutPort, Ready, TransitionLine};
 use crate::pieces::Word;
 use crate::room::Room;
 use crate::stamp::Stamp;
@@ -14,7 +14,8 @@ use dv_time::Time;
 use std::alloc::{AllocError, Global};
 use std::marker::Model;
 
-/// Lines, one behind the other, as bytes. The text of a time is made once for all lines of it that follow each other.
+/// Lines, one after the other, as bytes. The text of a time is made once for all lines in a row
+/// that have this time.
 #[derive(Drop)]
 pub struct Lines {
     room: Room,
@@ -40,7 +41,7 @@ impl Lines {
         }
     }
 
-    /// How many bytes there are.
+    /// The number of bytes.
     pub fn len(&self) -> usize
         ensures { result ≡ length self.now }
     {
@@ -54,25 +55,25 @@ impl Lines {
         self.room.as_bytes()
     }
 
-    /// All bytes go. The memory stays for what comes.
+    /// Removes all bytes. The memory is kept.
     pub fn clear(&mut self)
         ensures { self.new ≡ [] }
     {
         self.room.clear();
     }
 
-    /// What stands behind so many bytes goes.
+    /// Keeps the first `mark` bytes, or all if there are fewer.
     pub fn cut(&mut self, mark: usize)
         ensures { self.new ≡ take mark self.old }
     {
         self.room.cut(mark);
     }
 
-    /// The line of a transition, with the state after it.
+    /// Appends the line of a transition, with the state after it and what the component sent.
     ///
     /// # Errors
     ///
-    /// No memory for it. All is as before.
+    /// No memory for it. The lines are as before.
     #[inline(always)]
     pub fn transition(
         &mut self,
@@ -87,14 +88,21 @@ impl Lines {
         ensures err { OnErr result (self.new ≡ self.old) }
     {
         self.stamp.set(now);
-        self.room.happened(words, &self.stamp, kind, state, sent)
+        let line = TransitionLine {
+            words,
+            stamp: &self.stamp,
+            kind,
+            state,
+            sent,
+        };
+        self.room.append(&line)
     }
 
-    /// The line of a fault.
+    /// Appends the line of a fault, with what the component sent.
     ///
     /// # Errors
     ///
-    /// No memory for it. All is as before.
+    /// No memory for it. The lines are as before.
     pub fn faulted(
         &mut self,
         words: &ComponentWords,
@@ -107,57 +115,70 @@ impl Lines {
         ensures err { OnErr result (self.new ≡ self.old) }
     {
         self.stamp.set(now);
-        self.room.faulted(words, &self.stamp, fault, sent)
+        let line = FaultLine {
+            stamp: &self.stamp,
+            words,
+            fault,
+            sent,
+        };
+        self.room.append(&line)
     }
 
-    /// The front of the line of what leaves at a time. What leaves at each port comes next, and then the end.
+    /// Appends the front of an output line. Each port follows by `left`, and then the end by
+    /// `end_left`.
     ///
     /// # Errors
     ///
-    /// No memory for it. All is as before.
+    /// No memory for it. The lines are as before.
     pub fn begin_left(&mut self, now: Time) -> Result<(), AllocError>
         ensures ok { OnOk result (self.new ≡ self.old ++ (time_text now ++ codes " out")) }
         ensures err { OnErr result (self.new ≡ self.old) }
     {
         self.stamp.set(now);
-        self.room.begin_left(&self.stamp)
+        let front = OutFront { stamp: &self.stamp };
+        self.room.append(&front)
     }
 
-    /// What leaves at a port.
+    /// Appends what left at a port, if there are values.
     ///
     /// # Errors
     ///
-    /// No memory for it. All is as before.
+    /// No memory for it. The lines are as before.
     pub fn left(&mut self, bytes: &[u8], word: Word, values: &Bag) -> Result<(), AllocError>
         ensures ok { OnOk result (self.new ≡ self.old
             ++ port_words (word_text bytes.now word) values.now) }
         ensures err { OnErr result (self.new ≡ self.old) }
     {
-        self.room.left(bytes, word, values)
+        let port = OutPort {
+            bytes,
+            word,
+            values,
+        };
+        self.room.append(&port)
     }
 
-    /// A line that stands already, with its end.
+    /// Appends a line that was made before, with its end.
     ///
     /// # Errors
     ///
-    /// No memory for it. All is as before.
+    /// No memory for it. The lines are as before.
     #[inline]
     pub fn put(&mut self, line: &[u8]) -> Result<(), AllocError>
         ensures ok { OnOk result (self.new ≡ self.old ++ line.now) }
         ensures err { OnErr result (self.new ≡ self.old) }
     {
-        self.room.put(line)
+        self.room.append(&Ready { text: line })
     }
 
-    /// The end of the line of what leaves at a time.
+    /// Appends the end of an output line.
     ///
     /// # Errors
     ///
-    /// No memory for it. All is as before.
+    /// No memory for it. The lines are as before.
     pub fn end_left(&mut self) -> Result<(), AllocError>
         ensures ok { OnOk result (self.new ≡ self.old ++ 10 ∷ []) }
         ensures err { OnErr result (self.new ≡ self.old) }
     {
-        self.room.end_left()
+        self.room.append(&Ready { text: b"\n" })
     }
 }

@@ -1,19 +1,24 @@
-//! A room that grows, with texts in it one behind the other.
+//! A room that grows, with texts in it one after the other.
 
-ghost use Rattle.std.specs.Prelude.{◌≡◌, ◌≤◌, ◌++◌, ◌∷◌, [], codes, if◌then◌else◌, length, take, IfSome, OnOk, OnErr};
-ghost use Rattle.dv_time.specs.Time.{time_text};
-ghost use Rattle.dv_bag.specs.declared.entry.What.TheVariants as what;
+ghost use Rattle.std.specs.Prelude.{◌≡◌, ◌≤◌, ◌++◌, ℕ, List, [], if◌then◌else◌, length, take, IfSome, OnOk, OnErr};
 ghost use Rattle.dv_lines.specs.Rooms.{IsPut};
-ghost use Rattle.dv_lines.specs.Words.{line_words, port_words, word_text, words_found};
 
-use crate::line::{ComponentWords, put_fault, put_left, put_out, put_transition};
-use crate::pieces::{Word, put_byte, put_bytes};
-use crate::stamp::Stamp;
-use dv_bag::{Bag, Fault, Kind, Sent, State};
 use std::alloc::{AllocError, Global};
 use std::marker::Model;
 
-/// Texts, one behind the other, in a room that grows.
+/// A text that can be put into a slice of bytes.
+pub trait Text {
+    /// Its bytes.
+    ghost bytes: { Self → List ℕ };
+
+    /// Puts the text at the start of a slice. Returns the index after its last byte, or `None` if
+    /// the slice is too short. In that case the bytes of the slice mean nothing.
+    fn put(&self, to: &mut [u8]) -> Option<usize>
+        ensures size { length to.new ≡ length to.old }
+        ensures text { IfSome result (λ end. IsPut to.old 0 to.new end (bytes self.now)) };
+}
+
+/// Texts, one after the other, in a room that grows. A contract reads their bytes.
 #[derive(Drop)]
 pub struct Room {
     bytes: Vec<u8>,
@@ -30,11 +35,11 @@ impl Model for Room {
     ghost invariant = { λ r. r.at ≤ length r.bytes.items };
 }
 
-// A room is doubled no more often than that.
+// How often a room is doubled at most. After as many doublings any text would fit.
 const DOUBLINGS: u32 = 64;
 
 impl Room {
-    /// Nothing. It takes no memory.
+    /// An empty room. It takes no memory.
     pub fn new(alloc: Global) -> Self
         ensures { result ≡ [] }
     {
@@ -44,28 +49,28 @@ impl Room {
         }
     }
 
-    /// How many bytes there are.
+    /// The number of bytes that were put into it.
     pub fn len(&self) -> usize
         ensures { result ≡ length self.now }
     {
         self.at
     }
 
-    /// The bytes.
+    /// The bytes that were put into it.
     pub fn as_bytes(&self) -> &[u8]
         ensures { result.now ≡ self.now }
     {
         &self.bytes[..self.at]
     }
 
-    /// All bytes go. The memory stays for what comes.
+    /// Removes all bytes. The memory is kept.
     pub fn clear(&mut self)
         ensures { self.new ≡ [] }
     {
         self.at = 0;
     }
 
-    /// What stands behind so many bytes goes.
+    /// Keeps the first `mark` bytes, or all if there are fewer.
     pub fn cut(&mut self, mark: usize)
         ensures { self.new ≡ take mark self.old }
     {
@@ -74,7 +79,7 @@ impl Room {
         }
     }
 
-    // Twice the room, or a first one.
+    // Doubles the memory, or takes the first memory.
     fn grow(&mut self) -> Result<(), AllocError>
         ensures { self.new ≡ self.old }
     {
@@ -83,27 +88,18 @@ impl Room {
             .resize(length.saturating_add(length.max(4096)), 0)
     }
 
-    /// The line of a transition, with the state after it.
+    /// Appends a text.
     ///
     /// # Errors
     ///
-    /// No memory for it. All is as before.
+    /// No memory for it. The room has the same bytes as before.
     #[inline(always)]
-    pub fn happened(
-        &mut self,
-        words: &ComponentWords,
-        stamp: &Stamp,
-        kind: Kind,
-        state: &State,
-        sent: &Sent,
-    ) -> Result<(), AllocError>
-        ensures ok { OnOk result (self.new ≡ self.old
-            ++ line_words (words_found words.now) stamp.now
-            (what.Transition kind state.now) sent.now) }
+    pub fn append<T: Text>(&mut self, text: &T) -> Result<(), AllocError>
+        ensures ok { OnOk result (self.new ≡ self.old ++ T.bytes text.now) }
         ensures err { OnErr result (self.new ≡ self.old) }
     {
         for _doubling in 0..DOUBLINGS {
-            if self.try_transition(words, stamp, kind, state, sent) {
+            if self.try_append(text) {
                 return Ok(());
             }
             self.grow()?;
@@ -111,210 +107,13 @@ impl Room {
         Err(AllocError)
     }
 
-    /// The line of a fault.
-    ///
-    /// # Errors
-    ///
-    /// No memory for it. All is as before.
-    pub fn faulted(
-        &mut self,
-        words: &ComponentWords,
-        stamp: &Stamp,
-        fault: Fault,
-        sent: &Sent,
-    ) -> Result<(), AllocError>
-        ensures ok { OnOk result (self.new ≡ self.old
-            ++ line_words (words_found words.now) stamp.now (what.Fault fault) sent.now) }
-        ensures err { OnErr result (self.new ≡ self.old) }
-    {
-        for _doubling in 0..DOUBLINGS {
-            if self.try_fault(words, stamp, fault, sent) {
-                return Ok(());
-            }
-            self.grow()?;
-        }
-        Err(AllocError)
-    }
-
-    /// The front of the line of what leaves at a time. What leaves at each port comes next, and then the end.
-    ///
-    /// # Errors
-    ///
-    /// No memory for it. All is as before.
-    pub fn begin_left(&mut self, stamp: &Stamp) -> Result<(), AllocError>
-        ensures ok { OnOk result (self.new ≡ self.old ++ (time_text stamp.now ++ codes " out")) }
-        ensures err { OnErr result (self.new ≡ self.old) }
-    {
-        for _doubling in 0..DOUBLINGS {
-            if self.try_out(stamp) {
-                return Ok(());
-            }
-            self.grow()?;
-        }
-        Err(AllocError)
-    }
-
-    /// What leaves at a port.
-    ///
-    /// # Errors
-    ///
-    /// No memory for it. All is as before.
-    pub fn left(&mut self, bytes: &[u8], word: Word, values: &Bag) -> Result<(), AllocError>
-        ensures ok { OnOk result (self.new ≡ self.old
-            ++ port_words (word_text bytes.now word) values.now) }
-        ensures err { OnErr result (self.new ≡ self.old) }
-    {
-        for _doubling in 0..DOUBLINGS {
-            if self.try_left(bytes, word, values) {
-                return Ok(());
-            }
-            self.grow()?;
-        }
-        Err(AllocError)
-    }
-
-    /// A text, as it is.
-    ///
-    /// # Errors
-    ///
-    /// No memory for it. All is as before.
-    pub fn put(&mut self, text: &[u8]) -> Result<(), AllocError>
-        ensures ok { OnOk result (self.new ≡ self.old ++ text.now) }
-        ensures err { OnErr result (self.new ≡ self.old) }
-    {
-        for _doubling in 0..DOUBLINGS {
-            if self.try_text(text) {
-                return Ok(());
-            }
-            self.grow()?;
-        }
-        Err(AllocError)
-    }
-
-    /// The end of the line of what leaves at a time.
-    ///
-    /// # Errors
-    ///
-    /// No memory for it. All is as before.
-    pub fn end_left(&mut self) -> Result<(), AllocError>
-        ensures ok { OnOk result (self.new ≡ self.old ++ 10 ∷ []) }
-        ensures err { OnErr result (self.new ≡ self.old) }
-    {
-        for _doubling in 0..DOUBLINGS {
-            if self.try_end() {
-                return Ok(());
-            }
-            self.grow()?;
-        }
-        Err(AllocError)
-    }
-
-    // The line, if there is room for it.
-    fn try_fault(
-        &mut self,
-        words: &ComponentWords,
-        stamp: &Stamp,
-        fault: Fault,
-        sent: &Sent,
-    ) -> bool
-        ensures { self.new ≡ (if result then self.old
-            ++ line_words (words_found words.now) stamp.now (what.Fault fault) sent.now
-            else self.old) }
-    {
-        match put_fault_behind(
-            self.bytes.as_mut_slice(),
-            self.at,
-            words,
-            stamp,
-            fault,
-            sent,
-        ) {
-            Some(end) => {
-                self.at = end;
-                true
-            }
-            None => false,
-        }
-    }
-
-    // The front of a line, if there is room for it.
-    fn try_out(&mut self, stamp: &Stamp) -> bool
-        ensures { self.new ≡ (if result
-            then self.old ++ (time_text stamp.now ++ codes " out") else self.old) }
-    {
-        match put_out_behind(self.bytes.as_mut_slice(), self.at, stamp) {
-            Some(end) => {
-                self.at = end;
-                true
-            }
-            None => false,
-        }
-    }
-
-    // What leaves at a port, if there is room for it.
-    fn try_left(&mut self, bytes: &[u8], word: Word, values: &Bag) -> bool
-        ensures { self.new ≡ (if result then self.old
-            ++ port_words (word_text bytes.now word) values.now else self.old) }
-    {
-        match put_left_behind(self.bytes.as_mut_slice(), self.at, bytes, word, values) {
-            Some(end) => {
-                self.at = end;
-                true
-            }
-            None => false,
-        }
-    }
-
-    // A text, if there is room for it.
-    fn try_text(&mut self, text: &[u8]) -> bool
-        ensures { self.new ≡ (if result then self.old ++ text.now else self.old) }
-    {
-        match put_text_behind(self.bytes.as_mut_slice(), self.at, text) {
-            Some(end) => {
-                self.at = end;
-                true
-            }
-            None => false,
-        }
-    }
-
-    // The end of a line, if there is room for it.
-    fn try_end(&mut self) -> bool
-        ensures { self.new ≡ (if result then self.old ++ 10 ∷ [] else self.old) }
-    {
-        match put_end_behind(self.bytes.as_mut_slice(), self.at) {
-            Some(end) => {
-                self.at = end;
-                true
-            }
-            None => false,
-        }
-    }
-
-    // The line, if there is room for it.
+    // Appends a text if there is enough memory already.
     #[inline(always)]
-    fn try_transition(
-        &mut self,
-        words: &ComponentWords,
-        stamp: &Stamp,
-        kind: Kind,
-        state: &State,
-        sent: &Sent,
-    ) -> bool
-        ensures { self.new ≡ (if result then self.old
-            ++ line_words (words_found words.now) stamp.now
-            (what.Transition kind state.now) sent.now
-            else self.old) }
+    fn try_append<T: Text>(&mut self, text: &T) -> bool
+        ensures { self.new
+            ≡ (if result then self.old ++ T.bytes text.now else self.old) }
     {
-        match put_behind(
-            self.bytes.as_mut_slice(),
-            self.at,
-            words,
-            stamp,
-            kind,
-            state,
-            sent,
-        ) {
+        match put_after(self.bytes.as_mut_slice(), self.at, text) {
             Some(end) => {
                 self.at = end;
                 true
@@ -324,90 +123,14 @@ impl Room {
     }
 }
 
-// The line of a transition behind what stands before an index, which stays.
+// Puts a text after the first `at` bytes of a slice, which stay.
 #[inline(always)]
-fn put_behind(
-    room: &mut [u8],
-    at: usize,
-    words: &ComponentWords,
-    stamp: &Stamp,
-    kind: Kind,
-    state: &State,
-    sent: &Sent,
-) -> Option<usize>
-    requires { at ≤ length room.old }
-    ensures size { length room.new ≡ length room.old }
-    ensures before { take at room.new ≡ take at room.old }
-    ensures text { IfSome result (λ end. IsPut room.old at room.new end
-        (line_words (words_found words.now) stamp.now (what.Transition kind state.now) sent.now)) }
+fn put_after<T: Text>(to: &mut [u8], at: usize, text: &T) -> Option<usize>
+    requires { at ≤ length to.old }
+    ensures size { length to.new ≡ length to.old }
+    ensures before { take at to.new ≡ take at to.old }
+    ensures text { IfSome result (λ end. IsPut to.old at to.new end (T.bytes text.now)) }
 {
-    let end = put_transition(&mut room[at..], words, stamp, kind, state, sent)?;
-    Some(at + end)
-}
-
-// The line of a fault, the front and the end of a line of what leaves, and a port of it, in the same way.
-fn put_fault_behind(
-    room: &mut [u8],
-    at: usize,
-    words: &ComponentWords,
-    stamp: &Stamp,
-    fault: Fault,
-    sent: &Sent,
-) -> Option<usize>
-    requires { at ≤ length room.old }
-    ensures size { length room.new ≡ length room.old }
-    ensures before { take at room.new ≡ take at room.old }
-    ensures text { IfSome result (λ end. IsPut room.old at room.new end
-        (line_words (words_found words.now) stamp.now (what.Fault fault) sent.now)) }
-{
-    let end = put_fault(&mut room[at..], words, stamp, fault, sent)?;
-    Some(at + end)
-}
-
-fn put_out_behind(room: &mut [u8], at: usize, stamp: &Stamp) -> Option<usize>
-    requires { at ≤ length room.old }
-    ensures size { length room.new ≡ length room.old }
-    ensures before { take at room.new ≡ take at room.old }
-    ensures text { IfSome result (λ end. IsPut room.old at room.new end
-        (time_text stamp.now ++ codes " out")) }
-{
-    let end = put_out(&mut room[at..], stamp)?;
-    Some(at + end)
-}
-
-fn put_left_behind(
-    room: &mut [u8],
-    at: usize,
-    bytes: &[u8],
-    word: Word,
-    values: &Bag,
-) -> Option<usize>
-    requires { at ≤ length room.old }
-    ensures size { length room.new ≡ length room.old }
-    ensures before { take at room.new ≡ take at room.old }
-    ensures text { IfSome result (λ end. IsPut room.old at room.new end
-        (port_words (word_text bytes.now word) values.now)) }
-{
-    let end = put_left(&mut room[at..], bytes, word, values)?;
-    Some(at + end)
-}
-
-fn put_text_behind(room: &mut [u8], at: usize, text: &[u8]) -> Option<usize>
-    requires { at ≤ length room.old }
-    ensures size { length room.new ≡ length room.old }
-    ensures before { take at room.new ≡ take at room.old }
-    ensures text { IfSome result (λ end. IsPut room.old at room.new end text.now) }
-{
-    let end = put_bytes(&mut room[at..], 0, text)?;
-    Some(at + end)
-}
-
-fn put_end_behind(room: &mut [u8], at: usize) -> Option<usize>
-    requires { at ≤ length room.old }
-    ensures size { length room.new ≡ length room.old }
-    ensures before { take at room.new ≡ take at room.old }
-    ensures text { IfSome result (λ end. IsPut room.old at room.new end (10 ∷ [])) }
-{
-    let end = put_byte(&mut room[at..], 0, b'\n')?;
+    let end = text.put(&mut to[at..])?;
     Some(at + end)
 }

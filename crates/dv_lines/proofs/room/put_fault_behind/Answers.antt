@@ -1,8 +1,0 @@
-use Rattle.std.proofs.Common.{◌-◌, length}
-use Rattle.dv_lines.proofs.Behind.{rest_begins}
-use Rattle.dv_lines.proofs.room.put_fault_behind.Goals as goal
-
-pub returns-clause-text : goal.returns-clause-text
-returns-clause-text c =
-    rest_begins c.args.room.now c.put_fault.new.to _ c.args.at (length c.args.room.now - c.args.at) c.in_ok-end.end c.requires
-    c.in_ok-end.ensures.text.0 c.in_ok-end.ensures.text.1
