@@ -4,6 +4,7 @@ pub mod LeftLines
 pub mod Naming
 pub mod Recording
 pub mod Rounds
+pub mod Stamps
 pub mod Tables
 pub mod Walks
 pub mod Views

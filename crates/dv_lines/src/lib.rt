@@ -1,33 +1,41 @@
-//! The lines of a trace, written straight into bytes.
+//! The lines of a trace, made as bytes.
 //!
-//! `TreeWords` has the paths, ports and variables of a tree as bytes, looked up once for all lines. `TextRecord` is
-//! the record of a process that is alone: it is told what happens and keeps the text alone. `WrittenRecord`, one for
-//! each of several processes, keeps each entry as its line, for a merge. `TraceWriter` writes merged parts to a
-//! writer. Each line is the one that `dv_text` defines, and what is not settled can be taken back.
+//! The process that commits an entry makes its line at once, on its own thread. `TextRecord` is the
+//! record of a process that is alone: it keeps the text of the trace, and nothing else.
+//! `WrittenRecord`, one for each of several processes, keeps each entry as its line. `TraceWriter`
+//! writes merged parts, for which it only copies lines. Each line is the one that `dv_text`
+//! defines. `dv_stream` decides when something is written.
 //!
-//! `dv_stream` gives these records to its processes and writes by them; `dv_job` writes the trace of a plain run.
-//! When a line may be written is not decided here, nor is anything sorted.
+//! A line is made of words. `Words` has the path, phases, state variables and outputs of each
+//! component as bytes, each with the signs around it, as ` PATH ` and ` NAME=`. They are laid out
+//! once, in one vector that all records share, and are copied 16 bytes at a time. A `Stamp` keeps
+//! the text of a time for all lines of that time; the next time mostly renews its last digits
+//! alone.
+//!
+//! Lines go into a `Room`, one after the other. A `Text` puts itself into the free part of the room
+//! if it fits there. If it does not, the room is doubled, and the text is put again. So no line is
+//! measured before, and most lines ask for no memory.
 #![tactic(auto)]
 
-/// Bytes, words and numbers, put into a room.
+/// Bytes, words and numbers.
 mod pieces;
 
-/// Values, what a state holds, and what was sent.
+/// Values, state variables, and what was sent.
 mod values;
 
-/// Whether a fault was told.
+/// Records that know of faults.
 mod faults;
 
-/// What leaves at a time.
+/// Output lines.
 mod leaving;
 
-/// A line.
+/// The texts of lines.
 mod line;
 
-/// Lines, one behind the other.
+/// Lines, one after the other.
 mod lines;
 
-/// Laws of the text of a part to which lines are put.
+/// Laws of the text of a part that grows.
 pub mod laws;
 
 /// A room that grows.
@@ -36,16 +44,16 @@ mod room;
 /// A time with its text.
 mod stamp;
 
-/// A record of a run as its text.
+/// A record that keeps the text of a trace.
 mod text_record;
 
-/// What happens, told to lines by the words of a tree.
+/// The lines of entries, by the words of a tree.
 mod told;
 
-/// A trace written as text, part by part.
+/// Writes a trace, part by part.
 mod trace_writer;
 
-/// The words of a tree, by which entries are put into lines.
+/// The words of a tree, and the lines of entries by them.
 mod tree_words;
 
 /// The words of all components of a tree.
@@ -54,7 +62,7 @@ mod words;
 /// A part of a trace as written entries.
 mod written_part;
 
-/// A record of a run as written entries.
+/// A record that keeps entries as lines.
 mod written_record;
 
 pub use faults::KnowsFaults;

@@ -1,24 +1,29 @@
 //! A time with its text.
 
-ghost use Rattle.std.specs.Prelude.{◌≡◌, ◌≤◌, length, IfSome};
+ghost use Rattle.std.specs.Prelude.{◌≡◌, ◌≤◌, ◌<◌, ◌∷◌, ◌++◌, ◌/◌, length, take, IfSome};
+ghost use Rattle.std.specs.Fmt.{decimal};
 ghost use Rattle.dv_time.specs.Time.{time_text};
-ghost use Rattle.dv_lines.specs.Rooms.{IsPut};
+ghost use Rattle.dv_lines.specs.Rooms.{IsPut, last_four};
 
-use crate::pieces::{Word, put_byte, put_digits, put_word};
+use crate::pieces::{Word, put_byte, put_bytes, put_digits, put_word};
 use dv_time::Time;
 use std::marker::Model;
 
-/// A time with its text, which is made once for all lines of that time.
+/// A time with its text, which is made once for all lines of that time. Of a later time only the
+/// last four digits of the tick are made, if the digits before them are the same.
 #[derive(Drop)]
 pub struct Stamp {
     time: Time,
     bytes: [u8; 32],
-    // How many of the bytes are the text. With none of them it is made anew for each line.
+    // How many of the bytes are the text. If it is 0, the text is made for each line.
     length: usize,
+    // How many bytes the tick has before its last four digits. If it is 0, they are not there.
+    front: usize,
 }
 
 impl Model for Stamp {
-    ghost use Rattle.std.specs.Prelude.{◌≡◌, ◌<◌, take};
+    ghost use Rattle.std.specs.Prelude.{◌≡◌, ◌<◌, ◌/◌, take};
+    ghost use Rattle.std.specs.Fmt.{decimal};
     ghost use Rattle.dv_time.specs.Time.{time_text};
     ghost use Rattle.dv_time.specs.declared.time.Time.{Time};
 
@@ -26,7 +31,81 @@ impl Model for Stamp {
 
     ghost view = { λ s. s.time };
 
-    ghost invariant = { λ s. 0 < s.length → take s.length s.bytes ≡ time_text s.time };
+    ghost invariant = { λ s. (0 < s.length → take s.length s.bytes ≡ time_text s.time)
+        × (0 < s.front → 0 < s.time.tick / 10000)
+        × (0 < s.front → take s.front s.bytes ≡ decimal (s.time.tick / 10000)) };
+}
+
+// The four last digits of a number.
+#[inline(always)]
+fn last_digits(n: u64) -> [u8; 4]
+    ensures { result ≡ last_four n }
+{
+    let high = n % 10_000 / 100;
+    let low = n % 10_000 % 100;
+    [
+        b'0' + (high / 10) as u8,
+        b'0' + (high % 10) as u8,
+        b'0' + (low / 10) as u8,
+        b'0' + (low % 10) as u8,
+    ]
+}
+
+// How many of the first digits of a tick stay for the next one: `front`, or none.
+#[inline(always)]
+fn digits_kept(front: usize, tick: u64, next: u64) -> usize
+    ensures fewer { result ≤ front }
+    ensures kept { 0 < result → (result ≡ front) × (next / 10000 ≡ tick / 10000) }
+{
+    if next / 10_000 == tick / 10_000 {
+        return front;
+    }
+    0
+}
+
+// A tick. If `front` is not 0, as many of its digits are there already, all but the last four.
+#[inline(always)]
+fn put_tick(to: &mut [u8], front: usize, tick: u64) -> Option<usize>
+    requires there { 0 < front → take front to.old ≡ decimal (tick / 10000) }
+    requires long { 0 < front → 0 < tick / 10000 }
+    ensures size { length to.new ≡ length to.old }
+    ensures text { IfSome result (λ end. IsPut to.old 0 to.new end (decimal tick)) }
+{
+    if front == 0 || front > to.len() {
+        return put_digits(to, 0, tick);
+    }
+    let digits = last_digits(tick);
+    let end = put_bytes(to, front, &digits)?;
+    Some(end)
+}
+
+// The rest of the text of a time: `.micro`.
+#[inline(always)]
+fn put_micro(to: &mut [u8], at: usize, micro: u32) -> Option<usize>
+    requires { at ≤ length to.old }
+    ensures size { length to.new ≡ length to.old }
+    ensures text { IfSome result (λ end. IsPut to.old at to.new end (46 ∷ decimal micro)) }
+{
+    let at = put_byte(to, at, b'.')?;
+    put_digits(to, at, micro as u64)
+}
+
+// The text of a time, as `tick.micro`, where the first digits may be there already. Returns how many
+// bytes the tick has before its last four digits, and the length of the text.
+#[inline(always)]
+fn put_anew(to: &mut [u8], front: usize, tick: u64, micro: u32) -> Option<(usize, usize)>
+    requires there { 0 < front → take front to.old ≡ decimal (tick / 10000) }
+    requires long { 0 < front → 0 < tick / 10000 }
+    ensures next_long { IfSome result (λ ends. 0 < ends.0 → 0 < tick / 10000) }
+    ensures next_there { IfSome result (λ ends.
+        0 < ends.0 → take ends.0 to.new ≡ decimal (tick / 10000)) }
+    ensures text { IfSome result (λ ends.
+        take ends.1 to.new ≡ decimal tick ++ (46 ∷ decimal micro)) }
+{
+    let at = put_tick(to, front, tick)?;
+    let end = put_micro(to, at, micro)?;
+    let front = at.saturating_sub(4);
+    Some((front, end))
 }
 
 // A time, as `tick.micro`.
@@ -36,8 +115,7 @@ fn put_time(to: &mut [u8], at: usize, time: Time) -> Option<usize>
     ensures text { IfSome result (λ end. IsPut to.old at to.new end (time_text time)) }
 {
     let at = put_digits(to, at, time.tick)?;
-    let at = put_byte(to, at, b'.')?;
-    put_digits(to, at, time.micro as u64)
+    put_micro(to, at, time.micro)
 }
 
 impl Stamp {
@@ -45,19 +123,14 @@ impl Stamp {
     pub fn of(time: Time) -> Self
         ensures { result ≡ time }
     {
-        let mut bytes = [0; 32];
-        match put_time(&mut bytes, 0, time) {
-            Some(length) => Stamp {
-                time,
-                bytes,
-                length,
-            },
-            None => Stamp {
-                time,
-                bytes,
-                length: 0,
-            },
-        }
+        let mut stamp = Stamp {
+            time,
+            bytes: [0; 32],
+            length: 0,
+            front: 0,
+        };
+        stamp.renew(time);
+        stamp
     }
 
     /// Another time, or the same.
@@ -66,11 +139,26 @@ impl Stamp {
         ensures { self.new ≡ time }
     {
         if self.time != time {
-            *self = Stamp::of(time);
+            self.renew(time);
         }
     }
 
-    /// Its text, put into a room.
+    // Another time: its text is put in place of the last one.
+    fn renew(&mut self, time: Time)
+        ensures { self.new ≡ time }
+    {
+        let front = digits_kept(self.front, self.time.tick, time.tick);
+        self.time = time;
+        self.length = 0;
+        self.front = 0;
+        if let Some((front, length)) = put_anew(&mut self.bytes, front, time.tick, time.micro) {
+            self.front = front;
+            self.length = length;
+        }
+    }
+
+    /// Puts the text of the time into a slice, from an index on. Returns the index after it, or
+    /// `None` if there is not enough room.
     #[inline(always)]
     pub fn put(&self, to: &mut [u8], at: usize) -> Option<usize>
         requires { at ≤ length to.old }
