@@ -1,4 +1,4 @@
--- What a reader believes: the bytes of a trace, and what a writer holds after a failure.
+-- What a reader has to believe: the bytes of a trace, and what a writer holds after a failure.
 pub mod Texts
 pub mod Names
 pub mod Writing

@@ -1,4 +1,4 @@
--- Serves proofs: how the text of a part is made, by merging its lines by time. For a part that stands by time it is `part_text`.
+-- Serves proofs: the text of a part, made by merging its lines by time. For a part that is sorted by time it is `part_text`.
 use Rattle.std.specs.Prelude.{ℕ, if◌then◌else◌, List, [], ◌∷◌, ◌++◌, codes}
 use Rattle.std.specs.List.{flat_map}
 use Rattle.std.specs.Ordering.{is_eq}
@@ -10,17 +10,17 @@ use Rattle.dv_bag.specs.declared.entry.Entry.{Entry}
 use Rattle.dv_bag.specs.declared.entry.Outer.{Outer}
 use Rattle.dv_text.specs.Texts.{ComponentNames, entry_text, names_at, outer_text}
 
--- groups with a text before the others of its time
+-- groups, with a text put before the others of its time
 abbrev pub with_text : Time → List ℕ → List (Time × List ℕ) → List (Time × List ℕ)
 with_text t text [] = (t, text) ∷ []
 with_text t text (g ∷ gs) = if is_eq (time_cmp t g.0) then (t, text ++ g.1) ∷ gs else (t, text) ∷ g ∷ gs
 
--- what leaves at one time, port after port
+-- what left at one time, port after port
 abbrev pub groups_of : List (List ℕ) → List Outer → List (Time × List ℕ)
 groups_of outputs [] = []
 groups_of outputs (o ∷ os) = with_text o.time (outer_text outputs o) (groups_of outputs os)
 
--- the line of what leaves at one time
+-- the line of what left at one time
 abbrev pub group_text : Time × List ℕ → List ℕ
 group_text g = time_text g.0 ++ (codes " out" ++ (g.1 ++ (10 ∷ [])))
 
@@ -43,7 +43,7 @@ abbrev pub other_groups : List (Time × List ℕ) → List (Time × List ℕ)
 other_groups [] = []
 other_groups (g ∷ gs) = gs
 
--- the lines by time: those of the entries, and after them what leaves at that time
+-- the lines by time: those of the entries, and then the one of what left at that time
 abbrev pub lines_by_time : List ComponentNames → List Entry → List (Time × List ℕ) → List ℕ
 lines_by_time all [] gs = flat_map group_text gs
 lines_by_time all (e ∷ es) gs =

@@ -23,7 +23,7 @@ component_names names f = map (instance_names names) (instances f)
 abbrev pub root_ports : List (List ℕ) → FileTree → List (List ℕ)
 root_ports names f = texts_of names (root_outputs f)
 
--- those of a tree of the code
+-- the same for a tree of the code
 abbrev pub tree_names : Source → List ComponentNames
 tree_names s = component_names s.names (file_of s.file)
 

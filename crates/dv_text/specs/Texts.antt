@@ -29,21 +29,21 @@ pub record ComponentNames : Type 0 where
   pub variables : List (List ℕ)
   pub outputs : List (List ℕ)
 
--- with a comma between them
+-- texts with commas between them
 abbrev pub with_commas : List (List ℕ) → List ℕ
 with_commas [] = []
 with_commas (x ∷ []) = x
 with_commas (x ∷ y ∷ xs) = x ++ (44 ∷ with_commas (y ∷ xs))
 
--- numbers with a comma between them
+-- numbers with commas between them
 abbrev pub numbers_text : List ℤ → List ℕ
 numbers_text numbers = with_commas (map signed_decimal numbers)
 
--- ascending values, each copy once
+-- the values of a bag, ascending, copies repeated
 abbrev pub values_text : Counts → List ℕ
 values_text b = numbers_text (values_of b)
 
--- a bag has its values ascending, each copy once, and a queue from the first to the last
+-- the value of a state variable; a bag has its values ascending, copies repeated, and a queue from the first to the last
 abbrev pub datum_text : Datum → List ℕ
 datum_text (datum.Number n) = signed_decimal n
 datum_text (datum.Flag true) = codes "true"
@@ -65,7 +65,7 @@ ports_text names [] = []
 ports_text [] (b ∷ bags) = []
 ports_text (n ∷ names) (b ∷ bags) = port_text n b ++ ports_text names bags
 
--- ` >` and what was sent, where something was
+-- ` >` and what was sent, if something was
 abbrev pub sent_text : List ℕ → List ℕ
 sent_text [] = []
 sent_text (c ∷ cs) = 32 ∷ 62 ∷ c ∷ cs
@@ -85,27 +85,27 @@ abbrev pub entry_text : ComponentNames → Entry → List ℕ
 entry_text names e =
     time_text e.time ++ ((32 ∷ names.path) ++ ((32 ∷ what_text names e.what) ++ (sent_text (ports_text names.outputs e.sent) ++ (10 ∷ []))))
 
--- what leaves at one port
+-- what left at one port
 abbrev pub outer_text : List (List ℕ) → Outer → List ℕ
 outer_text outputs o = port_text (name_at outputs o.port) o.values
 
--- the line of what leaves at an instant, port after port, where something does
+-- the line of what left at an instant, port after port, if something did
 abbrev pub outers_text : List (List ℕ) → Time → List Outer → List ℕ
 outers_text outputs t [] = []
 outers_text outputs t (o ∷ os) = time_text t ++ (codes " out" ++ (flat_map (outer_text outputs) (o ∷ os) ++ (10 ∷ [])))
 
--- the lines of an instant: those of its entries, and then that of what leaves
+-- the lines of an instant: those of its entries, and then the one of what left
 abbrev pub instant_text : List ComponentNames → List (List ℕ) → Time → PartOf → List ℕ
 instant_text all outputs t p = flat_map (λ (e : Entry). entry_text (names_at all e.component) e) p.entries ++ outers_text outputs t p.outer
 
--- what of a part is at a time
+-- what is at one time in a part
 abbrev pub only_at : Time → PartOf → PartOf
 only_at t p = record {
   entries = filter (λ (e : Entry). is_eq (time_cmp e.time t)) p.entries;
   outer = filter (λ (o : Outer). is_eq (time_cmp o.time t)) p.outer;
 }
 
--- ascending times with one more; each stands once
+-- ascending times without repetition, with one more
 abbrev pub with_time : Time → List Time → List Time
 with_time t [] = t ∷ []
 with_time t (u ∷ us) = if is_before t u then t ∷ u ∷ us else (if is_before u t then u ∷ with_time t us else u ∷ us)
@@ -114,7 +114,7 @@ abbrev pub ascending : List Time → List Time
 ascending [] = []
 ascending (t ∷ ts) = with_time t (ascending ts)
 
--- the times of a part, ascending, each once
+-- the times of a part, ascending, without repetition
 abbrev pub times_of : PartOf → List Time
 times_of p = ascending (map (λ (e : Entry). e.time) p.entries ++ map (λ (o : Outer). o.time) p.outer)
 
@@ -129,11 +129,11 @@ instants_text all outputs limit net inputs (suc n) =
     instants_text all outputs limit net inputs n
     ++ instant_text all outputs (time_of limit n) (part_of_instant limit net n (inputs n) (components_at limit net inputs n))
 
--- `process 0 clock 5.0`: how far a process came
+-- `process 0 clock 5.0`: the clock of a process
 abbrev pub clock_text : ℕ → Time → List ℕ
 clock_text process t = codes "process " ++ (decimal process ++ (codes " clock " ++ (time_text t ++ (10 ∷ []))))
 
--- how far processes came, from one on
+-- the clocks of the processes from this number on
 abbrev pub clocks_text : ℕ → List Time → List ℕ
 clocks_text process [] = []
 clocks_text process (t ∷ ts) = clock_text process t ++ clocks_text (suc process) ts
@@ -152,7 +152,7 @@ abbrev pub whole_text : {I : Type 0} → List ComponentNames → List (List ℕ)
 whole_text all outputs limit net inputs horizon =
     instants_text all outputs limit net inputs (end_of limit horizon) ++ ending_text (Whole horizon)
 
--- the text of a run of a network that came to these clocks: the lines of all instants before the least one
+-- the text of a run of a network that reached these clocks: the lines of all instants before the least one
 abbrev pub partial_text : {I : Type 0} → List ComponentNames → List (List ℕ) → (limit : ℕ) → Network I → (ℕ → I) → List Time → List ℕ
 partial_text all outputs limit net inputs clocks =
     instants_text all outputs limit net inputs (least_rank limit clocks) ++ partial_ending clocks

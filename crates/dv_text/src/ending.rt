@@ -1,4 +1,4 @@
-//! How a text ends, put at the end of the text so far.
+//! The lines of an ending.
 
 ghost use Rattle.std.specs.Prelude.{◌≡◌, ◌++◌, OnOk, string_bytes};
 ghost use Rattle.dv_text.specs.Texts.{clock_text, clocks_text, ending_text};
@@ -7,7 +7,7 @@ use crate::writing::Ending;
 use dv_time::Time;
 use std::alloc::AllocError;
 
-/// How a trace ends.
+/// Adds the lines of an ending to a text.
 pub fn push_end(line: &mut String, ending: &Ending) -> Result<(), AllocError>
     ensures { OnOk result (string_bytes line.new ≡
         string_bytes line.old ++ ending_text ending.now) }
@@ -21,7 +21,7 @@ pub fn push_end(line: &mut String, ending: &Ending) -> Result<(), AllocError>
     }
 }
 
-// The lines of the clocks, by the numbers of their processes.
+// Adds a line for each clock. The clocks are in the order of the processes.
 fn push_clocks(line: &mut String, clocks: &[Time]) -> Result<(), AllocError>
     ensures { OnOk result (string_bytes line.new ≡
         string_bytes line.old ++ clocks_text 0 clocks.now) }

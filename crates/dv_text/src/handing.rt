@@ -1,4 +1,4 @@
-//! Handing bytes to a writer.
+//! Writes bytes.
 
 ghost use Rattle.std.specs.Prelude.{◌<◌, length, IsOk, OnErr, OnOk, string_bytes};
 ghost use Rattle.std.specs.Io.KnownBytes.{Appends};
@@ -7,10 +7,16 @@ ghost use Rattle.dv_text.specs.Writing.{StopsShort, TakesFront};
 use crate::writing::WriteError;
 use std::io::Write;
 
-// How many bytes are put together before the writer gets them.
+// The number of bytes that are collected before they are written.
 const PIECE_LENGTH: usize = 65_536;
 
-/// Gives a writer all bytes of a piece, in as many writes as it takes. A write that failed is not tried again.
+/// Writes all bytes of a piece, in as many writes as the writer needs. A failed write is not tried
+/// again.
+///
+/// # Errors
+///
+/// `WriteError::Write`: a write failed or took nothing. The writer has a beginning of the piece
+/// that is not all of it.
 pub fn hand_over<W: Write>(writer: &mut W, piece: &[u8]) -> Result<(), WriteError>
     ensures ok { OnOk result (Appends (W.contents writer.old) (W.contents writer.new) piece.now) }
     ensures err { OnErr result (StopsShort (W.contents writer.old) (W.contents writer.new)
@@ -26,7 +32,12 @@ pub fn hand_over<W: Write>(writer: &mut W, piece: &[u8]) -> Result<(), WriteErro
     Ok(())
 }
 
-/// Gives a writer the text so far, once there is a piece of it.
+/// Writes the text and empties it if it has 64 KiB or more. Otherwise nothing happens.
+///
+/// # Errors
+///
+/// `WriteError::Write`: a write failed or took nothing. The writer has a beginning of the text that
+/// is not all of it.
 pub fn hand_over_if_long<W: Write>(line: &mut String, writer: &mut W) -> Result<(), WriteError>
     ensures ok { OnOk result (TakesFront (W.contents writer.old) (W.contents writer.new)
         (string_bytes line.old) (string_bytes line.new)) }

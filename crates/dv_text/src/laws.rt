@@ -1,5 +1,5 @@
-//! Laws of the text of a trace. Each function stands for the law in its contract; its body only names
-//! those that it rests on.
+//! Laws of the text of a trace, and worked texts. The contract of each function is a law; its body
+//! calls the laws that it rests on.
 
 ghost use Rattle.std.specs.Prelude.{◌≡◌, ◌≤◌, ℕ, [], ◌∷◌, ◌++◌, List, codes, pos};
 ghost use Rattle.dv_time.specs.Time.{end_of};
@@ -20,8 +20,8 @@ use dv_devs::laws::parts::{
     cuts_are_earlier_parts, instants_are_at_their_time, parts_are_by_time, the_rest_is_between,
 };
 
-/// The lines of a network's trace that is cut before a rank are those of its instants one after the other. So is a whole
-/// text.
+/// The lines of a network's trace that is cut before a rank are the lines of its instants, one
+/// after the other. The same holds for a whole text.
 pub fn a_trace_is_its_instants<I>()
     ensures lines { (all : List ComponentNames) (outputs : List (List ℕ))
         → (limit : ℕ) (net : Network I) (inputs : ℕ → I) (n : ℕ)
@@ -33,11 +33,12 @@ pub fn a_trace_is_its_instants<I>()
         ++ ending_text (Whole horizon)
         ≡ whole_text all outputs limit net inputs horizon }
 {
+    // For the prover alone.
     instants_are_at_their_time::<I>();
     parts_are_by_time::<I>();
 }
 
-/// What the instants from one rank on and before another add to the trace stands by time, and its lines continue those of
+/// The part of a trace from one rank to another is sorted by time, and its lines continue those of
 /// the instants before it. So a text that is written piece by piece is that of the instants.
 pub fn a_trace_is_its_pieces<I>()
     ensures by_time { (limit : ℕ) (net : Network I) (inputs : ℕ → I) (n m : ℕ) → n ≤ m
@@ -48,13 +49,15 @@ pub fn a_trace_is_its_pieces<I>()
         ++ part_text all outputs (trace_between limit net inputs n m)
         ≡ instants_text all outputs limit net inputs m }
 {
+    // For the prover alone.
     a_trace_is_its_instants::<I>();
     parts_are_by_time::<I>();
     cuts_are_earlier_parts::<I>();
     the_rest_is_between::<I>();
 }
 
-/// The text of a clock to a horizon of 12: what it did, and what left, at 5.0 and at 10.0.
+/// The text of a clock to a horizon of 12: its transitions, and what left the model, at 5.0 and at
+/// 10.0.
 pub fn a_clock_ticks()
     ensures { whole_text clock_names clock_outputs 1 clock no_input 12 ≡
         codes "5.0 t i run n=1 > beat:0" ++ (10 ∷ (codes "5.0 out o:0" ++ (10 ∷
@@ -62,7 +65,8 @@ pub fn a_clock_ticks()
         (codes "whole 12" ++ (10 ∷ []))))))))) }
 {}
 
-/// A queue is printed from its first value to its last, and a bag in ascending order, each copy once.
+/// A queue is printed from its first value to its last, and a bag in ascending order, with copies
+/// repeated.
 pub fn collections_are_printed()
     ensures queue { datum_text (datum.Held (collection.Queue (pos 7 ∷ pos 5 ∷ [])))
         ≡ codes "[7,5]" }

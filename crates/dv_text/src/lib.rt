@@ -1,24 +1,27 @@
-//! Traces as text: which lines a trace has, how its text ends, and bytes handed to a writer.
+//! Traces as text: which lines a trace has, how its text ends, and how bytes are written.
 //!
-//! The definitions in `specs/` say which bytes a trace is. It is a law that the text of a trace is the lines of its
-//! instants one after the other, so that it may be written piece by piece while the run goes on. An `Ending` is
-//! `whole`, or `partial` behind the clocks that were reached, and `write_ending` writes it. After a `WriteError` the
-//! writer holds a beginning of the text.
+//! `specs/` defines the bytes of a trace. It is a law that the text of a trace is the lines of its
+//! instants, one after the other; so a trace may be written piece by piece while the run goes on.
+//! The end of the text is an `Ending`: the line `whole` with the horizon, or the clocks that were
+//! reached and the line `partial`. `write_ending` writes it. After a `WriteError`, the writer holds
+//! a beginning of the text.
 //!
-//! `dv_lines` makes the lines that are defined here, and `dv_stream` and `dv_job` rest on the laws. Listings and
-//! views hand their bytes over by `hand_over`. The text is never read here: that is `dv_trace`.
+//! `hand_over` writes bytes by a loop over `write`, since nothing is known of the library's
+//! buffered writer after a failed write. `hand_over_if_long` collects 64 KiB before it writes.
+//! Traces, listings and views are written by these two calls. `dv_lines` makes the lines that are
+//! defined here, `dv_stream` and `dv_job` rest on the laws, and `dv_trace` reads the text back.
 #![tactic(auto)]
 
-/// The end of a text, and why a text is not written to its end.
+/// How the text of a trace ends, and why a text is not complete.
 pub mod writing;
 
-/// A trace's text is the texts of its instants one after the other; a worked text.
+/// Laws of the text of a trace, and a worked text.
 pub mod laws;
 
-/// Bytes handed to a writer piece by piece.
+/// Writes bytes.
 mod handing;
 
-/// How a text ends.
+/// The lines of an ending.
 mod ending;
 
 pub use handing::{hand_over, hand_over_if_long};

@@ -1,4 +1,4 @@
-//! How a text ends, and why it is not written to its end.
+//! How the text of a trace ends, and why a text is not complete.
 
 ghost use Rattle.std.specs.Prelude.{◌≡◌, OnErr, OnOk};
 ghost use Rattle.std.specs.Io.KnownBytes.{Appends};
@@ -11,19 +11,20 @@ use dv_time::Time;
 use std::alloc::{AllocError, Global};
 use std::io::Write;
 
-/// How a text ends.
+/// How the text of a trace ends.
 #[derive(Drop)]
 pub enum Ending {
-    /// The trace reaches this horizon, in ticks.
+    /// The trace has all that happens up to this horizon, a tick.
     Whole(u64),
-    /// The processes came to these clocks, in the order of their numbers. The trace has what is before the least one.
+    /// The clocks of the processes, in the order of the processes. The trace has all that happens
+    /// before the least clock.
     Partial(Vec<Time>),
 }
 
-/// Why a text is not written to its end.
+/// Why a text is not complete.
 #[derive(Clone, Copy, PartialEq, Eq)]
 pub enum WriteError {
-    /// The writer answered an error, or took no byte of a piece that has some.
+    /// The writer returned an error, or took no byte.
     Write,
     /// An allocation was refused.
     Memory,
@@ -39,12 +40,12 @@ impl From<AllocError> for WriteError {
     }
 }
 
-/// Writes how a text ends. A write that failed is not tried again.
+/// Writes the lines of an ending. A failed write is not tried again.
 ///
 /// # Errors
 ///
-/// `WriteError::Write` where a write failed or took nothing, `WriteError::Memory` where memory was refused. A
-/// beginning of the end was written then, and not all of it.
+/// `WriteError::Write`: a write failed or took nothing. `WriteError::Memory`: an allocation was
+/// refused. The writer has a beginning of these lines, perhaps nothing, and not all of them.
 pub fn write_ending<W: Write>(
     alloc: Global,
     ending: &Ending,
