@@ -1,4 +1,4 @@
-//! Bytes that come in pieces, cut into lines.
+//! Cuts pieces of a trace into lines.
 
 use crate::line::LineLists;
 use crate::reach::End;
@@ -7,16 +7,17 @@ use std::alloc::{AllocError, Global};
 use std::io;
 use std::io::{ErrorKind, Write};
 
-/// What takes the lines of a trace, one after the other.
+/// Takes the lines of a trace, one after the other.
 pub trait TakeLine {
     /// Why a line is not taken.
     type Error: From<AllocError> + Drop;
 
-    /// Takes the next line, which is given without its line feed. Its lists take the place of those of another line.
+    /// Takes the next line, which is given without its line feed. `lists` may have those of another
+    /// line, which are replaced.
     ///
     /// # Errors
     ///
-    /// The line is refused, or there is no memory. No line is to be given then.
+    /// The line is refused, or an allocation is. No further line may be given then.
     fn take_line<'a>(
         &mut self,
         line: &'a [u8],
@@ -24,20 +25,21 @@ pub trait TakeLine {
     ) -> Result<(), Self::Error>;
 }
 
-/// A writer that takes the bytes of a trace, in any pieces, and has its lines taken. Of the bytes it keeps the line that has not
-/// ended yet. A write fails where a line is not taken, and so do all writes behind it.
+/// A writer that takes the bytes of a trace, in any pieces, and gives its lines to `L`. It keeps
+/// the line that has not ended yet. If a line is not taken, this write fails, and so do all later
+/// ones; `finish` returns the error.
 #[derive(Drop)]
 pub struct LineCutter<L: TakeLine> {
     alloc: Global,
     taker: L,
-    // The beginning of a line whose end has not come yet.
+    // The beginning of the line that has not ended yet.
     line: Vec<u8>,
-    // Why nothing more is taken.
+    // The error of the line that was not taken.
     error: Option<L::Error>,
 }
 
 impl<L: TakeLine> LineCutter<L> {
-    /// No bytes so far.
+    /// A writer at the first byte of a trace.
     pub fn new(alloc: Global, taker: L) -> Self {
         LineCutter {
             alloc,
@@ -47,12 +49,12 @@ impl<L: TakeLine> LineCutter<L> {
         }
     }
 
-    /// What took the lines of the trace that ends behind the last byte. What stands behind the last line feed is a line where the
-    /// trace has to have an end.
+    /// Ends the trace and returns what took its lines. If an end is required, what follows the last
+    /// line feed is given as a line, too.
     ///
     /// # Errors
     ///
-    /// Why the first line that was not taken is not.
+    /// The error of the first line that was not taken.
     pub fn finish(self, end: End) -> Result<L, L::Error>
     where
         L: Drop,
@@ -72,7 +74,8 @@ impl<L: TakeLine> LineCutter<L> {
         Ok(taker)
     }
 
-    // Has the lines that end in these bytes taken, and keeps what is behind them. The first one may have begun in bytes before them.
+    // Gives the lines that end in these bytes, and keeps the rest. The first line may have begun in
+    // earlier bytes.
     fn take(&mut self, bytes: &[u8]) -> Result<(), L::Error> {
         let Some(first) = memchr(b'\n', bytes) else {
             return self.keep(bytes);
@@ -85,7 +88,7 @@ impl<L: TakeLine> LineCutter<L> {
         self.keep(others.get(rest..).unwrap_or(&[]))
     }
 
-    // Has the lines taken that begin and end in these bytes, and tells how many bytes they are.
+    // Gives the lines that begin and end in these bytes, and returns how many bytes they have.
     fn take_lines(&mut self, bytes: &[u8]) -> Result<usize, L::Error> {
         let mut lists = LineLists::new(self.alloc);
         let mut rest: usize = 0;
@@ -97,13 +100,13 @@ impl<L: TakeLine> LineCutter<L> {
         Ok(rest)
     }
 
-    // Keeps more of a line.
+    // Keeps a further part of a line.
     fn keep(&mut self, bytes: &[u8]) -> Result<(), L::Error> {
         self.line.extend_from_slice(bytes)?;
         Ok(())
     }
 
-    // Has the line taken that is kept.
+    // Gives the line that was kept.
     fn take_kept(&mut self) -> Result<(), L::Error> {
         self.taker
             .take_line(&self.line, &mut LineLists::new(self.alloc))

@@ -1,16 +1,23 @@
-//! Reads the text of a trace back, line by line, by the names of the model that it is a trace of.
+//! Reads traces back, line by line, with the names of the model.
 //!
-//! `TraceReader` gives each `TraceLine`: what happened to a component, or what left the model, with paths and names
-//! as numbers. It answers a `TraceRefusal` with a line and a reason where the trace is malformed or of another model.
-//! A `PieceReader` reads the bytes of a trace piece by piece, once or twice, and a `LineCutter` makes lines of bytes
-//! that come in pieces. Numbers are read as they are spelled, within their ranges; more is not claimed.
+//! A `TraceReader` is given one line after the other and returns what it says: what happened to a
+//! component, or what left the model, with paths and names as numbers. If the trace is malformed or
+//! not one of this model, it returns a `TraceRefusal` with a line and a reason. It does not test
+//! whether the model behaves like this; that takes a run. A `PieceReader` reads the bytes of a
+//! trace piece by piece, once or twice, and a `LineCutter` cuts pieces into lines.
 //!
-//! `dv_vcd`, `dv_stats`, `dv_table` and `dv_fault` read traces by it. It keeps one piece of a trace and the line that
-//! has not ended yet, and none of the lines that it has read. It does not test whether the trace is what the model
-//! does: only a run tells that.
+//! Most lines have the time of the line before, and components mostly come in the same order as at
+//! the instant before. So a line is first compared with that time and with the path of the
+//! component that followed last time (`Recent`). Otherwise the time is read and the path is looked
+//! up in a table. The values of a line stay in its text.
+//!
+//! In memory are the names of the model, a number for each component, one piece of the trace, and
+//! the line that has not ended yet. `dv_vcd`, `dv_stats`, `dv_table` and `dv_fault` read traces
+//! with this crate. It is proved that numbers are read as they are spelled, within their ranges;
+//! nothing else is claimed.
 #![tactic(auto)]
 
-/// Bytes that come in pieces, cut into lines.
+/// Cuts pieces of a trace into lines.
 pub mod cutter;
 /// What a line says.
 pub mod line;
@@ -18,19 +25,19 @@ pub mod line;
 mod names;
 /// Numbers and times.
 mod numbers;
-/// The bytes of a trace, read piece by piece.
+/// Reads a trace piece by piece.
 pub mod piece_reader;
-/// The pieces of a line.
+/// The parts of a line.
 mod pieces;
 /// How far a trace reaches.
 pub mod reach;
-/// What the last lines began with.
+/// How the last lines began.
 mod recent;
-/// The reader.
+/// Reads lines.
 pub mod reader;
 /// Why a trace is refused.
 pub mod refusal;
-/// Values between commas.
+/// Values of variables and ports.
 mod values;
 
 pub use cutter::{LineCutter, TakeLine};

@@ -1,20 +1,20 @@
-//! What a line of a trace says. Values stay in the text of the line, so that a line costs little memory.
+//! What a line says. Values stay in the text of the line, so that they take no memory.
 
 use dv_bag::{Fault, Kind};
 use dv_time::Time;
 use std::alloc::Global;
 
-/// The values of a bag or a queue, as the line has them, with commas between them: those of a bag ascend, copies repeated, and
-/// those of a queue go from the first to the last. Without values the text is empty.
+/// The values of a bag or a queue, as in the line. Those of a bag ascend, with copies repeated;
+/// those of a queue are in the order of the queue.
 #[derive(Clone, Copy, PartialEq, Eq)]
 pub struct Values<'a> {
-    /// The values as text.
+    /// The values with commas between them; empty if there are none.
     pub text: &'a str,
-    /// How many values there are, copies counted.
+    /// The number of values, with copies.
     pub count: u64,
 }
 
-/// What a variable, a flag, a bag or a queue holds.
+/// The value of a state variable: a number, a flag, a bag or a queue.
 #[derive(Clone, Copy, PartialEq, Eq)]
 pub enum Datum<'a> {
     /// The number of a variable.
@@ -25,32 +25,32 @@ pub enum Datum<'a> {
     Held(Values<'a>),
 }
 
-/// What was sent by a port, or left the model there: the index of the port, and the values, of which there are some.
+/// What was sent by a port, or left the model there.
 #[derive(Clone, Copy, PartialEq, Eq)]
 pub struct Sending<'a> {
     /// The index of the output port.
     pub port: usize,
-    /// The values, of which there is one at least.
+    /// The values, at least one.
     pub values: Values<'a>,
 }
 
 /// What happened to a component.
 #[derive(Drop)]
 pub enum Happening<'a> {
-    /// A transition to a phase, by its index, and what the variables, flags, bags and queues hold then, in their order.
+    /// A transition.
     Transition {
-        /// Which transition took place.
+        /// The kind of the transition.
         kind: Kind,
         /// The index of the phase after it.
         phase: u32,
-        /// What the variables, flags, bags and queues hold after it.
+        /// The values of the state variables after it, in their order.
         state: Vec<Datum<'a>>,
     },
     /// A fault, after which the component is quiet.
     Fault(Fault),
 }
 
-/// The line of a component, by its number.
+/// The line of a component.
 #[derive(Drop)]
 pub struct Entry<'a> {
     /// The time of the line.
@@ -59,16 +59,16 @@ pub struct Entry<'a> {
     pub component: u32,
     /// What happened to it.
     pub happening: Happening<'a>,
-    /// What was sent, by the indices of the ports, ascending.
+    /// What was sent, sorted by port.
     pub sent: Vec<Sending<'a>>,
 }
 
-/// The line of what leaves the model at a time, by the indices of the root's output ports, ascending.
+/// The line of what left the model at a time.
 #[derive(Drop)]
 pub struct Outside<'a> {
     /// The time of the line.
     pub time: Time,
-    /// What left by each port.
+    /// What left, sorted by the root's output port.
     pub sent: Vec<Sending<'a>>,
 }
 
@@ -89,15 +89,16 @@ pub enum TraceLine<'a> {
     Partial,
 }
 
-/// What happened to a component, but for what it holds then.
+/// What happened to a component, without the values of its state variables.
 #[derive(Clone, Copy, PartialEq, Eq)]
 pub enum Event {
-    /// A transition to a phase, by its index.
+    /// A transition of this kind to the phase with this index.
     Transition { kind: Kind, phase: u32 },
+    /// A fault, after which the component is quiet.
     Fault(Fault),
 }
 
-/// The line of a component, by its number, but for its lists.
+/// The line of a component, without its lists.
 #[derive(Clone, Copy, PartialEq, Eq)]
 pub struct EntryHead {
     pub time: Time,
@@ -105,13 +106,14 @@ pub struct EntryHead {
     pub event: Event,
 }
 
-/// A line, but for its lists.
+/// A line, without its lists.
 #[derive(Clone, Copy, PartialEq, Eq)]
 pub enum LineHead {
     /// An empty line, which says nothing.
     Empty,
+    /// The line of a component.
     Entry(EntryHead),
-    /// Something leaves the model at a time.
+    /// The line of what left the model at this time.
     Outside(Time),
     /// The end of a whole trace, with its horizon.
     Whole(u64),
@@ -121,17 +123,17 @@ pub enum LineHead {
     Partial,
 }
 
-/// The lists of a line. Their memory serves for one line after the other.
+/// The lists of a line. Their memory is kept from one line to the next.
 #[derive(Drop)]
 pub struct LineLists<'a> {
-    /// What the variables, flags, bags and queues of a component hold behind its transition, in their order.
+    /// The values of the state variables after a transition, in their order.
     pub state: Vec<Datum<'a>>,
-    /// What was sent, or left the model, by the indices of the ports, ascending.
+    /// What was sent, or left the model, sorted by port.
     pub sent: Vec<Sending<'a>>,
 }
 
 impl<'a> LineLists<'a> {
-    /// No data, and nothing that was sent.
+    /// Empty lists.
     pub fn new(alloc: Global) -> Self {
         LineLists {
             state: Vec::new(alloc),
@@ -139,7 +141,7 @@ impl<'a> LineLists<'a> {
         }
     }
 
-    /// Takes away what a line said.
+    /// Empties the lists.
     pub(crate) fn clear(&mut self) {
         self.state.clear();
         self.sent.clear();

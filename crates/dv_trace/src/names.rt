@@ -4,7 +4,8 @@ use dv_tree::Tree;
 use indexmap::IndexMap;
 use std::alloc::{AllocError, Global};
 
-/// The components by their paths, the numbers of names by their texts, and the output ports of the root by theirs.
+/// The components of a model by their paths, the numbers of its names by their texts, and the
+/// output ports of the root by their names.
 #[derive(Drop)]
 pub(crate) struct Directory<'t> {
     components: IndexMap<String, u32>,
@@ -13,7 +14,7 @@ pub(crate) struct Directory<'t> {
 }
 
 impl<'t> Directory<'t> {
-    /// The names of a tree: of what atomic models declare, and of the root's output ports.
+    /// The names in a tree.
     pub(crate) fn of(alloc: Global, tree: &'t Tree<'t>) -> Result<Self, AllocError> {
         Ok(Directory {
             components: components_of(alloc, tree)?,
@@ -22,19 +23,20 @@ impl<'t> Directory<'t> {
         })
     }
 
-    /// The component of a path.
+    /// The number of the component with a path.
     pub(crate) fn component(&self, path: &str) -> Option<u32> {
         self.components.get(path).copied()
     }
 
-    /// The component with a number and what is behind its path and a blank, where a text begins with them.
+    /// The component with a number, and the rest of a text that begins with its path and a blank.
+    /// `None` if it doesn't.
     pub(crate) fn split_path<'a>(&self, number: u32, text: &'a str) -> Option<(u32, &'a str)> {
         let (path, component) = self.components.get_index(number as usize)?;
         let rest = text.strip_prefix(path.as_str())?.strip_prefix(' ')?;
         Some((*component, rest))
     }
 
-    /// The number of a name.
+    /// The number of a name of a phase or an output port.
     pub(crate) fn name(&self, text: &str) -> Option<u32> {
         self.names.get(text.as_bytes()).copied()
     }

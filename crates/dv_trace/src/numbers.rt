@@ -6,7 +6,7 @@ ghost use Rattle.dv_time.specs.Limits.{greatest_tick};
 
 use dv_time::{GREATEST_TICK, Time};
 
-/// The number that decimal digits write, where it is at most the greatest.
+/// The number that the text is in decimal digits, if it is at most `greatest`.
 pub(crate) fn number_in(text: &str, greatest: u64) -> Option<u64>
     ensures spelled { IfSome result (λ n. n ≡ digits_value 10 text.now) }
     ensures bound { IfSome result (λ n. n ≤ greatest) }
@@ -24,7 +24,8 @@ pub(crate) fn number_in(text: &str, greatest: u64) -> Option<u64>
     }
 }
 
-/// The number that decimal digits write, with `-` before them or not, where it has 64 bits.
+/// The number that the text is in decimal digits, with or without `-` before them, if it has 64
+/// bits.
 pub(crate) fn value_in(text: &str) -> Option<i64> {
     if text.starts_with('+') {
         return None;
@@ -35,7 +36,7 @@ pub(crate) fn value_in(text: &str) -> Option<i64> {
     }
 }
 
-/// A tick of a run.
+/// The tick that the text is, at most the greatest tick of a run.
 pub(crate) fn tick_in(text: &str) -> Option<u64>
     ensures spelled { IfSome result (λ n. n ≡ digits_value 10 text.now) }
     ensures bound { IfSome result (λ n. n ≤ greatest_tick) }
@@ -43,7 +44,7 @@ pub(crate) fn tick_in(text: &str) -> Option<u64>
     number_in(text, GREATEST_TICK)
 }
 
-/// The time that `TICK.MICROSTEP` writes.
+/// The time that the text is, as `TICK.MICROSTEP`, if its tick is at most `greatest`.
 pub(crate) fn time_in(text: &str, greatest: u64) -> Option<Time> {
     let (tick, micro) = text.split_once('.')?;
     let tick = number_in(tick, greatest)?;

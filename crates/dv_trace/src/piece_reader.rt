@@ -1,30 +1,32 @@
-//! The bytes of a trace, read piece by piece.
+//! Reads a trace piece by piece.
 
 use std::alloc::Global;
 use std::io;
 use std::io::{ErrorKind, Read, Seek, Write};
 
-/// How many bytes of a trace are read at a time.
+/// The number of bytes that are read at a time.
 const PIECE_LENGTH: usize = 65_536;
 
-/// A trace that is read piece by piece. It keeps the piece that was read last.
+/// Reads a trace piece by piece, and keeps the current piece.
 #[derive(Drop)]
 pub struct PieceReader<'r, T> {
     trace: &'r mut T,
+    // The memory of the piece.
     piece: Vec<u8>,
-    // How many bytes of the piece were read last.
+    // The length of the current piece; 0 at the end of the trace.
     length: usize,
-    // How many bytes were read so far, and how many more are to be read at most.
+    // The number of bytes that were read so far.
     count: u64,
+    // The most bytes that are still to be read.
     left: u64,
 }
 
 impl<'r, T: Read> PieceReader<'r, T> {
-    /// Reads the first piece of a trace, from where it stands.
+    /// Reads the first piece of a trace, from its current position.
     ///
     /// # Errors
     ///
-    /// The trace can't be read, or, with the kind `OutOfMemory`, there is no memory.
+    /// The trace can't be read, or an allocation was refused (`ErrorKind::OutOfMemory`).
     pub fn begin(alloc: Global, trace: &'r mut T) -> io::Result<Self> {
         let mut reader = PieceReader {
             trace,
@@ -37,7 +39,8 @@ impl<'r, T: Read> PieceReader<'r, T> {
         Ok(reader)
     }
 
-    /// Gives a writer the piece that was read last and all that follows it, until a write fails: why is to be asked there.
+    /// Writes the current piece and all that follow to a writer. If a write fails, this call ends
+    /// without an error; the writer has to keep the cause.
     ///
     /// # Errors
     ///
@@ -53,7 +56,7 @@ impl<'r, T: Read> PieceReader<'r, T> {
         Ok(())
     }
 
-    // Reads the next piece. It has no bytes where none are left.
+    // Reads the next piece, which is empty at the end of the trace.
     fn read_next(&mut self) -> io::Result<()> {
         self.length = 0;
         if self.left == 0 {
@@ -69,8 +72,8 @@ impl<'r, T: Read> PieceReader<'r, T> {
 }
 
 impl<T: Read + Seek> PieceReader<'_, T> {
-    /// Goes back to the beginning of the trace, and reads its first piece. No more bytes will be read than were read before, though
-    /// the trace may have grown.
+    /// Goes back to the beginning of the trace and reads its first piece. Even if the trace has
+    /// grown, no more bytes are read from now on than were read before.
     ///
     /// # Errors
     ///
@@ -83,7 +86,7 @@ impl<T: Read + Seek> PieceReader<'_, T> {
     }
 }
 
-// Reads the next bytes. None are left where none were read.
+// Reads the next bytes, and returns how many: 0 at the end of the trace.
 fn read_piece<T: Read>(trace: &mut T, piece: &mut [u8]) -> io::Result<usize> {
     for _ in 0..u64::MAX {
         match trace.read(piece) {

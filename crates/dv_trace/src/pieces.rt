@@ -1,4 +1,4 @@
-//! The pieces of a line.
+//! The parts of a line.
 
 use crate::line::{Datum, Sending};
 use crate::names::Directory;
@@ -8,7 +8,7 @@ use dv_bag::Discipline;
 use dv_eval::{Domain, Scope};
 use dv_tree::Tree;
 
-/// The word in front of the first space, and what is behind that. Most words have a few bytes.
+/// The word before the first space, and the text after it.
 pub(crate) fn split_word(text: &str) -> (&str, &str) {
     let Some(end) = text.bytes().position(|byte| byte == b' ') else {
         return (text, "");
@@ -19,7 +19,7 @@ pub(crate) fn split_word(text: &str) -> (&str, &str) {
     }
 }
 
-/// What `name=value` says of the variable that has this name, and what is behind it.
+/// Reads `name=value` of the variable with this name, and returns the value and the text after it.
 fn split_variable<'a>(
     name: &str,
     domain: Domain,
@@ -38,7 +38,7 @@ fn split_variable<'a>(
     }
 }
 
-/// Reads what the variables, flags, bags and queues hold, in their order. What is behind them is returned.
+/// Reads the values of all state variables, in their order, and returns the text after them.
 pub(crate) fn split_state<'a>(
     tree: &Tree,
     scope: &Scope,
@@ -59,15 +59,16 @@ pub(crate) fn split_state<'a>(
     Ok(rest)
 }
 
-/// Among how many names one is looked for by its text, before its number is.
+/// The most names that are searched one after the other by their texts. Among more names, one is
+/// looked up by its number.
 const FEW_NAMES: usize = 8;
 
-/// The index of a name among numbers of names. No number is there twice.
+/// The index of a name in a list of names, which are given by their numbers.
 fn index_in(tree: &Tree, numbers: &[u32], name: &str) -> Option<usize> {
     numbers.iter().position(|number| tree.name(*number) == name)
 }
 
-/// The index of a phase of this name.
+/// The index of the phase with this name.
 pub(crate) fn phase_of(
     tree: &Tree,
     names: &Directory<'_>,
@@ -88,7 +89,7 @@ pub(crate) enum Sender<'s> {
     Root,
 }
 
-/// The index of an output port of this name.
+/// The index of the output port with this name.
 fn port_of(tree: &Tree, names: &Directory<'_>, sender: Sender<'_>, name: &str) -> Option<usize> {
     match sender {
         Sender::Component(scope) if scope.outputs().len() <= FEW_NAMES => {
@@ -99,7 +100,7 @@ fn port_of(tree: &Tree, names: &Directory<'_>, sender: Sender<'_>, name: &str) -
     }
 }
 
-/// What `port:v,v` says.
+/// Reads `port:v,v`.
 fn sending_in<'a>(
     tree: &Tree,
     names: &Directory<'_>,
@@ -118,7 +119,7 @@ fn sending_in<'a>(
     }
 }
 
-/// Reads what `port:v,v port:v` says, of ports in their order.
+/// Reads `port:v,v port:v`. The ports have to be in their order.
 pub(crate) fn read_sendings<'a>(
     tree: &Tree,
     names: &Directory<'_>,
@@ -126,7 +127,7 @@ pub(crate) fn read_sendings<'a>(
     text: &'a str,
     sent: &mut Vec<Sending<'a>>,
 ) -> Result<(), LineError> {
-    // Mostly one port sends.
+    // Mostly one port sends something.
     sent.reserve_exact(1)?;
     let mut least = 0;
     for word in text.split(' ') {
@@ -142,7 +143,7 @@ pub(crate) fn read_sendings<'a>(
     Ok(())
 }
 
-/// Reads what stands behind the state of a component: nothing, or `> ` and what it sent.
+/// Reads the text after the state of a component: nothing, or `> ` and what it sent.
 pub(crate) fn read_sent<'a>(
     tree: &Tree,
     names: &Directory<'_>,

@@ -3,23 +3,25 @@
 use dv_time::Time;
 use std::fmt;
 
-/// Whether a trace has to have an end, which is `whole` with the horizon, or `partial` behind clocks.
+/// Whether a trace has to have an end: the line `whole` with the horizon, or `partial` after
+/// clocks.
 #[derive(Clone, Copy, PartialEq, Eq)]
 pub enum End {
     /// The trace has to have an end, with its line feed.
     Required,
-    /// A run may have been stopped. What it printed is read up to its last line feed.
+    /// The trace may have no end, because its run was stopped. It is read up to its last line feed.
     Optional,
 }
 
-/// How far a trace reaches: what happened before which time is in it.
+/// How far a trace reaches.
 #[derive(Clone, Copy, PartialEq, Eq)]
 pub enum Reach {
-    /// It has all up to this horizon, a tick.
+    /// It has all that happened up to this horizon, a tick.
     Whole(u64),
-    /// It has all before the least clock, where a process told one.
+    /// It is partial, and has all that happened before the least clock. `None` if it has no clocks.
     Partial(Option<Time>),
-    /// It has no end. It has all before the time of its last line, where it has lines; at that time more may have happened.
+    /// It has no end, and has all that happened before the time of its last line; at that time more
+    /// may have happened. `None` if it has no lines.
     NoEnd(Option<Time>),
 }
 
@@ -37,7 +39,8 @@ impl fmt::Display for Reach {
     }
 }
 
-/// The bytes of a trace that are read: all of them, or those up to the last line feed where the end is optional.
+/// The bytes of a trace that are read: all of them if an end is required, otherwise those before
+/// the last line feed.
 pub fn read_part(trace: &[u8], end: End) -> &[u8] {
     match end {
         End::Required => trace,

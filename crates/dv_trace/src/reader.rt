@@ -1,4 +1,4 @@
-//! Reads a trace, one line after the other.
+//! Reads the lines of a trace.
 
 use crate::line::{EntryHead, Event, LineHead, LineLists, TraceLine};
 use crate::names::Directory;
@@ -19,13 +19,14 @@ enum Last {
     Nothing,
     Entry(Time, u32),
     Outside(Time),
-    // A clock: the least one so far, and the time of the last line before the clocks, where there is one.
+    // A clock: the least one so far, and the time of the last line before the clocks, if there is
+    // one.
     Clock { least: Time, before: Option<Time> },
     End(Reach),
 }
 
-/// Reads the lines of a trace of a model, one after the other. Besides the names of the model it keeps of the lines that were read only
-/// where the last one stood, and a number for each component.
+/// Reads the lines of a trace of a model, one after the other. Its memory does not grow with the
+/// trace.
 #[derive(Drop)]
 pub struct TraceReader<'t> {
     alloc: Global,
@@ -33,17 +34,17 @@ pub struct TraceReader<'t> {
     names: Directory<'t>,
     recent: Recent,
     last: Last,
-    // Whether what stands after the end was read, and is empty. Nothing stands after an end without its line feed.
+    // Whether an empty line was read after the end. There is none if the end has no line feed.
     is_past_end: bool,
     lines: u64,
 }
 
 impl<'t> TraceReader<'t> {
-    /// Reads traces of the model of this tree, from their first line on.
+    /// A reader at the first line of a trace of the model of this tree.
     ///
     /// # Errors
     ///
-    /// No memory for the names.
+    /// An allocation was refused.
     pub fn new(alloc: Global, tree: &'t Tree<'t>) -> Result<Self, AllocError> {
         Ok(TraceReader {
             alloc,
@@ -56,23 +57,26 @@ impl<'t> TraceReader<'t> {
         })
     }
 
-    /// What the next line says. It is given without its line feed; a carriage return at its end is passed over.
+    /// Reads the next line, which is given without its line feed. A carriage return at its end is
+    /// ignored.
     ///
     /// # Errors
     ///
-    /// `Refused` where the line has none of the forms of a trace, names what the model does not have, or stands out of
-    /// order. `Memory`: no memory for what it says.
+    /// `Refused`: the line has none of the forms of a trace, has names that the model does not
+    /// have, or is out of order. `Memory`: an allocation was refused.
     pub fn read_line<'a>(&mut self, line: &'a [u8]) -> Result<TraceLine<'a>, TraceError> {
         let mut lists = LineLists::new(self.alloc);
         let head = self.read_into(line, &mut lists)?;
         Ok(TraceLine::of(head, lists))
     }
 
-    /// What the next line says, as `read_line`, with its lists in the place of those of another line.
+    /// Reads the next line as `read_line` does, and puts its lists into `lists`, in the place of
+    /// those of another line.
     ///
     /// # Errors
     ///
-    /// As `read_line`. The lists hold a beginning of what the line says then, perhaps nothing.
+    /// The same as for `read_line`. `lists` then has a beginning of the lists of the line, perhaps
+    /// nothing.
     pub fn read_into<'a>(
         &mut self,
         line: &'a [u8],
@@ -87,12 +91,13 @@ impl<'t> TraceReader<'t> {
         }
     }
 
-    /// The trace ends after the last line. How far it reaches is returned. If an end is required, what stands after the last line
-    /// feed was read as a line, too: an end whose line feed is missing may have been cut within its number.
+    /// Ends the trace and returns how far it reaches. If an end is required, the text after the
+    /// last line feed has to be read as a line before, even if it is empty: an end without a line
+    /// feed may have been cut within its number.
     ///
     /// # Errors
     ///
-    /// `Refused` where the last line is no end, or an end without its line feed, and an end is required.
+    /// `Refused`: an end is required, and the last line is no end, or is one without a line feed.
     pub fn end(&self, end: End) -> Result<Reach, TraceError> {
         match (self.last, end) {
             (Last::End(reach), End::Required) if self.is_past_end => Ok(reach),
@@ -177,7 +182,8 @@ impl<'t> TraceReader<'t> {
         Ok(LineHead::Partial)
     }
 
-    // The clock in `process N clock T.K`. The clock of a process that is done is behind the horizon.
+    // Reads the clock in `process N clock T.K`. The clock of a process that has finished is after
+    // the horizon.
     fn clock(&mut self, rest: &str) -> Result<LineHead, LineError> {
         let (number, rest) = split_word(rest);
         let Some(clock) = rest.strip_prefix("clock ") else {
@@ -270,7 +276,7 @@ impl<'t> TraceReader<'t> {
         }
     }
 
-    // The phase to which a transition leads.
+    // Reads a transition, and returns the index of its phase.
     fn transition<'a>(
         &self,
         scope: &Scope,
@@ -319,7 +325,7 @@ impl Last {
         }
     }
 
-    // The time of the last line that has one: all that happened before it has been read.
+    // The time of the last line that has one. All that happened before it has been read.
     fn time(self) -> Option<Time> {
         match self {
             Last::Entry(time, _) | Last::Outside(time) => Some(time),
@@ -328,7 +334,7 @@ impl Last {
         }
     }
 
-    // Whether the line of a component may be next.
+    // Whether the line of a component may follow.
     fn is_before_entry(self, time: Time, component: u32) -> bool {
         match self {
             Last::Nothing => true,
@@ -340,7 +346,7 @@ impl Last {
         }
     }
 
-    // Whether the line of what leaves may be next.
+    // Whether the line of what left the model may follow.
     fn is_before_outside(self, time: Time) -> bool {
         match self {
             Last::Nothing => true,
@@ -350,7 +356,7 @@ impl Last {
         }
     }
 
-    // Whether a horizon may be next.
+    // Whether `whole` with this horizon may follow.
     fn is_within(self, horizon: u64) -> bool {
         match self {
             Last::Nothing => true,
@@ -360,13 +366,12 @@ impl Last {
     }
 }
 
-/// Reads a trace of the model of a tree to its end, or up to its last line feed where it need not have one. How far it reaches is
-/// returned.
+/// Tests a trace of the model of a tree, and returns how far it reaches.
 ///
 /// # Errors
 ///
-/// `Refused` at the first line that `TraceReader::read_line` refuses, or where the trace has no end and one is required.
-/// `Memory`: no memory for the names or a line.
+/// `Refused`: `TraceReader::read_line` refuses a line, or an end is required and there is none.
+/// `Memory`: an allocation was refused.
 pub fn check_trace(
     alloc: Global,
     tree: &Tree<'_>,

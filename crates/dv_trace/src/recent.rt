@@ -1,23 +1,24 @@
-//! What the last lines began with. Most lines have the time of the line before, and the components of one instant mostly come in the
-//! order in which they came before. So both are compared first, which takes less than to read a time and to look up a path.
+//! How the last lines began. Most lines have the time of the line before, and components mostly
+//! come in the same order as at the instant before. So a line is compared with these first, which
+//! is faster than to read a time and to look up a path.
 
 use dv_time::Time;
 use std::alloc::{AllocError, Global};
 
-/// The time of the last line with its text, and which component came behind which.
+/// The last time, and the order in which components came.
 #[derive(Drop)]
 pub(crate) struct Recent {
     time: Option<Time>,
     // The text of the time, and a blank.
     stamp: String,
-    // The component of the last line of a component.
+    // The last component.
     component: u32,
-    // By component, the one whose line came behind its last line; at first the next one.
+    // For each component the one that followed it last; at first the one with the next number.
     followers: Vec<u32>,
 }
 
 impl Recent {
-    /// No line, of a model with so many components.
+    /// The state before the first line, for a model with this number of components.
     pub(crate) fn new(alloc: Global, components: usize) -> Result<Self, AllocError> {
         let mut followers = Vec::with_capacity(alloc, components)?;
         let mut next: u32 = 0;
@@ -33,14 +34,15 @@ impl Recent {
         })
     }
 
-    /// The time of the last line and what is behind it, where a line begins with that time and a blank.
+    /// The last time, and the rest of a line that begins with it and a blank. `None` if the line
+    /// doesn't.
     pub(crate) fn split_time<'a>(&self, line: &'a str) -> Option<(Time, &'a str)> {
         let time = self.time?;
         let rest = line.strip_prefix(self.stamp.as_str())?;
         Some((time, rest))
     }
 
-    /// A line has a time, which its word says.
+    /// Keeps the time of a line. `word` is its text.
     pub(crate) fn keep_time(&mut self, time: Time, word: &str) -> Result<(), AllocError> {
         self.time = None;
         self.stamp.clear();
@@ -50,12 +52,12 @@ impl Recent {
         Ok(())
     }
 
-    /// The component whose line is likely to be next.
+    /// The component that is likely to come next.
     pub(crate) fn follower(&self) -> Option<u32> {
         self.followers.get(self.component as usize).copied()
     }
 
-    /// A line is of a component.
+    /// Keeps the component of a line.
     pub(crate) fn keep_component(&mut self, component: u32) {
         if let Some(follower) = self.followers.get_mut(self.component as usize)
             && *follower != component

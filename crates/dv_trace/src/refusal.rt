@@ -18,17 +18,18 @@ pub enum TraceReason {
     Phase,
     /// The variables are not those of the component, in their order.
     Variable,
-    /// A value is not written as one of its variable or its port. Ranges and capacities are not tested.
+    /// A value is not one of its variable or its port. Ranges and capacities are not tested.
     Value,
     /// No output port has this name, or ports are not in their order.
     Port,
     /// No fault has this name.
     Fault,
-    /// The line comes too early or too late: lines go by time, then by component, and what leaves the model comes last.
+    /// The line is out of order: lines are sorted by time, then by component, and what left the
+    /// model comes last.
     Order,
-    /// The trace ended with the line before.
+    /// The line comes after the end of the trace.
     AfterEnd,
-    /// The trace has no end, which is `whole` with the horizon, or `partial`.
+    /// The trace has no end: no line `whole` with the horizon, and no `partial`.
     NoEnd,
 }
 
@@ -51,7 +52,7 @@ impl fmt::Display for TraceReason {
     }
 }
 
-/// A refused trace as it is answered: what is wrong, and with which line, counted from 1.
+/// Why a trace is refused, and at which line.
 #[derive(Clone, Copy, Debug, PartialEq, Eq)]
 pub struct TraceRefusal {
     /// What is wrong.
@@ -66,10 +67,10 @@ impl fmt::Display for TraceRefusal {
     }
 }
 
-/// Why a trace is not read to its end.
+/// Why a trace is not read.
 #[derive(Clone, Copy, PartialEq, Eq)]
 pub enum TraceError {
-    /// The trace is malformed, or is none of this model.
+    /// The trace is malformed, or not one of this model.
     Refused(TraceRefusal),
     /// An allocation was refused.
     Memory,

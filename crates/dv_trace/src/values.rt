@@ -1,11 +1,11 @@
-//! Values between commas.
+//! Values of variables and ports.
 
 use crate::line::{Datum, Values};
 use crate::numbers::value_in;
 use dv_bag::Discipline;
 use dv_eval::Domain;
 
-/// Some values with commas between them, as a collection of this discipline has them: those of a bag ascend.
+/// Reads one or more values with commas between them. Those of a bag have to ascend.
 pub(crate) fn values_in(discipline: Discipline, text: &str) -> Option<Values<'_>> {
     if value_in(text).is_some() {
         return Some(Values { text, count: 1 });
@@ -23,7 +23,7 @@ pub(crate) fn values_in(discipline: Discipline, text: &str) -> Option<Values<'_>
     Some(Values { text, count })
 }
 
-// A collection in brackets.
+// Reads a bag or a queue in brackets, which may be empty.
 fn held_in(discipline: Discipline, text: &str) -> Option<Values<'_>> {
     let inner = text.strip_prefix("[")?.strip_suffix("]")?;
     if inner.is_empty() {
@@ -35,7 +35,7 @@ fn held_in(discipline: Discipline, text: &str) -> Option<Values<'_>> {
     values_in(discipline, inner)
 }
 
-/// What a variable, a flag, a bag or a queue holds.
+/// Reads the value of a state variable with this domain.
 pub(crate) fn datum_in(domain: Domain, text: &str) -> Option<Datum<'_>> {
     match domain {
         Domain::Number(_) => Some(Datum::Number(value_in(text)?)),
