@@ -1,16 +1,17 @@
 //! What arrives at the input ports of the root.
 
-use dv_bag::{Input, Inputs};
+use dv_bag::Input;
 use dv_inputs::{InputsError, read_inputs};
 use dv_time::GREATEST_LIMIT;
 use dv_tree::Tree;
 use std::alloc::{AllocError, Global};
 
-/// The input ports of the root that are shown, by their names, and the inputs of the run. Where no inputs are given, none are shown.
+/// The input ports of the root that are shown, by their names, and the inputs of the run: by their times, at one time by their
+/// ports, and those of one port ascending. Where no inputs are given, none are shown.
 #[derive(Drop)]
 pub(crate) struct RootInputs {
     pub(crate) ports: Vec<String>,
-    pub(crate) inputs: Inputs,
+    pub(crate) inputs: Vec<Input>,
 }
 
 impl RootInputs {
@@ -23,19 +24,24 @@ impl RootInputs {
         let Some(text) = text else {
             return Ok(RootInputs {
                 ports: Vec::new(alloc),
-                inputs: Inputs::new(alloc),
+                inputs: Vec::new(alloc),
             });
         };
         let ports = tree.input_names(alloc)?;
         let inputs = read_inputs(alloc, text, &ports, GREATEST_LIMIT)?;
-        Ok(RootInputs { ports, inputs })
+        Ok(RootInputs {
+            ports,
+            inputs: in_order(alloc, inputs.as_slice())?,
+        })
     }
 }
 
-/// Inputs of one time, by their ports, and those of one port ascending.
-pub(crate) fn by_port(alloc: Global, together: &[Input]) -> Result<Vec<Input>, AllocError> {
-    let mut sorted = Vec::from_slice(alloc, together)?;
-    sorted.sort_unstable_by_key(|input| (input.port, input.value));
+fn in_order(alloc: Global, inputs: &[Input]) -> Result<Vec<Input>, AllocError> {
+    let mut sorted = Vec::from_slice(alloc, inputs)?;
+    sorted.sort_unstable_by_key(|input| {
+        let time = input.time;
+        (time.tick, time.micro, input.port, input.value)
+    });
     Ok(sorted)
 }
 

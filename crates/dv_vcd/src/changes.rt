@@ -1,6 +1,6 @@
 //! The changes of values, line after line of a trace.
 
-use crate::arrivals::{RootInputs, by_port, values_of};
+use crate::arrivals::{RootInputs, values_of};
 use crate::forms::Form;
 use crate::marks::Marks;
 use crate::ports::Ports;
@@ -32,15 +32,15 @@ pub(crate) struct Changes<'a> {
 }
 
 impl<'a> Changes<'a> {
-    /// At tick 0, where the model begins.
+    /// At tick 0, where the model begins. They are large, so they lie on the heap.
     pub(crate) fn new(
         alloc: Global,
         tree: &'a Tree<'a>,
         root: &'a RootInputs,
         holds_ports: bool,
-    ) -> Result<Self, AllocError> {
+    ) -> Result<Box<Self>, AllocError> {
         let shown = all_shown(alloc, tree)?;
-        Ok(Changes {
+        let changes = Changes {
             text: String::new(alloc),
             alloc,
             tree,
@@ -50,7 +50,8 @@ impl<'a> Changes<'a> {
             arrived: 0,
             tick: 0,
             marks: Marks::new(alloc),
-        })
+        };
+        Ok(Box::new(alloc, changes)?)
     }
 
     /// What everything shows at the start. The writer has some of it then.
@@ -86,41 +87,35 @@ impl<'a> Changes<'a> {
         hand_over(writer, self.text.as_bytes())
     }
 
-    // The inputs that arrive up to a tick, of those that have not arrived yet.
+    // The inputs that arrive up to a tick.
     fn take_inputs(&mut self, tick: u64) -> Result<(), AllocError> {
-        let inputs = self.root.inputs.as_slice();
+        let inputs = &self.root.inputs;
         let rest = inputs.get(self.arrived..).unwrap_or(&[]);
-        let count = rest
-            .iter()
-            .take_while(|input| input.time.tick <= tick)
-            .count();
-        let due = rest.get(..count).unwrap_or(&[]);
-        for together in due.chunk_by(|input, next| input.time == next.time) {
-            self.arrive(together)?;
+        match rest.first() {
+            Some(next) if next.time.tick <= tick => self.take_first(rest, tick),
+            Some(_) | None => Ok(()),
         }
-        self.arrived = self.arrived.saturating_add(count);
-        Ok(())
     }
 
-    // Inputs that arrive at one time.
-    fn arrive(&mut self, together: &[Input]) -> Result<(), AllocError> {
-        if let Some(first) = together.first() {
-            self.go_to(first.time.tick)?;
-        }
-        let sorted = by_port(self.alloc, together)?;
-        for inputs in sorted.chunk_by(|input, next| input.port == next.port) {
-            self.arrive_at_port(inputs)?;
+    // The inputs that arrive up to a tick, of those that have not arrived yet.
+    fn take_first(&mut self, rest: &[Input], tick: u64) -> Result<(), AllocError> {
+        for together in rest.chunk_by(|input, next| input.time == next.time
+            && input.port == next.port)
+        {
+            match together.first() {
+                Some(first) if first.time.tick <= tick => self.arrive(*first, together)?,
+                Some(_) | None => break,
+            }
         }
         Ok(())
     }
 
-    // Inputs that arrive at one time by one port.
-    fn arrive_at_port(&mut self, inputs: &[Input]) -> Result<(), AllocError> {
-        let Some(first) = inputs.first() else {
-            return Ok(());
-        };
+    // Inputs that arrive at one time by one port, of which this is the first.
+    fn arrive(&mut self, first: Input, together: &[Input]) -> Result<(), AllocError> {
+        self.go_to(first.time.tick)?;
+        self.arrived = self.arrived.saturating_add(together.len());
         let code = self.shown.inputs.saturating_add(u64::from(first.port));
-        let values = values_of(self.alloc, inputs)?;
+        let values = values_of(self.alloc, together)?;
         self.pass(code, values.as_str())
     }
 

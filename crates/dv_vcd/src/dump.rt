@@ -77,30 +77,35 @@ fn write_changes<T: Read, W: Write>(
     end: End,
     writer: &mut W,
 ) -> Result<Reach, VcdError> {
+    let mut reader = TraceReader::new(changes.alloc, changes.tree)?;
+    write_lines(&mut reader, changes, pieces, end, writer)
+}
+
+fn write_lines<'a, T: Read, W: Write>(
+    reader: &mut TraceReader<'a>,
+    changes: &mut Changes<'a>,
+    pieces: &mut PieceReader<'_, T>,
+    end: End,
+    writer: &mut W,
+) -> Result<Reach, VcdError> {
     let alloc = changes.alloc;
     let dump = Dump {
-        reader: TraceReader::new(alloc, changes.tree)?,
-        changes,
-        writer,
+        reader: &mut *reader,
+        changes: &mut *changes,
+        writer: &mut *writer,
     };
-    read_lines(alloc, pieces, end, dump)?.end(end)
+    read_lines(alloc, pieces, end, dump)?;
+    let reach = reader.end(end)?;
+    changes.finish(reach, writer)?;
+    Ok(reach)
 }
 
 /// What reads the lines of a trace, and writes what they change.
 #[derive(Drop)]
 struct Dump<'a, 'w, W> {
-    reader: TraceReader<'a>,
+    reader: &'w mut TraceReader<'a>,
     changes: &'w mut Changes<'a>,
     writer: &'w mut W,
-}
-
-impl<W: Write> Dump<'_, '_, W> {
-    // Writes what is left behind the last line, and tells how far the trace reaches.
-    fn end(&mut self, end: End) -> Result<Reach, VcdError> {
-        let reach = self.reader.end(end)?;
-        self.changes.finish(reach, self.writer)?;
-        Ok(reach)
-    }
 }
 
 impl<W: Write> TakeLine for Dump<'_, '_, W> {

@@ -5,14 +5,15 @@ use dv_trace::{End, LineCutter, PieceReader, TakeLine};
 use std::alloc::Global;
 use std::io::Read;
 
-/// Has all lines of a trace taken, from the piece that was read last on. What took them is returned.
+/// Has all lines of a trace taken, from the piece that was read last on.
 pub(crate) fn read_lines<T: Read, L: TakeLine<Error = VcdError> + Drop>(
     alloc: Global,
     pieces: &mut PieceReader<'_, T>,
     end: End,
     taker: L,
-) -> Result<L, VcdError> {
+) -> Result<(), VcdError> {
     let mut lines = LineCutter::new(alloc, taker);
     pieces.give_all(&mut lines)?;
-    lines.finish(end)
+    let _taker = lines.finish(end)?;
+    Ok(())
 }

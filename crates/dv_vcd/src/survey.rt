@@ -5,7 +5,6 @@ use crate::error::VcdError;
 use crate::ports::{Passing, Ports};
 use crate::reading::read_lines;
 use crate::shown::AllShown;
-use dv_bag::Input;
 use dv_trace::{
     End, LineHead, LineLists, PieceReader, Reach, Sending, TakeLine, TraceReader, Values,
 };
@@ -17,55 +16,64 @@ pub(crate) fn survey<T: Read>(
     pieces: &mut PieceReader<'_, T>,
     end: End,
 ) -> Result<(), VcdError> {
-    let alloc = changes.alloc;
-    let inputs = changes.root.inputs.as_slice();
+    let mut reader = TraceReader::new(changes.alloc, changes.tree)?;
+    survey_lines(&mut reader, changes, pieces, end)
+}
+
+fn survey_lines<'a, T: Read>(
+    reader: &mut TraceReader<'a>,
+    changes: &mut Changes<'a>,
+    pieces: &mut PieceReader<'_, T>,
+    end: End,
+) -> Result<(), VcdError> {
+    let mut last = 0;
     let watch = Watch {
-        reader: TraceReader::new(alloc, changes.tree)?,
+        reader: &mut *reader,
         shown: &changes.shown,
         ports: &mut changes.ports,
-        last: 0,
+        last: &mut last,
     };
-    read_lines(alloc, pieces, end, watch)?.end(end, inputs)
+    read_lines(changes.alloc, pieces, end, watch)?;
+    let behind = tick_behind(reader.end(end)?, last);
+    pass_inputs(changes, behind);
+    Ok(())
+}
+
+// The inputs pass by ports that arrive before a tick.
+fn pass_inputs(changes: &mut Changes<'_>, behind: u64) {
+    for input in &changes.root.inputs {
+        if input.time.tick >= behind {
+            break;
+        }
+        let code = changes.shown.inputs.saturating_add(u64::from(input.port));
+        let passing = Passing::of(input.value);
+        changes.ports.pass(input.time.tick, code, passing);
+    }
 }
 
 /// What reads the lines of a trace, and looks at what passes by ports.
 #[derive(Drop)]
 struct Watch<'a, 'w> {
-    reader: TraceReader<'a>,
+    reader: &'w mut TraceReader<'a>,
     shown: &'w AllShown<'a>,
     ports: &'w mut Ports,
     // The tick of the last line by which something may have passed.
-    last: u64,
+    last: &'w mut u64,
 }
 
 impl Watch<'_, '_> {
     // Looks at what passes by ports at a line, and keeps its tick.
     fn look_at(&mut self, head: LineHead, sent: &[Sending<'_>]) {
-        let shown = self.shown;
-        match head {
-            LineHead::Entry(entry) => {
-                self.last = entry.time.tick;
-                if let Some(component) = shown.components.get(entry.component as usize) {
-                    pass_all(self.ports, self.last, component.codes.port(0), sent);
-                }
-            }
-            LineHead::Outside(time) => {
-                self.last = time.tick;
-                pass_all(self.ports, self.last, shown.outputs, sent);
-            }
-            LineHead::Empty | LineHead::Whole(_) | LineHead::Clock(_) | LineHead::Partial => {}
-        }
-    }
-
-    // Looks at the inputs, which pass by ports where they arrive before the end of the trace.
-    fn end(&mut self, end: End, inputs: &[Input]) -> Result<(), VcdError> {
-        let behind = tick_behind(self.reader.end(end)?, self.last);
-        for input in inputs.iter().take_while(|input| input.time.tick < behind) {
-            let code = self.shown.inputs.saturating_add(u64::from(input.port));
-            self.ports
-                .pass(input.time.tick, code, Passing::of(input.value));
-        }
-        Ok(())
+        let (tick, first) = match head {
+            LineHead::Entry(entry) => match self.shown.components.get(entry.component as usize) {
+                Some(component) => (entry.time.tick, component.codes.port(0)),
+                None => return,
+            },
+            LineHead::Outside(time) => (time.tick, self.shown.outputs),
+            LineHead::Empty | LineHead::Whole(_) | LineHead::Clock(_) | LineHead::Partial => return,
+        };
+        *self.last = tick;
+        pass_all(self.ports, tick, first, sent);
     }
 }
 
