@@ -6,8 +6,8 @@ use dv_time::GREATEST_LIMIT;
 use dv_tree::Tree;
 use std::alloc::{AllocError, Global};
 
-/// The input ports of the root that are shown, by their names, and the inputs of the run: by their times, at one time by their
-/// ports, and those of one port ascending. Where no inputs are given, none are shown.
+/// The inputs of the run and the names of the root's input ports. Both are empty if no inputs are
+/// given: then no input port is shown. The inputs are sorted by time, then by port, then by value.
 #[derive(Drop)]
 pub(crate) struct RootInputs {
     pub(crate) ports: Vec<String>,
@@ -15,7 +15,8 @@ pub(crate) struct RootInputs {
 }
 
 impl RootInputs {
-    /// What a text of inputs says, where there is one. With which limit the run was made is not known: the greatest takes them all.
+    /// Reads the text of the inputs, if there is one. The microstep limit of the run is not known
+    /// here, so the greatest one is used, with which all inputs are accepted.
     pub(crate) fn of(
         alloc: Global,
         tree: &Tree<'_>,
@@ -36,6 +37,7 @@ impl RootInputs {
     }
 }
 
+// The inputs, sorted by time, port and value.
 fn in_order(alloc: Global, inputs: &[Input]) -> Result<Vec<Input>, AllocError> {
     let mut sorted = Vec::from_slice(alloc, inputs)?;
     sorted.sort_unstable_by_key(|input| {
@@ -45,7 +47,7 @@ fn in_order(alloc: Global, inputs: &[Input]) -> Result<Vec<Input>, AllocError> {
     Ok(sorted)
 }
 
-/// The values of inputs, with commas between them as in a trace.
+/// The values of the inputs, with commas between them as in a trace.
 pub(crate) fn values_of(alloc: Global, inputs: &[Input]) -> Result<String, AllocError> {
     let mut values = String::new(alloc);
     for input in inputs {

@@ -1,12 +1,12 @@
-//! The changes of values, line after line of a trace.
+//! The changes of values, line by line.
 
 use crate::arrivals::{RootInputs, values_of};
 use crate::forms::Form;
 use crate::marks::Marks;
 use crate::ports::Ports;
-use crate::shown::{AllShown, Codes, Shown, ShownDatum, Standing, all_shown, shown_by};
+use crate::shown::{AllShown, Codes, Shown, ShownDatum, Status, all_shown, shown_by};
 use crate::survey::tick_behind;
-use crate::values::{push_held, push_nothing, push_number, push_standing, push_string};
+use crate::values::{push_held, push_nothing, push_number, push_status, push_string};
 use dv_bag::Input;
 use dv_text::{WriteError, hand_over, hand_over_if_long};
 use dv_trace::{Datum, EntryHead, Event, LineHead, LineLists, Reach, Sending};
@@ -14,7 +14,7 @@ use dv_tree::Tree;
 use std::alloc::{AllocError, Global};
 use std::io::Write;
 
-/// The text of the changes so far, as far as the writer has it not yet, and what is shown behind them.
+/// What is shown now, and the text of the changes that is not written yet.
 #[derive(Drop)]
 pub(crate) struct Changes<'a> {
     pub(crate) text: String,
@@ -23,16 +23,16 @@ pub(crate) struct Changes<'a> {
     pub(crate) shown: AllShown<'a>,
     pub(crate) ports: Ports,
     pub(crate) root: &'a RootInputs,
-    // How many of the inputs have arrived.
+    // How many inputs have arrived.
     arrived: usize,
-    // The tick at which the text is.
+    // The tick of the last change in the text.
     tick: u64,
-    // What passed in this tick by ports that are texts.
+    // What passed in this tick by ports that are strings.
     marks: Marks,
 }
 
 impl<'a> Changes<'a> {
-    /// At tick 0, where the model begins. They are large, so they lie on the heap.
+    /// The start of the model, at tick 0. It is large, so it is boxed.
     pub(crate) fn new(
         alloc: Global,
         tree: &'a Tree<'a>,
@@ -54,7 +54,7 @@ impl<'a> Changes<'a> {
         Ok(Box::new(alloc, changes)?)
     }
 
-    /// What everything shows at the start. The writer has some of it then.
+    /// Adds the values of all variables at the start, and writes the text as it gets long.
     pub(crate) fn start<W: Write>(&mut self, writer: &mut W) -> Result<(), WriteError> {
         let text = &mut self.text;
         text.push_str("#0\n$dumpvars\n")?;
@@ -69,13 +69,14 @@ impl<'a> Changes<'a> {
         Ok(())
     }
 
-    // Goes on to a tick, by the inputs that arrive up to it.
+    // Moves to a tick. The inputs that arrive up to it are taken first.
     fn advance(&mut self, tick: u64) -> Result<(), AllocError> {
         self.take_inputs(tick)?;
         self.go_to(tick)
     }
 
-    /// Goes on behind a trace that reaches so far, by the inputs that arrive before its end. The writer has all of the text then.
+    /// Moves behind the end of the trace, which reaches this far, takes the inputs that arrive
+    /// before it, and writes the rest of the text.
     pub(crate) fn finish<W: Write>(
         &mut self,
         reach: Reach,
@@ -87,18 +88,18 @@ impl<'a> Changes<'a> {
         hand_over(writer, self.text.as_bytes())
     }
 
-    // The inputs that arrive up to a tick.
+    // Takes the inputs that arrive up to a tick. Mostly there are none.
     fn take_inputs(&mut self, tick: u64) -> Result<(), AllocError> {
         let inputs = &self.root.inputs;
         let rest = inputs.get(self.arrived..).unwrap_or(&[]);
         match rest.first() {
-            Some(next) if next.time.tick <= tick => self.take_first(rest, tick),
+            Some(next) if next.time.tick <= tick => self.take_due(rest, tick),
             Some(_) | None => Ok(()),
         }
     }
 
-    // The inputs that arrive up to a tick, of those that have not arrived yet.
-    fn take_first(&mut self, rest: &[Input], tick: u64) -> Result<(), AllocError> {
+    // Takes those that arrive up to a tick, among the inputs that have not arrived yet.
+    fn take_due(&mut self, rest: &[Input], tick: u64) -> Result<(), AllocError> {
         for together in rest.chunk_by(|input, next| input.time == next.time
             && input.port == next.port)
         {
@@ -110,7 +111,7 @@ impl<'a> Changes<'a> {
         Ok(())
     }
 
-    // Inputs that arrive at one time by one port, of which this is the first.
+    // Shows inputs that arrive at one time at one port. `first` is the first of them.
     fn arrive(&mut self, first: Input, together: &[Input]) -> Result<(), AllocError> {
         self.go_to(first.time.tick)?;
         self.arrived = self.arrived.saturating_add(together.len());
@@ -119,7 +120,7 @@ impl<'a> Changes<'a> {
         self.pass(code, values.as_str())
     }
 
-    // Goes on to a tick. What passed by ports before that are marked is shown no longer than its tick.
+    // Moves to a tick. What passed by ports that are not held is shown for one tick only.
     fn go_to(&mut self, tick: u64) -> Result<(), AllocError> {
         if tick <= self.tick {
             return Ok(());
@@ -149,7 +150,7 @@ impl<'a> Changes<'a> {
         Ok(())
     }
 
-    /// What a line changes. The writer has the text of it once that is long.
+    /// Adds what a line changes, and writes the text once it is long.
     pub(crate) fn follow<W: Write>(
         &mut self,
         head: LineHead,
@@ -164,31 +165,31 @@ impl<'a> Changes<'a> {
         hand_over_if_long(&mut self.text, writer)
     }
 
-    // What the line of a component changes. The line of a fault tells of no variable.
+    // Adds what the line of a component changes. The line of a fault has no variables.
     fn entry(&mut self, entry: EntryHead, lists: &LineLists<'_>) -> Result<(), AllocError> {
         self.advance(entry.time.tick)?;
         let Some(shown) = self.shown.components.get_mut(entry.component as usize) else {
             return Ok(());
         };
-        let standing = match entry.event {
+        let status = match entry.event {
             Event::Transition { kind: _, phase } => {
-                Standing::Phase(phase_name(self.tree, shown, phase))
+                Status::Phase(phase_name(self.tree, shown, phase))
             }
-            Event::Fault(fault) => Standing::Fault(fault),
+            Event::Fault(fault) => Status::Fault(fault),
         };
-        move_to(&mut self.text, shown, standing)?;
+        move_to(&mut self.text, shown, status)?;
         follow_state(&mut self.text, shown, &lists.state)?;
         let first = shown.codes.port(0);
         self.sent(first, &lists.sent)
     }
 
-    // What leaves the model at a tick.
+    // Shows what leaves the model at a tick.
     fn outside(&mut self, tick: u64, sent: &[Sending<'_>]) -> Result<(), AllocError> {
         self.advance(tick)?;
         self.sent(self.shown.outputs, sent)
     }
 
-    // What leaves by ports whose codes are from a first one on.
+    // Shows what passes by output ports. `first` is the code of the first one.
     fn sent(&mut self, first: u64, sent: &[Sending<'_>]) -> Result<(), AllocError> {
         for sending in sent {
             let code = first.saturating_add(sending.port as u64);
@@ -197,7 +198,7 @@ impl<'a> Changes<'a> {
         Ok(())
     }
 
-    // Values of one time that pass by a port.
+    // Shows the values that pass by a port at one time.
     fn pass(&mut self, code: u64, values: &str) -> Result<(), AllocError> {
         let form = self.ports.form(code);
         match form {
@@ -209,14 +210,14 @@ impl<'a> Changes<'a> {
         }
     }
 
-    // Values that pass by a port that is a text, behind those that passed in the same tick.
+    // Shows the values that pass by a port that is a string, behind those of the same tick.
     fn mark(&mut self, code: u64, values: &str) -> Result<(), AllocError> {
         let all = self.marks.add(self.alloc, code, values)?;
         push_string(&mut self.text, all, code)
     }
 }
 
-// What so many ports show at the start, of which the first has this code.
+// Adds what `count` ports show at the start: nothing. `first` is the code of the first one.
 fn push_ports(
     text: &mut String,
     ports: &Ports,
@@ -230,10 +231,10 @@ fn push_ports(
     Ok(())
 }
 
-// What a component shows at the start.
+// Adds what a component shows at the start.
 fn push_start(text: &mut String, ports: &Ports, shown: &Shown<'_>) -> Result<(), AllocError> {
     let codes = shown.codes;
-    push_standing(text, shown.standing, codes.first)?;
+    push_status(text, shown.status, codes.first)?;
     for (index, datum) in shown.state.iter().enumerate() {
         push_datum(text, datum, codes, index, true)?;
     }
@@ -247,20 +248,20 @@ fn phase_name<'t>(tree: &'t Tree<'t>, shown: &Shown<'_>, phase: u32) -> &'t str 
     }
 }
 
-// Writes where a component stands now, if it stood elsewhere.
+// Adds the phase or the fault of a component, if it has changed.
 fn move_to<'a>(
     text: &mut String,
     shown: &mut Shown<'a>,
-    standing: Standing<'a>,
+    status: Status<'a>,
 ) -> Result<(), AllocError> {
-    if shown.standing == standing {
+    if shown.status == status {
         return Ok(());
     }
-    shown.standing = standing;
-    push_standing(text, standing, shown.codes.first)
+    shown.status = status;
+    push_status(text, status, shown.codes.first)
 }
 
-// Writes the variables whose values have changed.
+// Adds the variables whose values have changed.
 fn follow_state(
     text: &mut String,
     shown: &mut Shown<'_>,
@@ -273,7 +274,7 @@ fn follow_state(
     Ok(())
 }
 
-// Writes the value of a variable, if it has changed. The memory of a text is used again.
+// Adds the value of a variable, if it has changed. The memory of its text is reused.
 fn follow_datum(
     text: &mut String,
     shown: &mut ShownDatum,
@@ -292,7 +293,7 @@ fn follow_datum(
     push_datum(text, shown, codes, index, is_other_number)
 }
 
-// Writes what the variable, flag, bag or queue at an index shows, the last two with their sizes or without.
+// Adds the value of the variable at an index. The size of a bag or a queue is added if `has_size`.
 fn push_datum(
     text: &mut String,
     shown: &ShownDatum,

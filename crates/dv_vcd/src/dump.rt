@@ -1,4 +1,4 @@
-//! The dump of a trace.
+//! Writes the dump of a trace.
 
 use crate::arrivals::RootInputs;
 use crate::changes::Changes;
@@ -12,26 +12,30 @@ use dv_tree::Tree;
 use std::alloc::Global;
 use std::io::{Read, Seek, Write};
 
-/// Writes a trace of the model of a tree as a value change dump, one time unit a tick, and tells how far the trace reaches. A
-/// coupled model and a component are scopes. Of a component there are its phase as a string, its variables as integers of 64
-/// bits, those from 0 to 1 and its flags as wires, its bags and its queues as strings with their sizes as integers, and its output
-/// ports; in the scope of the root there are its output ports and, where inputs are given, its input ports.
+/// Writes a trace of the model of a tree as a value change dump, with one time unit for each tick,
+/// and returns how far the trace reaches. Each coupled model and each component is a scope. The
+/// scope of a component has its phase as a string, its variables as integers of 64 bits, its flags
+/// and the variables from 0 to 1 as wires, its bags and queues as strings, with their sizes as
+/// integers, and its output ports. The scope of the root has the output ports of the root and, if
+/// inputs are given, its input ports.
 ///
-/// A port is a string: `-`, and for one tick the values that passed, those of different microsteps with a semicolon between them.
-/// A port that is held shows the last values until the next ones: where in this trace it has no more than one value in each tick as
-/// an integer, or as a wire where all of them are 0 or 1, and else as a string. Changes at the microsteps of one tick stand one after the other at that tick: the last one
-/// stays.
+/// A port is a string: `-`, and in the tick in which values pass, these values, with a semicolon
+/// between those of different microsteps. With `holds_ports`, a port shows its last values until
+/// the next ones. It is then an integer if it never has two values in one tick, a wire if all of
+/// these are 0 or 1, and otherwise a string. Changes at several microsteps of a tick are written
+/// one after the other at that tick, so that the last one stays.
 ///
-/// The trace stands at its beginning. It is read to its end, and then as many bytes once more, piece by piece, so that memory does not
-/// grow with it.
+/// `trace` has to be at its beginning. It is read to its end, piece by piece, and then the same
+/// number of bytes is read once more. Memory does not grow with the trace.
 ///
 /// # Errors
 ///
 /// - `Inputs`: the text of the inputs is refused.
-/// - `Unread`: the trace can't be read. Where it can't be read once, nothing was written.
-/// - `Refused`: the trace is malformed, or is none of this model. The whole of it is read before anything is written, so that
-///   nothing was written, unless the trace was changed meanwhile.
-/// - `Write`: a write failed. `Memory`: there is no memory. The writer holds a beginning of the dump, perhaps nothing.
+/// - `Unread`: the trace can't be read. If the first reading fails, nothing was written.
+/// - `Refused`: the trace is malformed, or not one of this model. Nothing was written, unless the
+///   trace was changed between its two readings.
+/// - `Write`: a write failed. `Memory`: an allocation was refused. The writer holds a beginning of
+///   the dump, perhaps nothing.
 pub fn write_vcd<T: Read + Seek, W: Write>(
     alloc: Global,
     tree: &Tree<'_>,
@@ -56,7 +60,7 @@ fn write_with_inputs<'a, T: Read + Seek, W: Write>(
     write_dump(&mut changes, &mut pieces, options, writer)
 }
 
-// Reads a trace twice: to see how its ports are shown, and to write the dump.
+// Reads a trace twice: to test it and find the form of each port, and to write the dump.
 fn write_dump<T: Read + Seek, W: Write>(
     changes: &mut Changes<'_>,
     pieces: &mut PieceReader<'_, T>,
@@ -70,7 +74,7 @@ fn write_dump<T: Read + Seek, W: Write>(
     write_changes(changes, pieces, options.end, writer)
 }
 
-// Writes what the lines of a trace change, behind what everything shows at the start, and tells how far the trace reaches.
+// Reads a trace and writes what its lines change. Returns how far the trace reaches.
 fn write_changes<T: Read, W: Write>(
     changes: &mut Changes<'_>,
     pieces: &mut PieceReader<'_, T>,
@@ -100,7 +104,7 @@ fn write_lines<'a, T: Read, W: Write>(
     Ok(reach)
 }
 
-/// What reads the lines of a trace, and writes what they change.
+/// Reads the lines of a trace and writes what they change.
 #[derive(Drop)]
 struct Dump<'a, 'w, W> {
     reader: &'w mut TraceReader<'a>,

@@ -1,4 +1,4 @@
-//! Why a trace is not dumped to its end.
+//! Why a dump is not complete.
 
 use dv_inputs::{InputRefusal, InputsError};
 use dv_text::WriteError;
@@ -7,16 +7,16 @@ use std::alloc::AllocError;
 use std::io;
 use std::io::ErrorKind;
 
-/// Why a trace is not dumped to its end.
+/// Why a dump is not complete.
 #[derive(Drop)]
 pub enum VcdError {
     /// The text of the inputs is refused; nothing was written.
     Inputs(InputRefusal),
-    /// The trace can't be read: not once, and nothing was written; or not once more, and a beginning of the dump was written, perhaps
-    /// nothing.
+    /// The trace can't be read. If the first reading failed, nothing was written; if the second one
+    /// did, a beginning of the dump, perhaps nothing.
     Unread(io::Error),
-    /// The trace is refused; nothing was written. Or it was changed between its two readings, and what is read then is refused; a
-    /// beginning of the dump may have been written.
+    /// The trace is refused; nothing was written. If the trace was changed between its two
+    /// readings, a beginning of the dump may have been written.
     Refused(TraceRefusal),
     /// A write failed; a beginning of the dump was written.
     Write,

@@ -1,4 +1,4 @@
-//! The declarations: a scope for each model, a variable for each thing that is shown.
+//! The declarations: a scope for each model, a variable for each value that is shown.
 
 use crate::changes::Changes;
 use crate::forms::Form;
@@ -22,7 +22,7 @@ struct Declared<'d> {
     inputs: &'d [String],
 }
 
-/// Writes the declarations.
+/// Adds the declarations to the text, and writes it as it gets long.
 pub(crate) fn write_header<W: Write>(
     changes: &mut Changes<'_>,
     timescale: Timescale,
@@ -46,7 +46,7 @@ pub(crate) fn write_header<W: Write>(
     Ok(())
 }
 
-// The ports of the root.
+// Declares the ports of the root.
 fn push_root(text: &mut String, declared: &Declared<'_>) -> Result<(), AllocError> {
     for (port, name) in declared.inputs.iter().enumerate() {
         let code = declared.shown.inputs.saturating_add(port as u64);
@@ -59,7 +59,8 @@ fn push_root(text: &mut String, declared: &Declared<'_>) -> Result<(), AllocErro
     Ok(())
 }
 
-// Writes a scope for each part of a coupled model, from the component of this number on. The number of the one behind them is returned.
+// Declares a scope for each part of a coupled model, whose components have the numbers from `first`
+// on. Returns the number behind the last one. No tree is deeper than `depth`.
 fn write_parts<W: Write>(
     declared: &Declared<'_>,
     level: &Level,
@@ -89,7 +90,7 @@ fn write_parts<W: Write>(
     Ok(next)
 }
 
-// The variables of a component.
+// Declares the variables of a component.
 fn push_component(
     text: &mut String,
     declared: &Declared<'_>,
@@ -99,7 +100,7 @@ fn push_component(
         return Ok(());
     };
     let (tree, scope, codes) = (declared.tree, shown.scope, shown.codes);
-    // No variable and no port is named by a reserved word.
+    // `phases` is a reserved word, so no variable or port has this name.
     push_variable(text, Form::Text, codes.first, "phases", "")?;
     for (index, (name, datum)) in scope.variables().iter().zip(&shown.state).enumerate() {
         push_datum(text, datum.form, codes, index, tree.name(*name))?;
@@ -110,7 +111,8 @@ fn push_component(
     Ok(())
 }
 
-// A variable, a flag, a bag or a queue, the last two with their sizes. A dollar sign stands in no name of a model.
+// Declares a state variable, and the size of a bag or a queue. No name of a model has a dollar
+// sign.
 fn push_datum(
     text: &mut String,
     form: Form,
@@ -138,7 +140,7 @@ fn push_port(
     push_variable(text, declared.ports.form(code), code, name, "")
 }
 
-// A variable of the dump, whose name has two parts.
+// Declares a variable of the dump. Its name is `name` followed by `suffix`.
 fn push_variable(
     text: &mut String,
     form: Form,

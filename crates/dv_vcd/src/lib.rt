@@ -1,41 +1,49 @@
 //! A trace as a value change dump (VCD, IEEE 1364), for wave viewers.
 //!
-//! `write_vcd` reads a trace once to test it, and once more to write for each component its phase, its variables and
-//! its ports as they change, with the inputs of the run where they are given. `WaveOptions` says how long a tick is (a
-//! `Timescale`) and whether ports hold their values until the next one. It keeps what each component shows now, what
-//! passed by ports in this tick, one piece of the trace, and of the lines nothing.
+//! `write_vcd` reads a trace twice. The first reading (`survey`) tests all lines, and with
+//! `--hold-ports` finds the form of each port: a bit, a number or a string. The second one writes
+//! the declarations, the values at the start, and line by line what changed. Nothing is written
+//! before the first reading has ended, since a trace that is refused at its last line must leave no
+//! output, and since the declarations come first. The second reading takes as many bytes as the
+//! first one, because a file may grow meanwhile, and tests each line again, because it may be
+//! changed.
 //!
-//! `dv_views` calls it for `pdevs vcd`. Nothing is claimed of a dump but that it is made without a fault of the
-//! program. Dumps know ticks and no microsteps: the changes at all microsteps of a tick stand at that tick.
+//! Memory does not grow with the trace. It holds what each component shows now, what passed by
+//! ports in this tick, the inputs, one piece of the trace, and output of up to 64 KiB. The texts
+//! that are shown reuse their memory.
+//!
+//! `dv_views` calls it for `pdevs vcd`. A dump has ticks and no microsteps: the changes at all
+//! microsteps of a tick are written at that tick. Nothing is claimed of a dump except that it is
+//! made without a fault of the program.
 #![tactic(auto)]
 
 /// What arrives at the input ports of the root.
 mod arrivals;
-/// The changes of values.
+/// The changes of values, line by line.
 mod changes;
-/// The door: the dump of a trace, given to a writer.
+/// Writes the dump of a trace.
 pub mod dump;
-/// Why a trace is not dumped to its end.
+/// Why a dump is not complete.
 pub mod error;
-/// The forms in which what is shown changes.
+/// Bits, numbers and strings.
 mod forms;
-/// The declarations: a scope for each model, a variable for each thing that is shown.
+/// The declarations: a scope for each model, a variable for each value that is shown.
 mod header;
-/// What passed in a tick by ports that are texts.
+/// What passed in this tick by ports that are strings.
 mod marks;
-/// What is asked of a dump.
+/// Options of a dump.
 pub mod options;
-/// How ports are shown.
+/// The form of each port.
 mod ports;
-/// The lines of a trace, from its pieces.
+/// Reads the lines of a trace.
 mod reading;
 /// What is shown of each component.
 mod shown;
-/// The first reading of a trace.
+/// The first reading of a trace, which tests it.
 mod survey;
-/// How long a tick is.
+/// The length of a tick.
 pub mod timescale;
-/// The codes of variables and the forms of values.
+/// Writes codes and values.
 mod values;
 
 pub use dump::write_vcd;

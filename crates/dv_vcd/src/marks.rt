@@ -1,17 +1,17 @@
-//! What passed in a tick by ports that are texts.
+//! What passed in this tick by ports that are strings.
 
 use crate::values::push_all;
 use indexmap::IndexSet;
 use std::alloc::{AllocError, Global};
 
-/// What passed in a tick by ports that are texts, in the order in which something first passed there. The memory of the texts serves
-/// for one tick after the other.
+/// What passed in this tick by ports that are strings, in the order in which these ports were first
+/// used. The texts keep their memory from one tick to the next.
 #[derive(Drop)]
 pub(crate) struct Marks {
     // The codes of the ports.
     codes: IndexSet<u64>,
-    // By the index of the code, what passed, with a semicolon between values of different times. Texts behind those of the codes
-    // are of earlier ticks.
+    // For each code, at the same index, what passed, with a semicolon between values of different
+    // times. Further texts are left from earlier ticks.
     texts: Vec<String>,
 }
 
@@ -33,7 +33,8 @@ impl Marks {
         &self.codes
     }
 
-    /// Values of one time pass by the port with a code, behind those that passed in the same tick. All that passed is returned.
+    /// Adds values that pass at one time by the port with a code, and returns all that passed there
+    /// in this tick.
     pub(crate) fn add<'a>(
         &'a mut self,
         alloc: Global,
@@ -55,7 +56,7 @@ impl Marks {
         Ok(text.as_str())
     }
 
-    /// The tick is over.
+    /// Forgets what passed: the tick is over.
     pub(crate) fn clear(&mut self) {
         self.codes.clear();
     }

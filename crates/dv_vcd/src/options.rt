@@ -1,16 +1,17 @@
-//! What is asked of a dump.
+//! Options of a dump.
 
 use crate::timescale::Timescale;
 use dv_trace::End;
 
-/// What is asked of a dump.
+/// Options of a dump.
 #[derive(Clone, Copy)]
 pub struct WaveOptions<'a> {
     /// Whether the trace has to have an end.
     pub end: End,
-    /// The text of the run's inputs, where the input ports of the root are to be shown.
+    /// The text of the run's inputs, if the input ports of the root are to be shown.
     pub inputs: Option<&'a [u8]>,
-    /// Whether a port shows the last value until the next one, and not only in the tick in which it passed.
+    /// Whether a port shows its last value until the next one, instead of only in the tick in which
+    /// it passed.
     pub holds_ports: bool,
     /// How long a tick is.
     pub timescale: Timescale,

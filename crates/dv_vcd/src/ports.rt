@@ -1,4 +1,4 @@
-//! How ports are shown.
+//! The form of each port.
 
 use crate::forms::Form;
 use std::alloc::{AllocError, Global};
@@ -6,6 +6,7 @@ use std::alloc::{AllocError, Global};
 /// What has passed by a port so far.
 #[derive(Clone, Copy)]
 pub(crate) enum Passed {
+    /// No value.
     Nothing,
     /// At most one value in each tick, all of them 0 or 1, and the last one in this tick.
     Bits(u64),
@@ -37,13 +38,15 @@ impl Passing {
 }
 
 impl Passed {
-    // What has passed once something passes in a tick.
+    // What has passed after something passes in this tick.
     fn and(self, tick: u64, passing: Passing) -> Passed {
         match (self, passing) {
             (Passed::Crowded, _) | (_, Passing::Several) => Passed::Crowded,
-            (Passed::Bits(last) | Passed::Numbers(last), _) if last == tick => Passed::Crowded,
+            (Passed::Bits(last) | Passed::Numbers(last), Passing::Bit | Passing::Number)
+                if last == tick => { Passed::Crowded }
             (Passed::Nothing | Passed::Bits(_), Passing::Bit) => Passed::Bits(tick),
-            (Passed::Nothing | Passed::Bits(_) | Passed::Numbers(_), _) => Passed::Numbers(tick),
+            (Passed::Nothing | Passed::Bits(_), Passing::Number)
+            | (Passed::Numbers(_), Passing::Bit | Passing::Number) => Passed::Numbers(tick),
         }
     }
 
@@ -56,17 +59,18 @@ impl Passed {
     }
 }
 
-/// How ports are shown.
+/// The form of each port.
 #[derive(Drop)]
 pub(crate) enum Ports {
-    /// Each as a text, which has the values in the tick in which they passed.
+    /// Each port is a string, with the values of one tick.
     Marked,
-    /// Each with the last values: as a number or a bit where they come singly. What passes by ports stands at their codes.
+    /// Each port holds its last values: as a bit or a number if there is never more than one in a
+    /// tick. What passed by a port is at the index of its code.
     Held(Vec<Passed>),
 }
 
 impl Ports {
-    /// Ports with codes below a number, by which nothing has passed yet.
+    /// Ports with codes below `behind`, by which nothing has passed yet.
     pub(crate) fn new(alloc: Global, are_held: bool, behind: u64) -> Result<Self, AllocError> {
         if are_held {
             let passed = vec![in alloc; Passed::Nothing; behind as usize]?;
@@ -76,7 +80,7 @@ impl Ports {
         }
     }
 
-    /// Something passes in a tick by the port with a code.
+    /// Notes what passes in a tick by the port with a code.
     pub(crate) fn pass(&mut self, tick: u64, code: u64, passing: Passing) {
         match self {
             Ports::Held(ports) => {
@@ -99,7 +103,7 @@ impl Ports {
         }
     }
 
-    /// Whether a port goes on showing what passed by it last.
+    /// Whether ports show their last values until the next ones.
     pub(crate) fn are_held(&self) -> bool {
         match self {
             Ports::Held(_) => true,

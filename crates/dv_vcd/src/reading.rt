@@ -1,11 +1,11 @@
-//! The lines of a trace, from its pieces.
+//! Reads the lines of a trace.
 
 use crate::error::VcdError;
 use dv_trace::{End, LineCutter, PieceReader, TakeLine};
 use std::alloc::Global;
 use std::io::Read;
 
-/// Has all lines of a trace taken, from the piece that was read last on.
+/// Gives all lines of a trace to `taker`, from the current piece on.
 pub(crate) fn read_lines<T: Read, L: TakeLine<Error = VcdError> + Drop>(
     alloc: Global,
     pieces: &mut PieceReader<'_, T>,

@@ -1,4 +1,4 @@
-//! What is shown of each component, and under which codes.
+//! What is shown of each component, and with which codes.
 
 use crate::forms::Form;
 use dv_bag::Fault;
@@ -7,20 +7,20 @@ use dv_trace::Datum;
 use dv_tree::Tree;
 use std::alloc::{AllocError, Global};
 
-/// Where a component stands: in a phase, of which this is the name, or behind a fault.
+/// The name of a component's phase, or its fault.
 #[derive(Clone, Copy, PartialEq, Eq)]
-pub(crate) enum Standing<'a> {
+pub(crate) enum Status<'a> {
     Phase(&'a str),
     Fault(Fault),
 }
 
-/// What a variable, a flag, a bag or a queue shows.
+/// What is shown of a variable, a flag, a bag or a queue.
 #[derive(Drop)]
 pub(crate) struct ShownDatum {
     pub(crate) form: Form,
-    /// The number of a variable, 1 or 0 for a flag, and how many values a bag or a queue holds.
+    /// The number of a variable, 1 or 0 for a flag, the size of a bag or a queue.
     pub(crate) number: i64,
-    /// The values of a bag or a queue; else it is empty.
+    /// The values of a bag or a queue; otherwise empty.
     pub(crate) values: String,
 }
 
@@ -39,7 +39,7 @@ impl ShownDatum {
     }
 }
 
-/// The number and the values that a datum shows.
+/// The number and the values that are shown of a datum.
 pub(crate) fn shown_by(datum: Datum<'_>) -> (i64, &str) {
     match datum {
         Datum::Number(number) => (number, ""),
@@ -48,13 +48,13 @@ pub(crate) fn shown_by(datum: Datum<'_>) -> (i64, &str) {
     }
 }
 
-/// The codes of what is shown of a component. They follow each other: its phase, its variables, flags, bags and queues, the sizes
-/// of these, where only those of bags and queues are used, and its output ports.
+/// The codes of what is shown of a component. They follow each other: the phase, the state
+/// variables, their sizes (used for bags and queues only), the output ports.
 #[derive(Clone, Copy)]
 pub(crate) struct Codes {
     /// The code of the phase.
     pub(crate) first: u64,
-    // How many variables, flags, bags and queues there are.
+    // How many state variables there are.
     count: usize,
 }
 
@@ -75,28 +75,30 @@ impl Codes {
     }
 }
 
-/// What a component shows now.
+/// What is shown of a component now.
 #[derive(Drop)]
 pub(crate) struct Shown<'a> {
     /// What the component declares.
     pub(crate) scope: &'a Scope,
     pub(crate) codes: Codes,
-    pub(crate) standing: Standing<'a>,
-    /// What the variables, flags, bags and queues hold.
+    pub(crate) status: Status<'a>,
+    /// The state variables, in their order.
     pub(crate) state: Vec<ShownDatum>,
 }
 
-/// What all components show at the start, the first codes of the root's output ports and of its input ports, and the first code
-/// behind all.
+/// What is shown of all components, and the codes of the root's ports.
 #[derive(Drop)]
 pub(crate) struct AllShown<'a> {
     pub(crate) components: Vec<Shown<'a>>,
+    /// The code of the root's first output port.
     pub(crate) outputs: u64,
+    /// The code of the root's first input port.
     pub(crate) inputs: u64,
+    /// The least number that is no code.
     pub(crate) behind: u64,
 }
 
-/// What the components of a model show at the start.
+/// What is shown at the start of a model.
 pub(crate) fn all_shown<'a>(alloc: Global, tree: &'a Tree<'a>) -> Result<AllShown<'a>, AllocError> {
     let mut components = Vec::with_capacity(alloc, tree.component_count())?;
     let mut outputs: u64 = 0;
@@ -109,7 +111,7 @@ pub(crate) fn all_shown<'a>(alloc: Global, tree: &'a Tree<'a>) -> Result<AllShow
         components.push(Shown {
             scope,
             codes,
-            standing: Standing::Phase(start_phase(tree, component)),
+            status: Status::Phase(start_phase(tree, component)),
             state: start_state(alloc, scope.domains())?,
         })?;
         outputs = codes.port(scope.output_count());

@@ -1,4 +1,4 @@
-//! The first reading of a trace, by which it is tested, and which tells how its ports are shown.
+//! The first reading of a trace, which tests it and finds the form of each port.
 
 use crate::changes::Changes;
 use crate::error::VcdError;
@@ -10,7 +10,8 @@ use dv_trace::{
 };
 use std::io::Read;
 
-/// Reads a trace to its end. The ports keep what passed by them.
+/// Reads a trace to its end and tests it. If ports are held, `changes.ports` has what passed by
+/// each of them afterwards.
 pub(crate) fn survey<T: Read>(
     changes: &mut Changes<'_>,
     pieces: &mut PieceReader<'_, T>,
@@ -39,7 +40,7 @@ fn survey_lines<'a, T: Read>(
     Ok(())
 }
 
-// The inputs pass by ports that arrive before a tick.
+// Notes the inputs that arrive before a tick.
 fn pass_inputs(changes: &mut Changes<'_>, behind: u64) {
     for input in &changes.root.inputs {
         if input.time.tick >= behind {
@@ -51,19 +52,19 @@ fn pass_inputs(changes: &mut Changes<'_>, behind: u64) {
     }
 }
 
-/// What reads the lines of a trace, and looks at what passes by ports.
+/// Reads the lines of a trace and notes what passes by ports.
 #[derive(Drop)]
 struct Watch<'a, 'w> {
     reader: &'w mut TraceReader<'a>,
     shown: &'w AllShown<'a>,
     ports: &'w mut Ports,
-    // The tick of the last line by which something may have passed.
+    // The tick of the last line of a component or of the root's outputs.
     last: &'w mut u64,
 }
 
 impl Watch<'_, '_> {
-    // Looks at what passes by ports at a line, and keeps its tick.
-    fn look_at(&mut self, head: LineHead, sent: &[Sending<'_>]) {
+    // Notes what passes by ports at a line, and its tick.
+    fn note(&mut self, head: LineHead, sent: &[Sending<'_>]) {
         let (tick, first) = match head {
             LineHead::Entry(entry) => match self.shown.components.get(entry.component as usize) {
                 Some(component) => (entry.time.tick, component.codes.port(0)),
@@ -83,13 +84,13 @@ impl TakeLine for Watch<'_, '_> {
     fn take_line<'a>(&mut self, line: &'a [u8], lists: &mut LineLists<'a>) -> Result<(), VcdError> {
         let head = self.reader.read_into(line, lists)?;
         if self.ports.are_held() {
-            self.look_at(head, &lists.sent);
+            self.note(head, &lists.sent);
         }
         Ok(())
     }
 }
 
-/// The first tick behind a trace whose last line is at a tick.
+/// The first tick behind a trace whose last line is at the tick `last`.
 pub(crate) fn tick_behind(reach: Reach, last: u64) -> u64 {
     let next = last.saturating_add(1);
     match reach {
@@ -99,7 +100,7 @@ pub(crate) fn tick_behind(reach: Reach, last: u64) -> u64 {
     }
 }
 
-// What passes in a tick by ports whose codes are from a first one on.
+// Notes what passes in a tick by output ports. `first` is the code of the first one.
 fn pass_all(ports: &mut Ports, tick: u64, first: u64, sent: &[Sending<'_>]) {
     for sending in sent {
         let code = first.saturating_add(sending.port as u64);

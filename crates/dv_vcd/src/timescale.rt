@@ -1,9 +1,9 @@
-//! How long a tick is on the scale of a dump.
+//! The length of a tick.
 
 use std::fmt;
 use std::str::FromStr;
 
-/// Of how many units a tick is. A dump knows no other counts.
+/// The number of time units in a tick. The format of dumps has no other numbers.
 #[derive(Clone, Copy)]
 pub enum UnitCount {
     /// 1 unit.
@@ -42,7 +42,7 @@ pub enum TimeUnit {
 }
 
 impl TimeUnit {
-    // All units. The one whose word ends the words of the others is last.
+    // All units. `s` is last because the words of the others end with it.
     const ALL: [TimeUnit; 6] = [
         TimeUnit::Millisecond,
         TimeUnit::Microsecond,
@@ -64,7 +64,7 @@ impl TimeUnit {
     }
 }
 
-/// How long a tick is: so many units of time. It is displayed as `10 us`.
+/// The length of a tick: 1, 10 or 100 units of time. It is displayed as `10 us`.
 #[derive(Clone, Copy)]
 pub struct Timescale {
     /// How many units a tick is.
@@ -74,7 +74,7 @@ pub struct Timescale {
 }
 
 impl Timescale {
-    /// A second a tick: what is taken where nothing is said.
+    /// One second, the default.
     pub const SECOND: Timescale = Timescale {
         count: UnitCount::One,
         unit: TimeUnit::Second,
@@ -87,18 +87,19 @@ impl fmt::Display for Timescale {
     }
 }
 
-/// A text that names no time scale.
+/// The error of a text that is no timescale.
 #[derive(Clone, Copy)]
 pub struct NoTimescale;
 
 impl FromStr for Timescale {
     type Err = NoTimescale;
 
-    /// Reads `1`, `10` or `100`, blanks or none, and `s`, `ms`, `us`, `ns`, `ps` or `fs`.
+    /// Reads `1`, `10` or `100`, then any number of blanks, then `s`, `ms`, `us`, `ns`, `ps` or
+    /// `fs`.
     ///
     /// # Errors
     ///
-    /// Any other text.
+    /// `NoTimescale` for any other text.
     fn from_str(text: &str) -> Result<Self, NoTimescale> {
         for unit in &TimeUnit::ALL {
             if let Some(count) = text.strip_suffix(unit.word()) {

@@ -1,10 +1,10 @@
-//! The codes of variables and the forms of values.
+//! Writes codes and values.
 
 use crate::forms::Form;
-use crate::shown::Standing;
+use crate::shown::Status;
 use std::alloc::AllocError;
 
-/// Texts one after the other.
+/// Adds texts one after the other.
 pub(crate) fn push_all(text: &mut String, parts: &[&str]) -> Result<(), AllocError> {
     for part in parts {
         text.push_str(part)?;
@@ -12,7 +12,8 @@ pub(crate) fn push_all(text: &mut String, parts: &[&str]) -> Result<(), AllocErr
     Ok(())
 }
 
-/// A code of printable characters for the number of a variable. Different numbers have different codes.
+/// Adds the code of the variable with a number, in printable characters. Different numbers have
+/// different codes.
 pub(crate) fn push_code(text: &mut String, number: u64) -> Result<(), AllocError> {
     let mut rest = number;
     for _digit in 0..10 {
@@ -26,7 +27,8 @@ pub(crate) fn push_code(text: &mut String, number: u64) -> Result<(), AllocError
     Ok(())
 }
 
-// The binary digits of a digit to base 16: as the first ones of a number, and behind others.
+// The binary digits of a hexadecimal digit: at the front of a number, where leading zeros are left
+// out, and behind other digits.
 const FIRST_BITS: [&str; 16] = [
     "0", "1", "10", "11", "100", "101", "110", "111", "1000", "1001", "1010", "1011", "1100",
     "1101", "1110", "1111",
@@ -37,7 +39,8 @@ const NEXT_BITS: [&str; 16] = [
     "1100", "1101", "1110", "1111",
 ];
 
-// A `b` and a number in binary digits, without leading zeros. Digits to base 16 are written at once, since a dump has very many numbers.
+// Adds a `b` and a number in binary, without leading zeros. Four digits are added at once, since a
+// dump has very many numbers.
 fn push_bits(text: &mut String, number: u64) -> Result<(), AllocError> {
     let digits = number.checked_ilog2().unwrap_or(0) / 4;
     push_all(text, &["b", bits_at(&FIRST_BITS, number, digits)])?;
@@ -47,20 +50,20 @@ fn push_bits(text: &mut String, number: u64) -> Result<(), AllocError> {
     Ok(())
 }
 
-// The bits of the digit to base 16 at an index; the last one is at index 0.
+// The text of the hexadecimal digit at an index. The last digit has the index 0.
 fn bits_at(table: &[&'static str; 16], number: u64, index: u32) -> &'static str {
     let digit = number.checked_shr(index.saturating_mul(4)).unwrap_or(0) % 16;
     table.get(digit as usize).copied().unwrap_or("")
 }
 
-// The parts of a value, its code behind them, and the end of the line.
+// Adds a line: the parts of a value and its code.
 fn push_line(text: &mut String, parts: &[&str], code: u64) -> Result<(), AllocError> {
     push_all(text, parts)?;
     push_code(text, code)?;
     text.push('\n')
 }
 
-/// A number as a bit, or in two's complement of 64 bits without leading zeros.
+/// Adds a number: as a bit, or in two's complement of 64 bits without leading zeros.
 pub(crate) fn push_number(
     text: &mut String,
     form: Form,
@@ -76,7 +79,7 @@ pub(crate) fn push_number(
     }
 }
 
-// A number on a wire. One that is no bit is unknown there; no run has it.
+// A number on a wire. A number that is no bit, which no run has, is shown as unknown.
 fn bit_of(number: i64) -> &'static str {
     match number {
         0 => "0",
@@ -85,17 +88,18 @@ fn bit_of(number: i64) -> &'static str {
     }
 }
 
-/// A string, which holds no blank.
+/// Adds a string, which has to be without blanks.
 pub(crate) fn push_string(text: &mut String, string: &str, code: u64) -> Result<(), AllocError> {
     push_line(text, &["s", string, " "], code)
 }
 
-/// The values of a bag or a queue.
+/// Adds the values of a bag or a queue.
 pub(crate) fn push_held(text: &mut String, values: &str, code: u64) -> Result<(), AllocError> {
     push_line(text, &["s[", values, "] "], code)
 }
 
-/// That a number or a bit is not known, or that nothing passes by a port that is a text: a dash, as which no values are written.
+/// Adds that nothing is shown: an unknown bit or number, or a dash, which is never the text of
+/// values.
 pub(crate) fn push_nothing(text: &mut String, form: Form, code: u64) -> Result<(), AllocError> {
     let value = match form {
         Form::Wire => "x",
@@ -105,14 +109,14 @@ pub(crate) fn push_nothing(text: &mut String, form: Form, code: u64) -> Result<(
     push_line(text, &[value], code)
 }
 
-/// Where a component stands. A colon stands in no name of a phase.
-pub(crate) fn push_standing(
+/// Adds a component's phase or fault. No name of a phase has a colon.
+pub(crate) fn push_status(
     text: &mut String,
-    standing: Standing<'_>,
+    status: Status<'_>,
     code: u64,
 ) -> Result<(), AllocError> {
-    match standing {
-        Standing::Phase(name) => push_string(text, name, code),
-        Standing::Fault(fault) => push_line(text, &["sfault:", fault.word(), " "], code),
+    match status {
+        Status::Phase(name) => push_string(text, name, code),
+        Status::Fault(fault) => push_line(text, &["sfault:", fault.word(), " "], code),
     }
 }
