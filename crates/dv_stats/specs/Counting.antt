@@ -4,7 +4,7 @@ use Rattle.dv_bag.specs.declared.entry.Kind.{Kind}
 use Rattle.dv_bag.specs.declared.entry.Kind.TheVariants as kind
 use Rattle.dv_stats.specs.declared.component.Transitions.{Transitions}
 
--- so many more, where there is room for them in 64 bits
+-- a count with so many more, at most 2^64 - 1
 abbrev pub more : ℕ → ℕ → ℕ
 more added count = min (count + added) (2 ^ 64 - 1)
 

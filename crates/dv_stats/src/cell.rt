@@ -1,16 +1,17 @@
-//! The values of rows.
+//! The values of a row.
 
 use dv_bag::Fault;
 use dv_time::Time;
 use std::fmt;
 
-/// A value of a row. It is displayed as it is written.
+/// A value of a row. `Display` gives its text in the output.
 #[derive(Clone, Copy)]
 pub(crate) enum Cell {
-    /// What is not there. Nothing is displayed.
+    /// There is no such value. It is displayed as an empty text.
     Nothing,
-    /// The name of a measure.
+    /// The title of a column.
     Word(&'static str),
+    /// A number.
     Number(i128),
     /// A mean, a rate or a share, rounded to thousandths.
     Ratio {
@@ -20,17 +21,19 @@ pub(crate) enum Cell {
     },
     /// A sum of more than 128 bits.
     Overflow,
+    /// A fault, by its word.
     Fault(Fault),
+    /// A time, as in a trace.
     Time(Time),
 }
 
 impl Cell {
-    /// How many there are of something.
+    /// A count.
     pub(crate) fn count(count: u64) -> Cell {
         Cell::Number(i128::from(count))
     }
 
-    /// A number, where it is there.
+    /// A number, or `Nothing`.
     pub(crate) fn number(number: Option<i64>) -> Cell {
         match number {
             Some(number) => Cell::Number(i128::from(number)),
@@ -38,7 +41,7 @@ impl Cell {
         }
     }
 
-    /// A sum, where it has not more than 128 bits.
+    /// A sum, or `Overflow` if it has more than 128 bits.
     pub(crate) fn sum(sum: Option<i128>) -> Cell {
         match sum {
             Some(sum) => Cell::Number(sum),
@@ -46,7 +49,7 @@ impl Cell {
         }
     }
 
-    /// A sum divided by a count: nothing where the count is 0. Halves are rounded to the even one.
+    /// A sum divided by a count, or `Nothing` if the count is 0. Halves are rounded to even.
     pub(crate) fn ratio(sum: Option<i128>, count: u64) -> Cell {
         if count == 0 {
             return Cell::Nothing;
@@ -82,8 +85,8 @@ impl fmt::Display for Cell {
     }
 }
 
-// A sum divided by a count: the whole ones, and the thousandths of the rest. A rest is less than the count, which has 64 bits, so
-// that nothing is lost.
+// A sum divided by a count, and the thousandths of the remainder. The remainder is less than the
+// count, which has 64 bits, so that no product overflows.
 fn rounded(sum: u128, count: u128) -> (u128, u128) {
     if count == 0 {
         return (0, 0);
@@ -97,7 +100,8 @@ fn rounded(sum: u128, count: u128) -> (u128, u128) {
     }
 }
 
-// A number, or the next one, by twice the rest that is left of a count.
+// Rounds a quotient to the nearest number. `twice` is two times the remainder of the division by
+// `count`.
 fn nearest(number: u128, twice: u128, count: u128) -> u128 {
     if twice > count || (twice == count && number % 2 == 1) {
         number.saturating_add(1)

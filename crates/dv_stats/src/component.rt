@@ -1,4 +1,4 @@
-//! What is counted of a component.
+//! The counts of a component.
 
 ghost use Rattle.std.specs.Prelude.{◌≡◌};
 ghost use Rattle.dv_stats.specs.Counting.{with_kind};
@@ -13,7 +13,7 @@ use dv_time::Time;
 use dv_trace::{Datum, EntryHead, Event, LineLists, Sending};
 use std::alloc::{AllocError, Global};
 
-/// How many transitions there were of each kind.
+/// The numbers of transitions of each kind.
 #[derive(Clone, Copy)]
 pub(crate) struct Transitions {
     pub(crate) internal: u64,
@@ -29,7 +29,7 @@ impl Transitions {
         confluent: 0,
     };
 
-    /// One more. A count that has reached 2^64 - 1 stays there; a trace would need as many lines.
+    /// Counts one more transition. A count that has reached 2^64 - 1 stays there.
     fn add(&mut self, kind: Kind)
         ensures { self.new ≡ with_kind kind self.old }
     {
@@ -41,42 +41,48 @@ impl Transitions {
     }
 }
 
-/// What is counted of a phase.
+/// The counts of a phase.
 #[derive(Clone, Copy)]
 pub(crate) struct PhaseCount {
-    /// How often the component came to it from another one; where the span begins in it, that is one more.
+    /// How often the component entered it from another phase. The start of the span in this phase
+    /// counts as one visit.
     pub(crate) visits: u64,
+    /// How many ticks the component was in it.
     pub(crate) ticks: u64,
 }
 
 impl PhaseCount {
-    /// A phase in which the component was never.
+    /// A phase in which the component has not been.
     const NOTHING: PhaseCount = PhaseCount {
         visits: 0,
         ticks: 0,
     };
 }
 
-/// What is counted of a component up to a tick.
+/// The counts of a component up to a tick.
 #[derive(Drop)]
 pub(crate) struct ComponentCount {
     pub(crate) transitions: Transitions,
     /// The fault, and when it happened.
     pub(crate) fault: Option<(Fault, Time)>,
-    /// By index.
+    /// By the index of the phase.
     pub(crate) phases: Vec<PhaseCount>,
-    /// The ticks behind the fault.
+    /// The number of ticks after the fault.
     pub(crate) faulted: u64,
+    /// By the index of the variable.
     pub(crate) variables: Vec<VariableCount>,
+    /// By the index of the port.
     pub(crate) ports: Vec<PortCount>,
-    /// By port, where quantiles are wanted.
+    /// By the index of the port; empty without quantiles.
     pub(crate) tallies: Vec<PortTallies>,
+    // The present phase.
     phase: usize,
+    // The tick up to which phases are counted.
     tick: u64,
 }
 
 impl ComponentCount {
-    /// A component at the start of the model, in this phase.
+    /// The counts at the start of the model, where the component is in this phase.
     pub(crate) fn new(
         alloc: Global,
         scope: &Scope,
@@ -99,7 +105,8 @@ impl ComponentCount {
         Ok(count)
     }
 
-    /// The trace ends before a tick. The ticks behind a fault count for no phase and no variable.
+    /// Counts up to the end of the trace, which is before a tick. After a fault the ticks count for
+    /// no phase and no variable.
     pub(crate) fn finish(&mut self, tick: u64) {
         self.pass(tick);
         if self.fault.is_none() {
@@ -107,7 +114,7 @@ impl ComponentCount {
         }
     }
 
-    // Time passes up to a tick.
+    // Counts the ticks from the last transition up to a tick.
     fn pass(&mut self, tick: u64) {
         let ticks = tick.saturating_sub(self.tick);
         self.tick = tick;
@@ -118,7 +125,7 @@ impl ComponentCount {
         }
     }
 
-    /// What a line says of the component, where only a span counts.
+    /// Counts a line of the component. Only lines within the span count.
     pub(crate) fn add(
         &mut self,
         entry: EntryHead,
@@ -127,7 +134,7 @@ impl ComponentCount {
     ) -> Result<(), AllocError> {
         match span.side_of(entry.time.tick) {
             Side::Before => {
-                self.stand(entry, &lists.state, span.from);
+                self.restart(entry, &lists.state, span.from);
                 Ok(())
             }
             Side::Within => self.count(entry, lists),
@@ -135,14 +142,14 @@ impl ComponentCount {
         }
     }
 
-    // What a line before the span says: where the component stands from then on.
-    fn stand(&mut self, entry: EntryHead, state: &[Datum<'_>], from: u64) {
+    // Takes over the state from a line before the span.
+    fn restart(&mut self, entry: EntryHead, state: &[Datum<'_>], from: u64) {
         self.set_visits(0);
         match entry.event {
             Event::Transition { kind: _, phase } => {
                 self.phase = phase as usize;
                 self.set_visits(1);
-                stand_all(&mut self.variables, state, from);
+                restart_all(&mut self.variables, state, from);
             }
             Event::Fault(fault) => {
                 self.fault = Some((fault, entry.time));
@@ -151,7 +158,7 @@ impl ComponentCount {
         }
     }
 
-    // What a line within the span says. Variables behind a fault hold nothing.
+    // Counts a line within the span. After a fault, variables hold nothing.
     fn count(&mut self, entry: EntryHead, lists: &LineLists<'_>) -> Result<(), AllocError> {
         let tick = entry.time.tick;
         self.pass(tick);
@@ -186,7 +193,7 @@ impl ComponentCount {
         }
     }
 
-    // Of the phase in which the component is.
+    // Sets the number of visits to the present phase.
     fn set_visits(&mut self, visits: u64) {
         if let Some(count) = self.phases.get_mut(self.phase) {
             count.visits = visits;
@@ -194,7 +201,7 @@ impl ComponentCount {
     }
 }
 
-// Variables at the start of the model. The span begins at a tick.
+// The variables at the start of the model. `from` is the first tick of the span.
 fn variables_of(
     alloc: Global,
     domains: &[Domain],
@@ -206,9 +213,9 @@ fn variables_of(
         .collect(alloc)
 }
 
-fn stand_all(variables: &mut [VariableCount], state: &[Datum<'_>], from: u64) {
+fn restart_all(variables: &mut [VariableCount], state: &[Datum<'_>], from: u64) {
     for (variable, datum) in variables.iter_mut().zip(state) {
-        variable.stand(*datum, from);
+        variable.restart(*datum, from);
     }
 }
 
@@ -238,7 +245,7 @@ fn send_all(ports: &mut [PortCount], sent: &[Sending<'_>]) {
     }
 }
 
-/// Values are sent by ports at a tick.
+/// Adds the values that ports send at a tick to their tallies.
 pub(crate) fn tally_all(
     tallies: &mut [PortTallies],
     tick: u64,

@@ -9,7 +9,7 @@ use dv_tree::Tree;
 use std::alloc::{AllocError, Global};
 use std::io::Write;
 
-/// Reads the lines of a trace and counts what they say. Without quantiles it takes the same memory for any number of lines.
+/// Reads the lines of a trace and counts what they say.
 #[derive(Drop)]
 pub(crate) struct Counter<'t> {
     reader: TraceReader<'t>,
@@ -17,7 +17,8 @@ pub(crate) struct Counter<'t> {
 }
 
 impl<'t> Counter<'t> {
-    /// Counts a trace from its first line on. `None` where only some components are asked for, and there are none.
+    /// A counter at the first line of a trace. `None` if no component has the path in
+    /// `options.only`.
     pub(crate) fn new(
         alloc: Global,
         tree: &'t Tree<'t>,
@@ -32,7 +33,7 @@ impl<'t> Counter<'t> {
         }))
     }
 
-    /// Writes what was counted, and tells how far the trace reaches that ends behind the last line.
+    /// Ends the trace, writes what was counted, and returns how far the trace reaches.
     pub(crate) fn end<W: Write>(
         &mut self,
         alloc: Global,

@@ -1,4 +1,4 @@
-//! What is counted of a trace.
+//! The counts of a trace.
 
 use crate::component::{ComponentCount, tally_all};
 use crate::options::StatsOptions;
@@ -9,25 +9,25 @@ use dv_trace::{EntryHead, LineHead, LineLists, Sending};
 use dv_tree::Tree;
 use std::alloc::{AllocError, Global};
 
-/// What is counted of a trace so far.
+/// The counts of a trace so far.
 #[derive(Drop)]
 pub(crate) struct Counts {
-    /// By number; nothing of components that are not asked for.
+    /// By the number of the component; `None` for those that are not asked for.
     pub(crate) components: Vec<Option<ComponentCount>>,
-    /// By port; empty where only some components are asked for.
+    /// By the index of the root's output port; empty if only some components are asked for.
     pub(crate) outputs: Vec<OutputCount>,
-    /// By output, where quantiles are wanted.
+    /// By the index of the root's output port; empty without quantiles.
     pub(crate) tallies: Vec<PortTallies>,
-    /// The ticks that count. Its end is that of the trace once that is known.
+    /// The ticks that count. `finish` cuts it at the end of the trace.
     pub(crate) span: Span,
-    // The ticks of the trace, once its end is known; before that the tick of the last line.
+    // The number of ticks in the trace if its end was read, otherwise the tick of the last line.
     ticks: u64,
-    // The least tick of a clock, where there are clocks.
+    // The tick of the least clock, if there are clocks.
     clock: Option<u64>,
 }
 
 impl Counts {
-    /// Nothing is counted yet. `None` where only some components are asked for, and there are none.
+    /// The counts before the first line. `None` if no component has the path in `options.only`.
     pub(crate) fn new(
         alloc: Global,
         tree: &Tree<'_>,
@@ -50,7 +50,7 @@ impl Counts {
         }))
     }
 
-    /// What a line says.
+    /// Counts a line.
     pub(crate) fn add(&mut self, head: LineHead, lists: &LineLists<'_>) -> Result<(), AllocError> {
         match head {
             LineHead::Empty => Ok(()),
@@ -82,7 +82,7 @@ impl Counts {
         }
     }
 
-    // What leaves the model at a tick.
+    // Counts what leaves the model at a tick.
     fn add_outside(&mut self, tick: u64, sent: &[Sending<'_>]) -> Result<(), AllocError> {
         self.ticks = tick;
         match self.span.side_of(tick) {
@@ -102,7 +102,7 @@ impl Counts {
         }
     }
 
-    /// The time behind the last line passes.
+    /// Counts up to the end of the trace, after its last line.
     pub(crate) fn finish(&mut self) {
         self.span = self.span.cut(self.ticks);
         for component in &mut self.components {
@@ -113,7 +113,7 @@ impl Counts {
     }
 }
 
-// The components that are asked for, where there are some.
+// The counts of the components that are asked for. `None` if there are none.
 fn components_of(
     alloc: Global,
     tree: &Tree<'_>,
@@ -140,7 +140,8 @@ fn components_of(
     }
 }
 
-// Whether a component has the path, or one that begins with it and a dot.
+// Whether the path of a component is `only`, or begins with it and a dot. Without `only` all
+// components are asked for.
 fn is_asked_for(
     alloc: Global,
     tree: &Tree<'_>,

@@ -1,10 +1,10 @@
-//! Why the numbers are not written to their end.
+//! Why the numbers are not complete.
 
 use dv_text::WriteError;
 use dv_trace::{TraceError, TraceRefusal};
 use std::alloc::{AllocError, AllocFailed};
 
-/// Why the numbers are not written to their end.
+/// Why the numbers are not complete.
 #[derive(Clone, Copy, PartialEq, Eq)]
 pub enum StatsError {
     /// The trace is refused; nothing was written.

@@ -1,4 +1,4 @@
-//! Histograms.
+//! The bins of a histogram.
 
 use crate::tally::Tally;
 use std::alloc::{AllocError, Global};
@@ -6,16 +6,18 @@ use std::alloc::{AllocError, Global};
 /// The most bins of a histogram.
 const MOST_BINS: u64 = 20;
 
-/// How many values there are from one number to another, both among them.
+/// A range of numbers, with the number of values in it.
 #[derive(Clone, Copy)]
 pub(crate) struct Bin {
     pub(crate) least: i128,
+    /// The greatest number of the range, which is included.
     pub(crate) greatest: i128,
     pub(crate) count: u64,
 }
 
-/// The bins of some values, from that of the least to that of the greatest, ascending. They have one width: 1, 2 or 5 times a
-/// power of ten, the least with which there are at most twenty. Each begins at a multiple of it.
+/// The bins of a tally, ascending, from the one of the least value to the one of the greatest. All
+/// have the same width: 1, 2 or 5 times a power of ten, the least one with which there are at most
+/// twenty bins. Each bin begins at a multiple of the width.
 pub(crate) fn bins_of(alloc: Global, tally: &Tally) -> Result<Vec<Bin>, AllocError> {
     let (Some(least), Some(greatest)) = (tally.least(), tally.greatest()) else {
         return Ok(Vec::new(alloc));
@@ -32,7 +34,7 @@ pub(crate) fn bins_of(alloc: Global, tally: &Tally) -> Result<Vec<Bin>, AllocErr
     Ok(bins)
 }
 
-// Which bin of a width has a value; the one that begins at 0 is 0.
+// The number of the bin of a value. The bin that begins at 0 has the number 0.
 fn class_of(value: i64, width: i64) -> i64 {
     if width > 0 {
         value.div_euclid(width)
@@ -49,11 +51,11 @@ fn width_for(least: i64, greatest: i64) -> i64 {
         }
         power = power.saturating_mul(10);
     }
-    // Twenty bins of 10^18 hold all numbers of 64 bits.
+    // Twenty bins of 10^18 have all numbers of 64 bits.
     power
 }
 
-// The least of a power of ten, twice and five times it, with which there are few bins.
+// The least width among 1, 2 and 5 times a power of ten with which there are few enough bins.
 fn width_at(power: i64, least: i64, greatest: i64) -> Option<i64> {
     for factor in [1, 2, 5] {
         let width = power.saturating_mul(factor);

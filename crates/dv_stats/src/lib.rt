@@ -1,38 +1,44 @@
-//! What a trace says of each component and of each output of the root, in numbers.
+//! The numbers of a trace: of each component its transitions, phases, variables and output ports,
+//! and of each output of the root what left.
 //!
-//! `write_stats` counts transitions, visits to phases with the ticks in them, what ports sent, and how far apart;
-//! `StatsOptions` chooses a span of ticks, some components, quantiles and histograms, and the `Form`. `StatsWriter`
-//! takes the bytes of a trace while a run prints them, and gives the same numbers. Without quantiles its memory does
-//! not grow with the trace.
+//! `StatsWriter` is a writer, to which the bytes of a trace are written in any pieces: by `pdevs
+//! stats`, which reads a file, and by `run --stats`, whose run prints to it. It cuts them into
+//! lines (`LineCutter` of `dv_trace`) and adds each line to counts (`Counts`). `finish` then makes
+//! the rows of each section and writes them, as columns or as comma-separated values.
+//! `StatsOptions` chooses a span of ticks, some components, quantiles and histograms, and the
+//! `Form`.
 //!
-//! `dv_views` calls it for `pdevs stats`, and the program for `run --stats`. Transitions and values are counted up to
-//! 2^64 - 1, which is proved. Means and quantiles have no more claimed of them than that they are made without a
-//! fault of the program.
+//! In memory are the counts of each component, phase, variable and port, and the line that has not
+//! ended yet. For quantiles, each port also has a table of the values that it sent, with how often
+//! each was sent. So without quantiles memory does not grow with the trace.
+//!
+//! It is proved that transitions and values are counted up to 2^64 - 1. Nothing else is claimed of
+//! the numbers except that they are made without a fault of the program.
 #![tactic(auto)]
 
-/// The values of rows.
+/// The values of a row.
 mod cell;
-/// What is counted of a component.
+/// The counts of a component.
 mod component;
 /// Counts a trace line by line.
 mod counter;
-/// What is counted of a trace.
+/// The counts of a trace.
 mod counts;
-/// Why the numbers are not written.
+/// Why the numbers are not complete.
 pub mod error;
-/// Histograms.
+/// The bins of a histogram.
 mod histogram;
-/// What was counted, as text.
+/// Writes the sections.
 mod listing;
 /// The names of what is counted.
 mod names;
-/// What is wanted.
+/// Options of the numbers.
 pub mod options;
-/// What is counted of an output of the root.
+/// The counts of an output of the root.
 mod output;
-/// What is counted of the values that a port sends.
+/// The counts of a port.
 mod port;
-/// The rows of what was counted.
+/// From counts to rows.
 mod rows;
 /// Sections of rows.
 mod section;
@@ -40,13 +46,13 @@ mod section;
 mod span;
 /// The least, the greatest and the sum of some values.
 mod summary;
-/// Sections as text: in aligned columns, or as comma-separated values.
+/// Sections as text, in aligned columns or as comma-separated values.
 mod table;
-/// How often each value came.
+/// How often each value occurred.
 mod tally;
-/// What is counted of a variable.
+/// The values of a variable over time.
 mod variable;
-/// The door: a writer that counts a trace that it is given piece by piece.
+/// A writer that counts a trace.
 pub mod writer;
 
 pub use error::StatsError;

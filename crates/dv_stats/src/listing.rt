@@ -1,4 +1,4 @@
-//! What was counted, as text.
+//! Writes the sections.
 
 use crate::counts::Counts;
 use crate::error::StatsError;
@@ -44,7 +44,7 @@ fn push_counts<'t>(
     Ok(())
 }
 
-// How many ticks count, which ones, and of which components.
+// Adds the number of ticks that count, and the options that were given.
 fn push_span(text: &mut String, ticks: u64, options: &StatsOptions<'_>) -> Result<(), AllocError> {
     let form = options.form;
     if let Form::Csv = form {

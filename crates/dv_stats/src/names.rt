@@ -1,8 +1,8 @@
-//! The names of what is counted. What is not there has an empty one.
+//! The names of what is counted. An index that is too great has an empty name.
 
 use dv_tree::Tree;
 
-/// The name at an index among the numbers of names.
+/// The name at an index of a list of names, which are given by their numbers.
 pub(crate) fn name_at<'t>(tree: &'t Tree<'t>, names: &[u32], index: usize) -> &'t str {
     match names.get(index) {
         Some(number) => tree.name(*number),

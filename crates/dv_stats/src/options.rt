@@ -1,4 +1,4 @@
-//! What is wanted of a trace.
+//! Options of the numbers.
 
 use dv_trace::End;
 
@@ -11,10 +11,11 @@ pub enum Form {
     Csv,
 }
 
-/// What is wanted of a trace, and in which form.
+/// What is counted of a trace, and how it is written.
 #[derive(Clone, Copy)]
 pub struct StatsOptions<'a> {
-    /// Whether the trace has to have an end. One without an end counts up to the tick of its last line.
+    /// Whether the trace has to have an end. One without an end counts up to the tick of its last
+    /// line.
     pub end: End,
     /// How the numbers are written.
     pub form: Form,
@@ -22,8 +23,10 @@ pub struct StatsOptions<'a> {
     pub from: Option<u64>,
     /// The last tick that counts; without it, the last one of the trace.
     pub to: Option<u64>,
-    /// Where it is given, only components count whose path it is or begins with it and a dot, and no output of the root.
+    /// The path of a component, or of a coupled model, whose components alone count. The outputs of
+    /// the root do not count then.
     pub only: Option<&'a str>,
-    /// Whether quantiles and histograms are written too. They take memory for each distinct value that a port sent.
+    /// Whether quantiles and histograms are written, too. They take memory for each distinct value
+    /// that a port sent.
     pub quantiles: bool,
 }

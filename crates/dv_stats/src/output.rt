@@ -1,21 +1,23 @@
-//! What is counted of an output of the root.
+//! The counts of an output of the root.
 
 use crate::port::PortCount;
 use dv_trace::Values;
 
-/// The instants at which something left, as ticks, and the ticks between one and the next.
+/// The ticks of the instants at which something left.
 #[derive(Clone, Copy)]
 pub(crate) struct Instants {
     pub(crate) first: u64,
     pub(crate) last: u64,
-    /// The least and the greatest number of ticks between one instant and the next, where there were two.
+    /// The least and the greatest number of ticks from one instant to the next, if there were two
+    /// instants.
     pub(crate) gaps: Option<(u64, u64)>,
 }
 
-/// What left by an output of the root.
+/// The counts of an output of the root.
 #[derive(Clone, Copy)]
 pub(crate) struct OutputCount {
     pub(crate) port: PortCount,
+    /// `None` if nothing has left.
     pub(crate) instants: Option<Instants>,
 }
 
@@ -26,7 +28,7 @@ impl OutputCount {
         instants: None,
     };
 
-    /// Values leave at a tick.
+    /// Counts values that leave at a tick.
     pub(crate) fn send(&mut self, tick: u64, values: Values<'_>) {
         self.port.send(values);
         self.instants = Some(match self.instants {
@@ -41,7 +43,7 @@ impl OutputCount {
 }
 
 impl Instants {
-    // With one more instant.
+    // Adds an instant at a tick.
     fn to(self, tick: u64) -> Instants {
         let gap = tick.saturating_sub(self.last);
         Instants {

@@ -1,4 +1,4 @@
-//! What is counted of the values that a port sends.
+//! The counts of a port.
 
 ghost use Rattle.std.specs.Prelude.{◌≡◌};
 ghost use Rattle.dv_stats.specs.Counting.{more, one_more};
@@ -6,12 +6,12 @@ ghost use Rattle.dv_stats.specs.Counting.{more, one_more};
 use crate::summary::Summary;
 use dv_trace::Values;
 
-/// How often a port sent, how many values, and what they come to.
+/// The counts of a port.
 #[derive(Clone, Copy)]
 pub(crate) struct PortCount {
-    /// The instants at which the port sent something.
+    /// The number of instants at which the port sent something.
     pub(crate) instants: u64,
-    /// The values, copies counted.
+    /// The number of values, with copies.
     pub(crate) values: u64,
     /// The least, the greatest and the sum of the values.
     pub(crate) sent: Summary,
@@ -25,7 +25,7 @@ impl PortCount {
         sent: Summary::NOTHING,
     };
 
-    /// Values are sent at one more instant. A count that has reached 2^64 - 1 stays there.
+    /// Counts the values of one more instant. A count that has reached 2^64 - 1 stays there.
     pub(crate) fn send(&mut self, values: Values<'_>)
         ensures instants { self.new.instants ≡ one_more self.old.instants }
         ensures values { self.new.values ≡ more values.entry.count self.old.values }
@@ -46,7 +46,7 @@ fn add_numbers(sent: &mut Summary, text: &str) {
     }
 }
 
-// The reader of the trace takes nothing but numbers between commas.
+// The text is always a number: others are refused by the reader of the trace.
 fn add_number(sent: &mut Summary, text: &str) {
     if let Ok(value) = text.parse::<i64>() {
         sent.add(value);

@@ -1,4 +1,4 @@
-//! The rows of what was counted.
+//! From counts to rows.
 
 use crate::cell::Cell;
 use crate::component::ComponentCount;
@@ -22,7 +22,7 @@ struct Subject<'t, 'c> {
     count: &'c ComponentCount,
 }
 
-/// The section of a kind. Where no quantiles are wanted, the sections of samples have no rows.
+/// The section of a kind. Without quantiles, the sections of quantiles and bins have no rows.
 pub(crate) fn section_of<'t>(
     alloc: Global,
     tree: &'t Tree<'t>,
@@ -70,7 +70,8 @@ impl<'t> Section<'t> {
         }
     }
 
-    // The phases of a component, and what comes behind a fault. A colon stands in no name of a phase.
+    // Adds a row for each phase of a component, and one for the ticks after its fault. No name of a
+    // phase has a colon.
     fn add_phases(&mut self, of: Subject<'t, '_>, all: u64) -> Result<(), AllocError> {
         for (index, phase) in of.count.phases.iter().enumerate() {
             let name = name_at(self.tree, of.scope.phases(), index);
@@ -82,7 +83,8 @@ impl<'t> Section<'t> {
         Ok(())
     }
 
-    // What the variables of a component held in so many ticks, or up to the component's fault.
+    // Adds a row for each variable of a component. `all` is the number of ticks that count; those
+    // after a fault are subtracted.
     fn add_variables(&mut self, of: Subject<'t, '_>, all: u64) -> Result<(), AllocError> {
         let ticks = all.saturating_sub(of.count.faulted);
         for (index, variable) in of.count.variables.iter().enumerate() {
@@ -125,7 +127,7 @@ impl<'t> Section<'t> {
         Ok(())
     }
 
-    // The quantiles of a sample of a port, or its bins.
+    // Adds the row of a port's quantiles, or a row for each bin.
     fn add_sample(
         &mut self,
         component: &'t [u32],
@@ -197,7 +199,7 @@ fn port_cells(port: PortCount) -> [Cell; 6] {
     ]
 }
 
-// What left by an output of the root in so many ticks.
+// The cells of an output of the root. `ticks` is the number of ticks that count.
 fn output_cells(count: OutputCount, ticks: u64) -> [Cell; 10] {
     let [instants, values, least, greatest, sum, mean] = port_cells(count.port);
     let [gap_least, gap_mean, gap_greatest] = gap_cells(count.instants, count.port.instants);
@@ -215,8 +217,8 @@ fn output_cells(count: OutputCount, ticks: u64) -> [Cell; 10] {
     ]
 }
 
-// The least, the mean and the greatest number of ticks between one instant and the next. All of them together are the ticks from
-// the first instant to the last one.
+// The least, the mean and the greatest number of ticks from one instant to the next. Their sum is
+// the number of ticks from the first instant to the last.
 fn gap_cells(instants: Option<Instants>, count: u64) -> [Cell; 3] {
     match instants {
         Some(
@@ -237,7 +239,7 @@ fn gap_cells(instants: Option<Instants>, count: u64) -> [Cell; 3] {
     }
 }
 
-// How many values there are, the least, the quantiles, and the greatest.
+// The number of values, the least one, the quantiles, and the greatest one.
 fn quantile_cells(tally: &Tally) -> [Cell; 8] {
     [
         Cell::count(tally.count),

@@ -17,7 +17,8 @@ pub(crate) enum Kind {
     Bins(Sample),
 }
 
-/// Of which values there are quantiles and a histogram.
+/// The numbers of which there are quantiles and a histogram: values, or ticks from one instant to
+/// the next (gaps).
 #[derive(Clone, Copy)]
 pub(crate) enum Sample {
     PortValues,
@@ -26,7 +27,7 @@ pub(crate) enum Sample {
     OutputGaps,
 }
 
-/// The names that rows of a kind have.
+/// The columns of names in a section.
 #[derive(Clone, Copy)]
 pub(crate) enum Named {
     ByComponent,
@@ -51,7 +52,7 @@ impl Sample {
         }
     }
 
-    /// Which of the tallies of a port it is.
+    /// The one of a port's tallies that has this sample.
     pub(crate) fn tally_of(self, tallies: &PortTallies) -> &Tally {
         match self {
             Sample::PortValues | Sample::OutputValues => &tallies.values,
@@ -61,7 +62,7 @@ impl Sample {
 }
 
 impl Kind {
-    /// The kinds, in the order of their sections.
+    /// All kinds, in the order of their sections.
     pub(crate) const ALL: [Kind; 13] = [
         Kind::Component,
         Kind::Phase,
@@ -78,7 +79,7 @@ impl Kind {
         Kind::Bins(Sample::OutputGaps),
     ];
 
-    /// The word of a kind.
+    /// The name of the kind, which is the title of the column of names.
     pub(crate) fn word(self) -> &'static str {
         match self {
             Kind::Component => "component",
@@ -90,7 +91,7 @@ impl Kind {
         }
     }
 
-    /// The names that its rows have.
+    /// The columns of names in the section.
     pub(crate) fn named(self) -> Named {
         match self {
             Kind::Component => Named::ByComponent,
@@ -100,8 +101,8 @@ impl Kind {
         }
     }
 
-    /// What is measured.
-    pub(crate) fn measures(self) -> &'static [Cell] {
+    /// The titles of the other columns.
+    pub(crate) fn measures(self) -> &'static [&'static str] {
         match self {
             Kind::Component => &COMPONENT,
             Kind::Phase => &PHASE,
@@ -114,67 +115,42 @@ impl Kind {
     }
 }
 
-const COMPONENT: [Cell; 5] = [
-    Cell::Word("internal"),
-    Cell::Word("external"),
-    Cell::Word("confluent"),
-    Cell::Word("fault"),
-    Cell::Word("fault_time"),
+const COMPONENT: [&str; 5] = ["internal", "external", "confluent", "fault", "fault_time"];
+
+const PHASE: [&str; 3] = ["visits", "ticks", "share"];
+
+const VARIABLE: [&str; 3] = ["least", "greatest", "mean"];
+
+const PORT: [&str; 6] = ["instants", "values", "least", "greatest", "sum", "mean"];
+
+const OUTPUT: [&str; 10] = [
+    "instants",
+    "values",
+    "least",
+    "greatest",
+    "sum",
+    "mean",
+    "rate",
+    "gap_least",
+    "gap_mean",
+    "gap_greatest",
 ];
 
-const PHASE: [Cell; 3] = [
-    Cell::Word("visits"),
-    Cell::Word("ticks"),
-    Cell::Word("share"),
+// The quantiles are named by fractions of one.
+const QUANTILES: [&str; 8] = [
+    "count", "least", "0.25", "0.5", "0.75", "0.9", "0.99", "greatest",
 ];
 
-const VARIABLE: [Cell; 3] = [
-    Cell::Word("least"),
-    Cell::Word("greatest"),
-    Cell::Word("mean"),
-];
+const BINS: [&str; 3] = ["from", "to", "count"];
 
-const PORT: [Cell; 6] = [
-    Cell::Word("instants"),
-    Cell::Word("values"),
-    Cell::Word("least"),
-    Cell::Word("greatest"),
-    Cell::Word("sum"),
-    Cell::Word("mean"),
-];
-
-const OUTPUT: [Cell; 10] = [
-    Cell::Word("instants"),
-    Cell::Word("values"),
-    Cell::Word("least"),
-    Cell::Word("greatest"),
-    Cell::Word("sum"),
-    Cell::Word("mean"),
-    Cell::Word("rate"),
-    Cell::Word("gap_least"),
-    Cell::Word("gap_mean"),
-    Cell::Word("gap_greatest"),
-];
-
-// The quantiles are named in parts of one.
-const QUANTILES: [Cell; 8] = [
-    Cell::Word("count"),
-    Cell::Word("least"),
-    Cell::Word("0.25"),
-    Cell::Word("0.5"),
-    Cell::Word("0.75"),
-    Cell::Word("0.9"),
-    Cell::Word("0.99"),
-    Cell::Word("greatest"),
-];
-
-const BINS: [Cell; 3] = [Cell::Word("from"), Cell::Word("to"), Cell::Word("count")];
-
-/// A row: the path of a component as the numbers of its names, the name of what it is about, and the values of the measures.
+/// A row of a section.
 #[derive(Drop)]
 pub(crate) struct Row<'t> {
+    /// The path of the component, as numbers of names; empty for outputs of the root.
     pub(crate) component: &'t [u32],
+    /// The name of the phase, the variable or the port; empty for the component itself.
     pub(crate) name: &'t str,
+    /// The values, in the order of the titles.
     pub(crate) cells: Vec<Cell>,
 }
 
@@ -188,7 +164,17 @@ pub(crate) struct Section<'t> {
 }
 
 impl<'t> Section<'t> {
-    /// One more row.
+    /// The titles of the columns of values, as cells.
+    pub(crate) fn titles(&self) -> Result<Vec<Cell>, AllocError> {
+        let measures = self.kind.measures();
+        let mut titles = Vec::with_capacity(self.alloc, measures.len())?;
+        for measure in measures {
+            titles.push(Cell::Word(*measure))?;
+        }
+        Ok(titles)
+    }
+
+    /// Adds a row.
     pub(crate) fn push(
         &mut self,
         component: &'t [u32],

@@ -1,13 +1,13 @@
 //! The ticks that count.
 
-/// The ticks from one on and before another.
+/// The ticks from `from` on, and before `before`.
 #[derive(Clone, Copy)]
 pub(crate) struct Span {
     pub(crate) from: u64,
     pub(crate) before: u64,
 }
 
-/// On which side of a span a tick lies.
+/// Where a tick is, seen from a span.
 #[derive(Clone, Copy)]
 pub(crate) enum Side {
     Before,
@@ -16,7 +16,8 @@ pub(crate) enum Side {
 }
 
 impl Span {
-    /// From the first tick to the last one, both among them. Without a last one it has no end.
+    /// The span from the first tick, or tick 0, to the last one, which is included. Without a last
+    /// tick it has no end.
     pub(crate) fn of(first: Option<u64>, last: Option<u64>) -> Span {
         Span {
             from: first.unwrap_or(0),
@@ -27,7 +28,7 @@ impl Span {
         }
     }
 
-    /// On which side of it a tick lies.
+    /// Where a tick is.
     pub(crate) fn side_of(self, tick: u64) -> Side {
         if tick < self.from {
             Side::Before
@@ -38,7 +39,7 @@ impl Span {
         }
     }
 
-    /// What of the span is among the first so many ticks.
+    /// The part of the span that is within the first `ticks` ticks.
     pub(crate) fn cut(self, ticks: u64) -> Span {
         Span {
             from: self.from,
@@ -46,7 +47,7 @@ impl Span {
         }
     }
 
-    /// How many ticks it has.
+    /// The number of ticks in the span.
     pub(crate) fn ticks(self) -> u64 {
         self.before.saturating_sub(self.from)
     }

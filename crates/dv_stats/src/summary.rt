@@ -7,12 +7,12 @@ pub(crate) struct Extremes {
     pub(crate) greatest: i64,
 }
 
-/// What some values come to.
+/// The least, the greatest and the sum of some values.
 #[derive(Clone, Copy)]
 pub(crate) struct Summary {
-    /// The least and the greatest, where there are values.
+    /// The least and the greatest value, if there are values.
     pub(crate) extremes: Option<Extremes>,
-    /// Their sum; nothing where it has more than 128 bits.
+    /// The sum; `None` if it has more than 128 bits.
     pub(crate) sum: Option<i128>,
 }
 
@@ -23,7 +23,7 @@ impl Summary {
         sum: Some(0),
     };
 
-    /// A value is among them.
+    /// Adds a value to the extremes alone.
     pub(crate) fn meet(&mut self, value: i64) {
         self.extremes = Some(match self.extremes {
             Some(extremes) => Extremes {
@@ -37,13 +37,13 @@ impl Summary {
         });
     }
 
-    /// A value is among them, and in the sum.
+    /// Adds a value to the extremes and to the sum.
     pub(crate) fn add(&mut self, value: i64) {
         self.meet(value);
         self.sum = with(self.sum, value);
     }
 
-    /// The sum has so many copies of a value more.
+    /// Adds copies of a value to the sum alone.
     pub(crate) fn weigh(&mut self, value: i64, copies: u64) {
         self.sum = with_copies(self.sum, value, copies);
     }
@@ -53,7 +53,7 @@ fn with(sum: Option<i128>, value: i64) -> Option<i128> {
     sum?.checked_add(i128::from(value))
 }
 
-// Nothing wraps: the product of two numbers of 64 bits has 128.
+// The product never wraps: that of two numbers of 64 bits has at most 128 bits.
 fn with_copies(sum: Option<i128>, value: i64, copies: u64) -> Option<i128> {
     sum?.checked_add(i128::from(value).wrapping_mul(i128::from(copies)))
 }

@@ -1,14 +1,14 @@
-//! Sections as text: in aligned columns, or as comma-separated values.
+//! Sections as text, in aligned columns or as comma-separated values.
 
 use crate::cell::Cell;
 use crate::section::{Kind, Named, Row, Section};
 use dv_tree::Tree;
 use std::alloc::{AllocError, Global};
 
-/// What stands in a column for what is not there.
+/// What a column shows if there is no value.
 const NOTHING: &str = "-";
 
-/// The path of the last row, which is written down once for the rows of a component and kept nowhere else.
+/// The text of a row's path. It is made once for all rows of a component, which follow each other.
 #[derive(Drop)]
 struct PathText<'t> {
     tree: &'t Tree<'t>,
@@ -17,7 +17,7 @@ struct PathText<'t> {
 }
 
 impl<'t> PathText<'t> {
-    /// The empty path, before the first row.
+    /// The empty path.
     fn new(alloc: Global, tree: &'t Tree<'t>) -> Self {
         PathText {
             tree,
@@ -37,25 +37,26 @@ impl<'t> PathText<'t> {
     }
 }
 
-/// How many characters the columns take.
+/// The widths of columns, in characters.
 #[derive(Drop)]
 struct Columns {
     component: usize,
     name: usize,
     values: Vec<usize>,
-    // The value that is written.
+    // The text of the current value.
     value: String,
 }
 
 impl Columns {
     /// Columns that are wide enough for a section and its titles.
-    fn of(alloc: Global, section: &Section<'_>) -> Result<Self, AllocError> {
+    fn of(alloc: Global, section: &Section<'_>, titles: &[Cell]) -> Result<Self, AllocError> {
         let mut columns = Columns {
             component: 0,
             name: 0,
-            values: vec![in alloc; 0; section.kind.measures().len()]?,
+            values: vec![in alloc; 0; titles.len()]?,
             value: String::new(alloc),
         };
+        columns.widen("component", section.kind.word(), titles)?;
         columns.widen_all(section, &mut PathText::new(alloc, section.tree))?;
         Ok(columns)
     }
@@ -65,15 +66,13 @@ impl Columns {
         section: &Section<'t>,
         path: &mut PathText<'t>,
     ) -> Result<(), AllocError> {
-        let kind = section.kind;
-        self.widen("component", kind.word(), kind.measures())?;
         for row in &section.rows {
             self.widen(path.of(row)?, row.name, &row.cells)?;
         }
         Ok(())
     }
 
-    // Makes room for a line.
+    // Makes the columns wide enough for a line.
     fn widen(&mut self, component: &str, name: &str, cells: &[Cell]) -> Result<(), AllocError> {
         self.component = self.component.max(width_of(component));
         self.name = self.name.max(width_of(name));
@@ -91,16 +90,14 @@ impl Columns {
         section: &Section<'t>,
         path: &mut PathText<'t>,
     ) -> Result<(), AllocError> {
-        let kind = section.kind;
-        text.push('\n')?;
-        self.push_line(text, kind, "component", kind.word(), kind.measures())?;
         for row in &section.rows {
-            self.push_line(text, kind, path.of(row)?, row.name, &row.cells)?;
+            self.push_line(text, section.kind, path.of(row)?, row.name, &row.cells)?;
         }
         Ok(())
     }
 
-    // A line: names from the left, values from the right, with two blanks before each.
+    // Adds a line: names aligned to the left, values to the right, with two blanks before each
+    // value.
     fn push_line(
         &mut self,
         text: &mut String,
@@ -122,7 +119,7 @@ impl Columns {
         text.push('\n')
     }
 
-    // The columns of names that rows of a kind have.
+    // Adds the columns of names.
     fn push_names(
         &self,
         text: &mut String,
@@ -143,7 +140,7 @@ fn width_of(text: &str) -> usize {
     text.chars().count()
 }
 
-/// A section in aligned columns, with a line of titles.
+/// Adds a section in aligned columns, below a line of titles. A section without rows is left out.
 pub(crate) fn push_columns(
     alloc: Global,
     text: &mut String,
@@ -152,11 +149,24 @@ pub(crate) fn push_columns(
     if section.rows.is_empty() {
         return Ok(());
     }
-    let mut columns = Columns::of(alloc, section)?;
+    let titles = section.titles()?;
+    push_titled(alloc, text, section, &titles)
+}
+
+fn push_titled(
+    alloc: Global,
+    text: &mut String,
+    section: &Section<'_>,
+    titles: &[Cell],
+) -> Result<(), AllocError> {
+    let mut columns = Columns::of(alloc, section, titles)?;
+    text.push('\n')?;
+    columns.push_line(text, section.kind, "component", section.kind.word(), titles)?;
     columns.push_all(text, section, &mut PathText::new(alloc, section.tree))
 }
 
-/// A section as comma-separated values: a line for each value, and one for each bin. No name has a comma or a quote.
+/// Adds a section as comma-separated values: a line for each value, and one for each bin. No name
+/// has a comma or a quote.
 pub(crate) fn push_csv(
     alloc: Global,
     text: &mut String,
@@ -175,12 +185,12 @@ fn push_row(text: &mut String, kind: Kind, path: &str, row: &Row<'_>) -> Result<
     }
     let (word, name) = (kind.word(), row.name);
     for (measure, cell) in kind.measures().iter().zip(&row.cells) {
-        writeln!(text, "{word},{path},{name},{measure},{cell}")?;
+        writeln!(text, "{word},{path},{name},{},{cell}", *measure)?;
     }
     Ok(())
 }
 
-// The measure of a bin is its range.
+// Adds the line of a bin, whose measure is the range.
 fn push_bin(text: &mut String, kind: Kind, path: &str, row: &Row<'_>) -> Result<(), AllocError> {
     let (word, name) = (kind.word(), row.name);
     match row.cells.as_slice() {

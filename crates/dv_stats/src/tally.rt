@@ -1,14 +1,14 @@
-//! How often each value came.
+//! How often each value occurred.
 
 use dv_trace::Values;
 use std::alloc::{AllocError, Global};
 use std::collections::BTreeMap;
 
-/// Some values, each with how often it came.
+/// Some values, each with the number of its copies.
 #[derive(Drop)]
 pub(crate) struct Tally {
     counts: BTreeMap<i64, u64>,
-    /// How many values there are, copies counted.
+    /// The number of values, with copies.
     pub(crate) count: u64,
 }
 
@@ -21,7 +21,7 @@ impl Tally {
         }
     }
 
-    /// A value came. A count that has reached 2^64 - 1 stays there.
+    /// Adds a value. A count that has reached 2^64 - 1 stays there.
     pub(crate) fn add(&mut self, value: i64) -> Result<(), AllocError> {
         match self.counts.get_mut(&value) {
             Some(count) => *count = count.saturating_add(1),
@@ -33,7 +33,7 @@ impl Tally {
         Ok(())
     }
 
-    /// The values ascending, with how often each came.
+    /// The values, ascending, each with the number of its copies.
     pub(crate) fn counts(&self) -> &BTreeMap<i64, u64> {
         &self.counts
     }
@@ -50,7 +50,8 @@ impl Tally {
         Some(*value)
     }
 
-    /// The least value such that at least so many of a hundred values are not above it: the quantile by the nearest rank.
+    /// The quantile by the nearest rank: the least value such that at least this percentage of the
+    /// values is not above it.
     pub(crate) fn quantile(&self, percent: u8) -> Option<i64> {
         let hundredths = u128::from(self.count).saturating_mul(u128::from(percent));
         let mut passed: u128 = 0;
@@ -64,12 +65,14 @@ impl Tally {
     }
 }
 
-/// The values that a port sent, and the ticks between one instant at which it sent and the next.
+/// The tallies of a port.
 #[derive(Drop)]
 pub(crate) struct PortTallies {
+    /// The values that the port sent.
     pub(crate) values: Tally,
+    /// The numbers of ticks from one instant at which it sent to the next.
     pub(crate) gaps: Tally,
-    // The tick of the last instant, where there was one.
+    // The tick of the last instant, if there was one.
     last: Option<u64>,
 }
 
@@ -83,7 +86,7 @@ impl PortTallies {
         }
     }
 
-    /// Values are sent at an instant of a tick.
+    /// Adds the values of one instant at a tick.
     pub(crate) fn send(&mut self, tick: u64, values: Values<'_>) -> Result<(), AllocError> {
         if let Some(last) = self.last {
             let gap = tick.saturating_sub(last);
@@ -94,7 +97,7 @@ impl PortTallies {
     }
 }
 
-// The reader of the trace takes nothing but numbers between commas.
+// All pieces are numbers: others are refused by the reader of the trace.
 fn tally_all(tally: &mut Tally, values: Values<'_>) -> Result<(), AllocError> {
     for piece in values.text.split(',') {
         if let Ok(value) = piece.parse::<i64>() {
@@ -104,7 +107,7 @@ fn tally_all(tally: &mut Tally, values: Values<'_>) -> Result<(), AllocError> {
     Ok(())
 }
 
-/// The tallies of so many ports; none where they are not wanted.
+/// The tallies of ports, or none if they are not wanted.
 pub(crate) fn tallies_of(
     alloc: Global,
     ports: usize,

@@ -9,8 +9,11 @@ use std::alloc::{AllocError, Global};
 use std::io;
 use std::io::Write;
 
-/// A writer that takes the bytes of a trace, in any pieces, and counts what their lines say. Of the bytes it keeps the line that has not
-/// ended yet, so that without quantiles it takes the same memory for any number of lines.
+/// A writer that takes the bytes of a trace, in any pieces, and counts what their lines say. It
+/// keeps the line that has not ended yet, and none before it. Without quantiles, memory does not
+/// grow with the trace.
+///
+/// A write fails if a line is refused or an allocation is; `finish` returns the cause.
 #[derive(Drop)]
 pub struct StatsWriter<'t> {
     alloc: Global,
@@ -20,11 +23,12 @@ pub struct StatsWriter<'t> {
 }
 
 impl<'t> StatsWriter<'t> {
-    /// Counts a trace of the model of a tree, from its first byte on. `None` where only some components are asked for, and there are none.
+    /// A writer for a trace of the model of a tree, from its first byte on. `None` if no component
+    /// has the path in `options.only`.
     ///
     /// # Errors
     ///
-    /// No memory for what is counted.
+    /// An allocation was refused.
     pub fn new(
         alloc: Global,
         tree: &'t Tree<'t>,
@@ -41,18 +45,21 @@ impl<'t> StatsWriter<'t> {
         }))
     }
 
-    /// Writes what the trace that ends behind the last byte says, in numbers, and returns how far the trace reaches. Of each component
-    /// that is asked for it writes its transitions of each kind and its fault, the visits to each phase and the ticks in it, the least,
-    /// the greatest and the mean value of each variable over time, and what its ports sent; of each output of the root what left and
-    /// how often. A whole trace to the horizon `H` has `H + 1` ticks, one that is not whole as many as are before the least clock, and
-    /// one without an end as many as are before its last line.
+    /// Ends the trace, writes its numbers to `writer`, and returns how far the trace reaches. Of
+    /// each component that is asked for it writes the transitions of each kind and the fault, the
+    /// visits to each phase and the ticks in it, the least, the greatest and the mean value of each
+    /// variable over time, and what its ports sent; of each output of the root what left and how
+    /// often. A whole trace to the horizon `H` has `H + 1` ticks, a partial one has those before
+    /// the least clock, and one without an end has those before its last line.
     ///
     /// # Errors
     ///
-    /// - `Refused`: the trace is malformed, or is none of this model; nothing was written.
-    /// - `Write`: a write failed. `Memory`: there is no memory. The writer holds a beginning of the text, perhaps nothing.
+    /// - `Refused`: the trace is malformed, or not one of this model; nothing was written.
+    /// - `Write`: a write to `writer` failed. `Memory`: an allocation was refused. `writer` holds a
+    ///   beginning of the text, perhaps nothing.
     ///
-    /// Where a write to this one failed, it is why: `Refused` or `Memory`.
+    /// If a write to this `StatsWriter` failed, the error is the cause of that: `Refused` or
+    /// `Memory`.
     pub fn finish<W: Write>(self, writer: &mut W) -> Result<Reach, StatsError> {
         let StatsWriter {
             alloc,
