@@ -1,4 +1,5 @@
-//! What arrives at the components at one time: what components send then, and the inputs of that time.
+//! What arrives at the components at one time: from components that send then, and from the inputs
+//! of that time.
 
 use dv_bag::Input;
 use dv_flat::{ComponentPort, DirectLink, EntryLink, LinkLists};
@@ -6,36 +7,36 @@ use dv_time::Time;
 use dv_trace::{Entry, Sending};
 use std::alloc::AllocError;
 
-/// So many copies of a value at an input port of a component.
+/// Copies of a value that arrive at an input port of a component.
 #[derive(Clone, Copy)]
 pub struct Arrival {
     /// The input port at which the value arrives.
     pub to: ComponentPort,
     /// The value.
     pub value: i64,
-    /// How many copies of it arrive.
+    /// The number of its copies.
     pub copies: u64,
 }
 
-/// By which links values travel, and what comes from outside.
+/// The links of a model and the inputs of a run.
 #[derive(Clone, Copy)]
 pub struct Routes<'a> {
     links: &'a LinkLists,
-    // The inputs that are not before the last time that was asked for.
+    // The inputs after the last time that was asked for.
     inputs: &'a [Input],
 }
 
 impl<'a> Routes<'a> {
-    /// Routes by these links, at the start of these inputs.
+    /// These links, and all of these inputs, which are sorted by time.
     pub fn new(links: &'a LinkLists, inputs: &'a [Input]) -> Self {
         Routes { links, inputs }
     }
 
-    /// Adds what arrives of what a component sends, as its line says it, to what arrives at that time.
+    /// Adds to `arrivals` what arrives at other components from the values that a component sent.
     ///
     /// # Errors
     ///
-    /// No memory for what arrives.
+    /// An allocation was refused.
     pub fn add_sent(
         &self,
         entry: &Entry<'_>,
@@ -49,12 +50,12 @@ impl<'a> Routes<'a> {
         Ok(())
     }
 
-    /// Adds what arrives from outside to what components send at a time, and puts all in its order: by component, by port and by
-    /// value. Times are asked for in their order.
+    /// Adds to `arrivals` what arrives from the inputs at a time, and sorts them by component, port
+    /// and value. No call may name an earlier time than the call before.
     ///
     /// # Errors
     ///
-    /// No memory for what arrives.
+    /// An allocation was refused.
     pub fn complete(&mut self, time: Time, arrivals: &mut Vec<Arrival>) -> Result<(), AllocError> {
         for input in self.inputs_at(time) {
             add_input(&self.links.entries, *input, arrivals)?;
@@ -65,7 +66,7 @@ impl<'a> Routes<'a> {
         Ok(())
     }
 
-    // The inputs of a time, which are passed by then.
+    // Takes the inputs of a time. Those before it are dropped.
     fn inputs_at(&mut self, time: Time) -> &'a [Input] {
         let passed = self
             .inputs
@@ -81,7 +82,8 @@ fn behind<T>(items: &[T], index: usize) -> &[T] {
     items.get(index..).unwrap_or(&[])
 }
 
-// The values of a sending at the end of a link. The reader of the trace has read each of them, so each is a number.
+// Adds the values of a sending at the end of a link. All pieces are numbers: others are refused by
+// the reader of the trace.
 fn add_values(
     link: &DirectLink,
     sending: &Sending<'_>,
@@ -99,7 +101,7 @@ fn add_values(
     Ok(())
 }
 
-// An input goes along the links from its port of the root.
+// Adds an input at the ends of the links from its port of the root.
 fn add_input(
     links: &[EntryLink],
     input: Input,
@@ -115,7 +117,7 @@ fn add_input(
     Ok(())
 }
 
-// The links from an output port of a component. Links are in the order of where they begin.
+// The links from an output port of a component. Links are sorted by where they begin.
 fn direct_from(links: &[DirectLink], component: u32, port: usize) -> &[DirectLink] {
     let first = links.partition_point(|link| {
         (link.from.component, link.from.port as usize) < (component, port)
@@ -135,7 +137,7 @@ fn entries_from(links: &[EntryLink], from: u32) -> &[EntryLink] {
     links.get(..count).unwrap_or(&[])
 }
 
-/// Those of the arrivals of a time that come to a component.
+/// The arrivals at a component, among sorted arrivals.
 pub fn arrivals_to(arrivals: &[Arrival], component: u32) -> &[Arrival] {
     let first = arrivals.partition_point(|arrival| arrival.to.component < component);
     let arrivals = behind(arrivals, first);
@@ -143,11 +145,11 @@ pub fn arrivals_to(arrivals: &[Arrival], component: u32) -> &[Arrival] {
     arrivals.get(..count).unwrap_or(&[])
 }
 
-/// The values of arrivals as a trace would have them: with commas between them, copies repeated.
+/// Adds the values of arrivals, with commas between them and copies repeated, as in a trace.
 ///
 /// # Errors
 ///
-/// No memory for the longer text.
+/// An allocation was refused.
 pub(crate) fn push_values(text: &mut String, arrivals: &[Arrival]) -> Result<(), AllocError> {
     for arrival in arrivals {
         for _copy in 0..arrival.copies {

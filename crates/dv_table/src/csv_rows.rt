@@ -6,20 +6,20 @@ use dv_trace::Datum;
 use std::alloc::{AllocError, Global};
 use std::io::Write;
 
-/// The word of a record for what a state variable holds.
+/// The word of a record for a state variable.
 const STATE: &str = "state";
 
-/// Below the titles a record for each row, and behind that of a transition one for each state variable, since a cell holds one
-/// thing.
+/// Titles, and a record for each row. After the record of a transition there is one for each state
+/// variable, since a field has one value.
 #[derive(Drop)]
 pub(crate) struct CsvRows<'w, W: Write> {
     writer: csv::Writer<&'w mut W>,
-    // The value of the record that is written.
+    // The text of the current record's value.
     value: String,
 }
 
 impl<'w, W: Write> CsvRows<'w, W> {
-    /// The titles, with no row below them.
+    /// Writes the titles.
     ///
     /// # Errors
     ///
@@ -40,7 +40,7 @@ impl<'w, W: Write> CsvRows<'w, W> {
         Ok(rows)
     }
 
-    // A record with the value that is ready.
+    // Writes a record with the value in `self.value`.
     fn put_record(&mut self, index: &Index<'_>, what: &str, name: &str) -> Result<(), TableError> {
         let mut digits = itoa::Buffer::new();
         for number in [index.time.tick, u64::from(index.time.micro)] {

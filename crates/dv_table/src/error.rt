@@ -1,11 +1,11 @@
-//! Why a table is not written to its end.
+//! Why a table is not complete.
 
 use dv_inputs::{InputRefusal, InputsError};
 use dv_text::WriteError;
 use dv_trace::{TraceError, TraceRefusal};
 use std::alloc::{AllocError, AllocFailed};
 
-/// Why a table is not written to its end.
+/// Why a table is not complete.
 #[derive(Clone, Copy, PartialEq, Eq)]
 pub enum TableError {
     /// The inputs are refused; nothing was written.
@@ -45,7 +45,7 @@ impl From<WriteError> for TableError {
     }
 }
 
-// All records have six fields, so a record of another length is no cause.
+// All records have six fields, so an error about the length of a record does not occur.
 impl From<csv::Error> for TableError {
     fn from(error: csv::Error) -> Self {
         if error.is_io_error() {
@@ -56,7 +56,7 @@ impl From<csv::Error> for TableError {
     }
 }
 
-// What rows say can be written as JSON, so memory is the only cause.
+// All rows can be written as JSON, so memory is the only cause.
 impl From<serde_json::Error> for TableError {
     fn from(_error: serde_json::Error) -> Self {
         TableError::Memory

@@ -1,31 +1,31 @@
-//! What happens at one time, line after line of a trace. What arrives at a time is known once all of its lines are read.
+//! The lines of one time. What arrives at a time is known once all its lines are read.
 
 use crate::arrivals::{Arrival, Routes, arrivals_to};
 use crate::error::TableError;
 use crate::row::Rows;
-use crate::teller::Teller;
+use crate::row_writer::RowWriter;
 use dv_time::Time;
 use dv_trace::{Entry, Outside, TraceLine};
 use std::alloc::{AllocError, Global};
 
-/// The lines of the last time so far, and who tells of them.
+/// The lines of the current time, and what writes their rows.
 #[derive(Drop)]
 pub(crate) struct Instants<'a, R> {
     routes: Routes<'a>,
-    teller: Teller<'a, R>,
+    row_writer: RowWriter<'a, R>,
     time: Time,
     entries: Vec<Entry<'a>>,
-    // What arrives at that time. Its memory serves for one time after the other.
+    // What arrives at that time. The memory is kept from one time to the next.
     arrivals: Vec<Arrival>,
     outside: Option<Outside<'a>>,
 }
 
 impl<'a, R: Rows> Instants<'a, R> {
     /// Before the first line.
-    pub(crate) fn new(alloc: Global, routes: Routes<'a>, teller: Teller<'a, R>) -> Self {
+    pub(crate) fn new(alloc: Global, routes: Routes<'a>, row_writer: RowWriter<'a, R>) -> Self {
         Instants {
             routes,
-            teller,
+            row_writer,
             time: Time::ZERO,
             entries: Vec::new(alloc),
             arrivals: Vec::new(alloc),
@@ -33,11 +33,11 @@ impl<'a, R: Rows> Instants<'a, R> {
         }
     }
 
-    /// One more line. What happened at the time of the lines before is told where this one is later.
+    /// Adds a line. If it is later than the lines before, their rows are written first.
     ///
     /// # Errors
     ///
-    /// `Write`: a write failed. `Memory`: no memory for what is told or kept.
+    /// `Write`: a write failed. `Memory`: an allocation was refused.
     pub(crate) fn add(&mut self, line: TraceLine<'a>) -> Result<(), TableError> {
         match line {
             TraceLine::Entry(entry) => {
@@ -53,41 +53,41 @@ impl<'a, R: Rows> Instants<'a, R> {
         Ok(())
     }
 
-    /// The lines have ended: what happened at the time of the last ones is told.
+    /// Writes the rows of the last lines.
     ///
     /// # Errors
     ///
-    /// `Write`: a write failed. `Memory`: no memory for what is told.
+    /// `Write`: a write failed. `Memory`: an allocation was refused.
     pub(crate) fn finish(&mut self) -> Result<(), TableError> {
-        self.tell()?;
-        self.teller.finish()
+        self.write_rows()?;
+        self.row_writer.finish()
     }
 
     fn advance(&mut self, time: Time) -> Result<(), TableError> {
         if self.time != time {
-            self.tell()?;
+            self.write_rows()?;
             self.time = time;
         }
         Ok(())
     }
 
-    // Values arrive only at components that have a line: what arrives makes a transition, unless the component had a fault
-    // before.
-    fn tell(&mut self) -> Result<(), TableError> {
+    // Writes the rows of all lines. Values arrive only at components that have a line, since what
+    // arrives causes a transition, unless the component had a fault before.
+    fn write_rows(&mut self) -> Result<(), TableError> {
         self.gather()?;
         for entry in &self.entries {
             let here = arrivals_to(&self.arrivals, entry.component);
-            self.teller.entry(entry, here)?;
+            self.row_writer.entry(entry, here)?;
         }
         self.entries.clear();
         if let Some(outside) = &self.outside {
-            self.teller.outside(outside)?;
+            self.row_writer.outside(outside)?;
         }
         self.outside = None;
         Ok(())
     }
 
-    // Works out what arrives.
+    // Computes what arrives.
     fn gather(&mut self) -> Result<(), AllocError> {
         self.arrivals.clear();
         for entry in &self.entries {

@@ -9,17 +9,17 @@ use serde::{Described, Serialize, Serializer};
 use std::alloc::Global;
 use std::io::Write;
 
-/// A line with a JSON object for each row.
+/// A JSON object on a line of its own for each row.
 #[derive(Drop)]
 pub(crate) struct JsonRows<'w, W: Write> {
     alloc: Global,
     writer: &'w mut W,
-    // The lines so far, as far as the writer has them not yet.
+    // The lines that are not written yet.
     text: String,
 }
 
 impl<'w, W: Write> JsonRows<'w, W> {
-    /// No row.
+    /// No rows yet.
     pub(crate) fn new(alloc: Global, writer: &'w mut W) -> Self {
         JsonRows {
             alloc,
@@ -55,7 +55,7 @@ impl<'w, W: Write> Rows for JsonRows<'w, W> {
     }
 }
 
-// What a line has: an object with six members.
+// The object on a line. It has six members.
 #[derive(Clone, Copy)]
 struct Object<'p, 'w, 'n, 't, 'v> {
     index: Index<'p>,
@@ -110,7 +110,7 @@ fn put_value<S: Serializer>(value: Value<'_, '_>, out: &mut S) -> Result<(), S::
     }
 }
 
-// State variables: an object with a member for each.
+// An object with a member for each state variable.
 fn put_state<S: Serializer>(state: State<'_, '_>, out: &mut S) -> Result<(), S::Error> {
     out.begin_map(Some(state.data.len()))?;
     for (name, datum) in state.names.iter().zip(state.data) {
@@ -128,7 +128,8 @@ fn put_datum<S: Serializer>(datum: Datum<'_>, out: &mut S) -> Result<(), S::Erro
     }
 }
 
-// The numbers between the commas of a text: an array. The reader of the trace has read each of them, so each is one.
+// An array of the numbers between commas. All pieces are numbers: others are refused by the reader
+// of the trace.
 fn put_numbers<S: Serializer>(values: &str, out: &mut S) -> Result<(), S::Error> {
     out.begin_seq(None)?;
     for piece in values.split(',') {

@@ -1,4 +1,4 @@
-//! Rows, and where they go.
+//! The rows of a table.
 
 use crate::error::TableError;
 use dv_bag::Kind;
@@ -10,7 +10,7 @@ use dv_tree::Tree;
 #[derive(Clone, Copy)]
 pub(crate) struct Index<'a> {
     pub(crate) time: Time,
-    /// The path of the component. What leaves the model leaves at none.
+    /// The path of the component; `None` for what left the model.
     pub(crate) component: Option<&'a str>,
 }
 
@@ -43,21 +43,21 @@ pub(crate) struct State<'t, 'v> {
 /// The value of a row.
 #[derive(Clone, Copy)]
 pub(crate) enum Value<'t, 'v> {
-    /// A fault has none.
+    /// No value: the row of a fault.
     Nothing,
-    /// Values at a port, as a trace has them: ascending, copies repeated, with commas between them.
+    /// Values at a port, as in a trace: ascending, copies repeated, with commas between them.
     Numbers(&'v str),
-    /// The state behind a transition.
+    /// The state after a transition.
     State(State<'t, 'v>),
 }
 
-/// Where rows go.
+/// A form of tables, to which rows are put one after the other.
 pub(crate) trait Rows {
-    /// One more row: what happened, in a word; the name of the port, of the phase or of the fault; and the value.
+    /// Adds a row: what happened, in a word; the name of the port, the phase or the fault; the value.
     ///
     /// # Errors
     ///
-    /// `Write`: a write failed. `Memory`: no memory for the row.
+    /// `Write`: a write failed. `Memory`: an allocation was refused.
     fn put(
         &mut self,
         index: &Index<'_>,
@@ -66,7 +66,7 @@ pub(crate) trait Rows {
         value: Value<'_, '_>,
     ) -> Result<(), TableError>;
 
-    /// No more rows come: what is not written yet is written.
+    /// Writes what is not written yet.
     ///
     /// # Errors
     ///

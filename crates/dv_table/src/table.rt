@@ -1,4 +1,4 @@
-//! The table of a trace.
+//! Writes the table of a trace.
 
 use crate::arrivals::Routes;
 use crate::csv_rows::CsvRows;
@@ -6,7 +6,7 @@ use crate::error::TableError;
 use crate::instants::Instants;
 use crate::json_rows::JsonRows;
 use crate::row::Rows;
-use crate::teller::Teller;
+use crate::row_writer::RowWriter;
 use dv_bag::Inputs;
 use dv_flat::LinkLists;
 use dv_inputs::{InputsError, read_inputs};
@@ -16,35 +16,39 @@ use dv_tree::Tree;
 use std::alloc::Global;
 use std::io::Write;
 
-/// How a table is written.
+/// The form of a table.
 #[derive(Clone, Copy, PartialEq, Eq)]
 pub enum TableForm {
-    /// As comma-separated values, below titles: tick, microstep, component, what, name, value.
+    /// Comma-separated values, below titles: tick, microstep, component, what, name, value.
     Csv,
-    /// As JSON lines: an object with the same six members for each row.
+    /// JSON lines: for each row an object with these six members.
     JsonLines,
 }
 
-/// What a table is made of besides the model and the trace, and how it is written.
+/// Options of a table.
 #[derive(Clone, Copy)]
 pub struct TableOptions<'a> {
     /// Whether the trace has to have an end.
     pub end: End,
-    /// How the table is written.
+    /// The form of the table.
     pub form: TableForm,
-    /// The text of the inputs of the run. Without it no row tells what arrived from outside.
+    /// The text of the inputs of the run, if it is given. Without it, no row says what arrived from
+    /// outside.
     pub inputs: Option<&'a [u8]>,
 }
 
-/// Writes a trace of the model of a tree as a table: of each line of a component what it sent, what arrived there at that time,
-/// and the transition with the state behind it, or the fault; and what left the model. The links are those of the same tree.
-/// How far the trace reaches is returned. The work is that of the trace and of what arrives, and the memory that of one time.
+/// Writes a trace of the model of a tree as a table, and returns how far the trace reaches. Each
+/// line of a component has rows for what it sent, for what arrived there at that time, and for the
+/// transition with the state after it, or the fault. The lines of what left the model have a row
+/// for each port. `links` are the links of the same tree. The time is proportional to the trace and
+/// to what arrives; besides the trace, the memory holds what happens at one time.
 ///
 /// # Errors
 ///
-/// - `Inputs`: the inputs are refused. `Refused`: the inputs are accepted, and the trace is malformed, or is none of this model.
-///   The whole of it is read before anything is written.
-/// - `Write`: a write failed. `Memory`: there is no memory. The writer holds a beginning of the table, perhaps nothing.
+/// - `Inputs`: the inputs are refused. `Refused`: the inputs are accepted, and the trace is
+///   malformed, or not one of this model. Nothing was written.
+/// - `Write`: a write failed. `Memory`: an allocation was refused. The writer holds a beginning of
+///   the table, perhaps nothing.
 pub fn write_table<W: Write>(
     alloc: Global,
     tree: &Tree<'_>,
@@ -55,19 +59,20 @@ pub fn write_table<W: Write>(
 ) -> Result<Reach, TableError> {
     let inputs = inputs_of(alloc, tree, options.inputs)?;
     check_trace(alloc, tree, trace, options.end)?;
-    let told = Told {
+    let source = Source {
         tree: &*tree,
         trace,
         end: options.end,
         routes: Routes::new(links, inputs.as_slice()),
     };
     match options.form {
-        TableForm::Csv => tell(alloc, told, CsvRows::new(alloc, writer)?),
-        TableForm::JsonLines => tell(alloc, told, JsonRows::new(alloc, writer)),
+        TableForm::Csv => write_rows(alloc, source, CsvRows::new(alloc, writer)?),
+        TableForm::JsonLines => write_rows(alloc, source, JsonRows::new(alloc, writer)),
     }
 }
 
-// The inputs of a run. Which microsteps it allowed is not known here, so all are taken.
+// The inputs of a run. The microstep limit of the run is not known here, so the greatest one is
+// used.
 fn inputs_of(alloc: Global, tree: &Tree<'_>, text: Option<&[u8]>) -> Result<Inputs, InputsError> {
     let Some(text) = text else {
         return Ok(Inputs::new(alloc));
@@ -76,35 +81,39 @@ fn inputs_of(alloc: Global, tree: &Tree<'_>, text: Option<&[u8]>) -> Result<Inpu
     read_inputs(alloc, text, &names, GREATEST_LIMIT)
 }
 
-// What is told.
+// What a table is made of.
 #[derive(Clone, Copy)]
-struct Told<'a> {
+struct Source<'a> {
     tree: &'a Tree<'a>,
     trace: &'a [u8],
     end: End,
     routes: Routes<'a>,
 }
 
-// Tells what all lines of a trace say.
-fn tell<R: Rows + Drop>(alloc: Global, told: Told<'_>, rows: R) -> Result<Reach, TableError> {
-    let mut reader = TraceReader::new(alloc, told.tree)?;
-    let teller = Teller::new(alloc, told.tree, rows);
-    let mut instants = Instants::new(alloc, told.routes, teller);
-    tell_lines(told, &mut reader, &mut instants)
+// Writes the rows of all lines.
+fn write_rows<R: Rows + Drop>(
+    alloc: Global,
+    source: Source<'_>,
+    rows: R,
+) -> Result<Reach, TableError> {
+    let mut reader = TraceReader::new(alloc, source.tree)?;
+    let row_writer = RowWriter::new(alloc, source.tree, rows);
+    let mut instants = Instants::new(alloc, source.routes, row_writer);
+    write_lines(source, &mut reader, &mut instants)
 }
 
-// The same, with what reads the lines and what tells of them.
-fn tell_lines<'a, R: Rows>(
-    told: Told<'a>,
+// The same, with the reader lent, so that no exit of the loop drops it.
+fn write_lines<'a, R: Rows>(
+    source: Source<'a>,
     reader: &mut TraceReader<'a>,
     instants: &mut Instants<'a, R>,
 ) -> Result<Reach, TableError> {
-    for line in read_part(told.trace, told.end).split(|byte| *byte == b'\n') {
+    for line in read_part(source.trace, source.end).split(|byte| *byte == b'\n') {
         match reader.read_line(line) {
             Ok(line) => instants.add(line)?,
             Err(error) => return Err(TableError::from(error)),
         }
     }
     instants.finish()?;
-    Ok(reader.end(told.end)?)
+    Ok(reader.end(source.end)?)
 }

@@ -1,4 +1,4 @@
-//! From what happened to rows.
+//! From lines to rows.
 
 use crate::arrivals::{Arrival, push_values};
 use crate::error::TableError;
@@ -8,20 +8,20 @@ use dv_trace::{Entry, Happening, Outside, Sending};
 use dv_tree::Tree;
 use std::alloc::Global;
 
-/// Tells what happened, by the names of a model.
+/// Makes the rows of lines, with the names of a model.
 #[derive(Drop)]
-pub(crate) struct Teller<'a, R> {
+pub(crate) struct RowWriter<'a, R> {
     alloc: Global,
     tree: &'a Tree<'a>,
     rows: R,
-    // The values of the row that tells what arrived.
+    // The values of the row for what arrived at a port.
     values: String,
 }
 
-impl<'a, R: Rows> Teller<'a, R> {
-    /// Tells what happens in the model of a tree.
+impl<'a, R: Rows> RowWriter<'a, R> {
+    /// A writer of rows about the model of a tree.
     pub(crate) fn new(alloc: Global, tree: &'a Tree<'a>, rows: R) -> Self {
-        Teller {
+        RowWriter {
             alloc,
             tree,
             rows,
@@ -29,11 +29,12 @@ impl<'a, R: Rows> Teller<'a, R> {
         }
     }
 
-    /// The line of a component, and what arrived there: what it sent, what arrived, and then what happened to it.
+    /// Puts the rows of a component's line: what it sent, what arrived there, and then what
+    /// happened to it.
     ///
     /// # Errors
     ///
-    /// `Write`: a write failed. `Memory`: no memory for the rows.
+    /// `Write`: a write failed. `Memory`: an allocation was refused.
     pub(crate) fn entry(
         &mut self,
         entry: &Entry<'a>,
@@ -78,7 +79,7 @@ impl<'a, R: Rows> Teller<'a, R> {
         Ok(())
     }
 
-    // A row for each port. The arrivals are those of one component, by port.
+    // Puts a row for each port. The arrivals are those at one component, sorted by port.
     fn arrived(
         &mut self,
         index: &Index<'_>,
@@ -120,11 +121,11 @@ impl<'a, R: Rows> Teller<'a, R> {
         }
     }
 
-    /// What left the model.
+    /// Puts the rows of what left the model.
     ///
     /// # Errors
     ///
-    /// `Write`: a write failed. `Memory`: no memory for the rows.
+    /// `Write`: a write failed. `Memory`: an allocation was refused.
     pub(crate) fn outside(&mut self, outside: &Outside<'a>) -> Result<(), TableError> {
         let index = Index {
             time: outside.time,
@@ -140,7 +141,7 @@ impl<'a, R: Rows> Teller<'a, R> {
         Ok(())
     }
 
-    /// Nothing more is told.
+    /// Writes what is not written yet.
     ///
     /// # Errors
     ///
@@ -150,7 +151,8 @@ impl<'a, R: Rows> Teller<'a, R> {
     }
 }
 
-// The name at an index among the numbers of names, and the empty text past them.
+// The name at an index of a list of names, which are given by their numbers. An index that is too
+// great has an empty name.
 fn name_in<'a>(tree: &'a Tree<'a>, numbers: &[u32], index: usize) -> &'a str {
     match numbers.get(index) {
         Some(number) => tree.name(*number),
