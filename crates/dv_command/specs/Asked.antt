@@ -28,12 +28,12 @@ use Rattle.dv_command.specs.declared.request.Table.{Table as TableRequest}
 use Rattle.dv_command.specs.declared.request.TraceFiles.{TraceFiles}
 use Rattle.dv_command.specs.declared.request.Waves.{Waves}
 
--- what fits, or nothing where nothing fits
+-- what fits, or `None` if nothing fits
 abbrev pub IsFitting : {A : Type 0} → (A → Type 0) → Option A → Type 0
 IsFitting {A} Fits None = (x : A) → ¬ (Fits x)
 IsFitting Fits (Some x) = Fits x
 
--- the microstep limit of a run where none is given
+-- the microstep limit of a run if none is given
 abbrev pub usual_limit : ℕ
 usual_limit = 20
 
@@ -41,56 +41,56 @@ usual_limit = 20
 abbrev pub most_workers : ℕ
 most_workers = 256
 
--- whether a flag stands, once at most; nothing where it stands more often
+-- whether a flag is given; `None` if it is given more than once
 abbrev pub flag_in : List ℕ → List Said → Option Bool
 flag_in name said = option_map (λ text. is_some text) (at_most_one (given name said))
 
--- the value of an option that need not stand; nothing where it stands more than once
+-- the value of an option, if it is given; `None` if it is given more than once
 abbrev pub text_in : List ℕ → List Said → Option (Option (List ℕ))
 text_in name said = at_most_one (given name said)
 
--- an option that may stand once does not stand
+-- an option that may be given once is not given
 abbrev pub is_nothing : Option (Option (List ℕ)) → Bool
 is_nothing None = false
 is_nothing (Some None) = true
 is_nothing (Some (Some text)) = false
 
--- whether an option does not stand
+-- whether an option is not given
 abbrev pub is_left_out : List ℕ → List Said → Bool
 is_left_out name said = is_nothing (text_in name said)
 
--- the number that an option's value writes, where it has one
+-- the number in the value of an option, if it is given; `None` if the value is no number in this range
 abbrev pub number_of : ℕ → ℕ → Option (List ℕ) → Option (Option ℕ)
 number_of least greatest None = Some None
 number_of least greatest (Some text) = option_map (λ n. Some n) (number_in least greatest text)
 
--- goes on with what an option says
+-- applies `rest` to the value of an option; `None` if the option is given more than once
 abbrev pub of_text : {A : Type 0} → Option (Option (List ℕ)) → (Option (List ℕ) → Option A) → Option A
 of_text None rest = None
 of_text (Some text) rest = rest text
 
--- the number of an option that need not stand; nothing where it stands more than once, or its value is no number of this range
+-- the number of an option, if it is given; `None` if it is given more than once, or if its value is no number in this range
 abbrev pub count_in : ℕ → ℕ → List ℕ → List Said → Option (Option ℕ)
 count_in least greatest name said = of_text (text_in name said) (number_of least greatest)
 
--- what an option stands for that need not stand
+-- the value of an option that need not be given
 abbrev pub or_usual : ℕ → Option (Option ℕ) → Option ℕ
 or_usual usual None = None
 or_usual usual (Some None) = Some usual
 or_usual usual (Some (Some n)) = Some n
 
--- what an option stands for that has to stand
+-- the value of an option that has to be given
 abbrev pub required : Option (Option ℕ) → Option ℕ
 required None = None
 required (Some given) = given
 
--- the file of a partition, where one was chosen
+-- the file of a partition, if one was chosen
 abbrev pub file_of : Option PartitionChoice → Option (List ℕ)
 file_of None = None
 file_of (Some (File name)) = Some (string_bytes name)
 file_of (Some (Count n)) = None
 
--- the number of processes, where that was chosen
+-- the number of processes, if that was chosen
 abbrev pub processes_of : Option PartitionChoice → Option ℕ
 processes_of None = None
 processes_of (Some (File name)) = None
@@ -117,13 +117,13 @@ pub record AsksPlan (said : List Said) (plan : PlanRequest) : Type 0 where
   pub partition : AsksPartition said plan.partition
   pub explained : flag_in (codes "--explain") said ≡ Some plan.explained
 
--- the depth of a graph, where one was chosen
+-- the depth of a graph, if one was chosen
 abbrev pub depth_of : GraphChoice → Option ℕ
 depth_of All = None
 depth_of (Depth n) = Some n
 depth_of (Phases name) = None
 
--- the model whose phases a graph shows, where one was chosen
+-- the model whose phases a graph shows, if one was chosen
 abbrev pub phases_of : GraphChoice → Option (List ℕ)
 phases_of All = None
 phases_of (Depth n) = None
@@ -141,11 +141,11 @@ pub record AsksGraph (said : List Said) (graph : GraphRequest) : Type 0 where
   pub choice : AsksGraphChoice said graph.choice
   pub undivided : (is_some (phases_of graph.choice) && is_some graph.partition) ≡ false
 
--- an option whose value is a text, and which need not stand
+-- an option whose value is a text, and which need not be given
 abbrev pub AsksText : {Z : Type 0} → List ℕ → List Said → Option (String Z) → Type 0
 AsksText name said text = text_in name said ≡ Some (option_map string_bytes text)
 
--- `--horizon H`, which has to stand
+-- `--horizon H`, which has to be given
 abbrev pub AsksHorizon : List Said → ℕ → Type 0
 AsksHorizon said horizon = required (count_in 0 greatest_tick (codes "--horizon") said) ≡ Some horizon
 
@@ -159,12 +159,12 @@ pub record AsksDriving (said : List Said) (rounds workers : Option ℕ) : Type 0
   pub workers_given : count_in 1 most_workers (codes "--workers") said ≡ Some workers
   pub not_both : (is_some rounds && is_some workers) ≡ false
 
--- whether the last tick is not before the first one, where both are given
+-- whether the last tick is not before the first one, if both are given
 abbrev pub are_in_order : Option ℕ → Option ℕ → Bool
 are_in_order (Some first) (Some last) = nat_le first last
 are_in_order _ _ = true
 
--- `--from T`, `--to T`, each of which need not stand
+-- `[--from T] [--to T]`
 pub record AsksWindow (said : List Said) (first last : Option ℕ) : Type 0 where
   pub first_given : count_in 0 greatest_tick (codes "--from") said ≡ Some first
   pub last_given : count_in 0 greatest_tick (codes "--to") said ≡ Some last
@@ -177,7 +177,7 @@ pub record AsksStatsChoice (said : List Said) (choice : StatsChoice) : Type 0 wh
   pub quantiles : flag_in (codes "--quantiles") said ≡ Some choice.quantiles
   pub csv : flag_in (codes "--csv") said ≡ Some choice.csv
 
--- whether none of these stands
+-- whether none of these is given
 abbrev pub has_no_stats_choice : List Said → Bool
 has_no_stats_choice said =
     is_left_out (codes "--from") said && is_left_out (codes "--to") said && is_left_out (codes "--only") said
@@ -228,7 +228,7 @@ pub record AsksTable (said : List Said) (table : TableRequest) : Type 0 where
 abbrev pub AsksCode : List Said → List ℕ → Type 0
 AsksCode said code = (text : List ℕ) × (values said ≡ text ∷ []) × (explained_in_any_case text ≡ Some code)
 
--- what is said behind a subcommand asks for this
+-- what is said behind a subcommand asks for this request
 abbrev pub AsksBehind : Subcommand → List Said → Request → Type 0
 AsksBehind subcommand.Check said (Check check) = AsksCheck said check
 AsksBehind subcommand.Code said (Code file) = AsksModel said file
@@ -241,7 +241,7 @@ AsksBehind subcommand.Table said (Table table) = AsksTable said table
 AsksBehind subcommand.Vcd said (Vcd waves) = AsksWaves said waves
 AsksBehind _ _ _ = ⊥
 
--- the words behind the name of a subcommand ask for this
+-- the words behind the name of a subcommand ask for this request
 abbrev pub AsksWith : Option Subcommand → List (List ℕ) → Request → Type 0
 AsksWith None words request = ⊥
 AsksWith (Some subcommand) words request = IsSomeAnd (said_by subcommand Ready words) (λ said. AsksBehind subcommand said request)
@@ -261,12 +261,12 @@ Asks [] request = ⊥
 Asks (program ∷ []) request = ⊥
 Asks (program ∷ word ∷ words) request = MatchBool (is_version word) (IsVersion request) (AsksWith (subcommand_named word) words request)
 
--- what is asked for; or nothing where nothing is
+-- what is asked for, or `None` if nothing is
 abbrev pub IsAnswer : (Request → Type 0) → Option Request → Type 0
 IsAnswer Wanted None = (request : Request) → ¬ (Wanted request)
 IsAnswer Wanted (Some request) = Wanted request
 
--- where the words are no command, they ask for nothing
+-- if the words are no command, they ask for nothing
 abbrev pub AnswersNothing : (Request → Type 0) → RequestError → Type 0
 AnswersNothing Wanted (Usage usage) = IsAnswer Wanted None
 AnswersNothing Wanted Memory = ⊤

@@ -1,4 +1,4 @@
--- Numbers as words write them.
+-- Numbers in decimal digits.
 use Rattle.std.specs.Prelude.{ℕ, Bool, ◌&&◌, if◌then◌else◌, List, length, nat_le, nat_lt, Option, Some, None}
 use Rattle.std.specs.Char.{is_ascii_digit}
 use Rattle.std.specs.List.{list_all}
@@ -8,7 +8,7 @@ use Rattle.std.specs.Str.Parse.{digits_value}
 abbrev pub is_numeral : List ℕ → Bool
 is_numeral bytes = nat_lt 0 (length bytes) && list_all is_ascii_digit bytes
 
--- the number that decimal digits write, where it is from the least to the greatest
+-- the number in decimal digits, if it is from the least to the greatest
 abbrev pub number_in : ℕ → ℕ → List ℕ → Option ℕ
 number_in least greatest bytes =
     if is_numeral bytes && (nat_le least (digits_value 10 bytes) && nat_le (digits_value 10 bytes) greatest)

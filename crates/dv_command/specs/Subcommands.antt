@@ -29,7 +29,7 @@ graph_takes_value name = plan_takes_value name || bytes_eq name (codes "--depth"
 abbrev pub stats_takes_value : List ℕ → Bool
 stats_takes_value name = bytes_eq name (codes "--from") || bytes_eq name (codes "--only") || bytes_eq name (codes "--to")
 
--- the options of a run to which a value belongs: its own, those by which its model is divided, and those of its numbers
+-- the options of a run that take a value: its own, those by which its model is divided, and those of its numbers
 abbrev pub run_takes_value : List ℕ → Bool
 run_takes_value name =
     bytes_eq name (codes "--horizon") || bytes_eq name (codes "--inputs") || bytes_eq name (codes "--microsteps")
@@ -39,7 +39,7 @@ run_takes_value name =
 abbrev pub vcd_takes_value : List ℕ → Bool
 vcd_takes_value name = bytes_eq name (codes "--inputs") || bytes_eq name (codes "--timescale")
 
--- whether a subcommand has an option of this name to which a value belongs
+-- whether a subcommand has an option of this name that takes a value
 abbrev pub takes_value : Subcommand → List ℕ → Bool
 takes_value Run name = run_takes_value name
 takes_value Plan name = plan_takes_value name

@@ -1,4 +1,4 @@
--- What the words behind a subcommand say: values that stand by themselves, flags, and options with their values, in any order.
+-- What the words behind a subcommand say: values that belong to no option, flags, and options with their values, in any order.
 use Rattle.std.specs.Prelude.{ℕ, ◌==◌, Bool, true, false, if◌then◌else◌, List, [], ◌∷◌, ◌++◌, Option, Some, None, option_map}
 use Rattle.std.specs.Prelude.{option_to_list, filter_map, bytes_eq, codes, length, nat_lt}
 use Rattle.std.specs.List.{before_first, after_first, position_or_len}
@@ -14,7 +14,7 @@ pub data Said : Type 0 where
   -- `--name value` or `--name=value`
   Setting : List ℕ → List ℕ → Said
 
--- what the words before say of the next one
+-- how the next word is read
 pub data Reading : Type 0 where
   Ready : Reading
   -- it is the value of this option
@@ -28,7 +28,7 @@ is_value [] = true
 is_value (b ∷ []) = true
 is_value (b ∷ c ∷ bytes) = if b == 45 then false else true
 
--- what a word says, if anything yet, and how the next one is read
+-- the thing that a word completes, if it completes one, and how the next word is read
 pub record Step : Type 0 where
   pub said : Option Said
   pub next : Reading
@@ -36,7 +36,7 @@ pub record Step : Type 0 where
 abbrev pub says : Said → Option Step
 says said = Some (record { said = Some said; next = Ready })
 
--- `name=value`, where a value belongs to an option of this name
+-- `name=value`, if an option of this name takes a value
 abbrev pub joined_step : Subcommand → List ℕ → Option Step
 joined_step subcommand word =
     if nat_lt (position_or_len (λ b. b == 61) word) (length word)
@@ -53,7 +53,7 @@ option_step subcommand word =
     else if takes_value subcommand word then Some (record { said = None; next = Awaits word })
     else joined_step subcommand word
 
--- a word, as it is read where it stands; nothing where it cannot stand there
+-- the next word; `None` if it is not allowed here
 abbrev pub step : Subcommand → Reading → List ℕ → Option Step
 step subcommand Ready word = if is_value word then says (Value word) else option_step subcommand word
 step subcommand (Awaits name) word = if is_value word then says (Setting name word) else None
@@ -64,13 +64,13 @@ abbrev pub then_read : Option Step → (Reading → Option (List Said)) → Opti
 then_read None rest = None
 then_read (Some step) rest = option_map (λ more. option_to_list step.said ++ more) (rest step.next)
 
--- what is said where the words end; nothing where the value of an option is missing
+-- what is said when the words end; `None` if the value of an option is missing
 abbrev pub at_end : Reading → Option (List Said)
 at_end Ready = Some []
 at_end Ended = Some []
 at_end (Awaits name) = None
 
--- what words say; nothing where one of them cannot stand there, or the value of an option is missing
+-- what words say; `None` if one of them is not allowed where it is, or if the value of an option is missing
 abbrev pub said_by : Subcommand → Reading → List (List ℕ) → Option (List Said)
 said_by subcommand reading [] = at_end reading
 said_by subcommand reading (word ∷ words) = then_read (step subcommand reading word) (λ next. said_by subcommand next words)
@@ -87,7 +87,7 @@ named_in wanted (Value text) = None
 named_in wanted (Flag name) = if bytes_eq name wanted then Some name else None
 named_in wanted (Setting name text) = if bytes_eq name wanted then Some text else None
 
--- the values that stand by themselves, in their order
+-- the values that belong to no option, in their order
 abbrev pub values : List Said → List (List ℕ)
 values said = filter_map value_in said
 
@@ -95,7 +95,7 @@ values said = filter_map value_in said
 abbrev pub given : List ℕ → List Said → List (List ℕ)
 given name said = filter_map (named_in name) said
 
--- the only one, if there is any; nothing where there are more
+-- the only one, if there is one; `None` if there are more
 abbrev pub at_most_one : List (List ℕ) → Option (Option (List ℕ))
 at_most_one [] = Some None
 at_most_one (text ∷ []) = Some (Some text)

@@ -1,4 +1,4 @@
-//! Requests, read from what words say.
+//! From parts to requests. `None` means that the parts ask for nothing.
 
 ghost use Rattle.std.specs.Prelude.{◌≡◌, ◌≤◌, ◌∷◌, [], IfOk, IfSome, map, string_bytes};
 ghost use Rattle.dv_command.specs.Asked.{Asks, AsksBehind, AsksCheck, AsksCode, AsksDriving, AsksHorizon, AsksMicrosteps};
@@ -18,13 +18,13 @@ use dv_explain::{Explanation, explanation_in_any_case};
 use dv_time::{GREATEST_LIMIT, GREATEST_TICK};
 use std::alloc::{AllocError, Global};
 
-/// The version of the program, which `specs/Asked.antt` says, too.
+/// The version of the program. It is also in `specs/Asked.antt`.
 pub(crate) const VERSION: &str = "0.1.0";
 
 /// The most workers that a run may have.
 pub(crate) const MOST_WORKERS: u64 = 256;
 
-/// The only value by itself.
+/// The value, if there is exactly one.
 pub(crate) fn only_value(alloc: Global, parts: &[Part<'_>]) -> Result<Option<String>, AllocError>
     ensures { IfOk result (IsFitting (λ text. values (map said_in parts.now)
         ≡ string_bytes text ∷ [])) }
@@ -37,7 +37,7 @@ pub(crate) fn only_value(alloc: Global, parts: &[Part<'_>]) -> Result<Option<Str
     }
 }
 
-/// A model by itself.
+/// A model with `--explain` or without.
 pub(crate) fn model_in(alloc: Global, parts: &[Part<'_>]) -> Result<Option<ModelFile>, AllocError>
     ensures { IfOk result (IsFitting (AsksModel (map said_in parts.now))) }
 {
@@ -74,7 +74,7 @@ fn horizon_in(alloc: Global, parts: &[Part<'_>]) -> Result<Option<u64>, AllocErr
     }
 }
 
-/// The greatest microstep of a tick.
+/// The greatest microstep of a tick, 20 if none is given.
 fn microsteps_in(alloc: Global, parts: &[Part<'_>]) -> Result<Option<u32>, AllocError>
     ensures fits { IfOk result (IsFitting (AsksMicrosteps (map said_in parts.now))) }
     ensures in_range { IfOk result (λ r. IfSome r
@@ -88,7 +88,7 @@ fn microsteps_in(alloc: Global, parts: &[Part<'_>]) -> Result<Option<u32>, Alloc
     }
 }
 
-/// The rounds and the workers, of which one at most is given.
+/// The number of rounds and the number of workers. Only one of them may be given.
 fn driving_in(
     alloc: Global,
     parts: &[Part<'_>],
@@ -154,7 +154,7 @@ fn run_in(alloc: Global, parts: &[Part<'_>]) -> Result<Option<Run>, AllocError>
     }))
 }
 
-/// The explanation of the code that is given, where there is one.
+/// The explanation of the code that is given.
 fn explanation_in(
     alloc: Global,
     parts: &[Part<'_>],
@@ -170,7 +170,7 @@ fn explanation_in(
     }
 }
 
-/// What is said behind a subcommand asks for.
+/// What the parts behind a subcommand ask for.
 fn asked_behind(
     alloc: Global,
     subcommand: Subcommand,
@@ -218,7 +218,7 @@ fn asked_behind(
     }
 }
 
-/// What the words behind the name of a subcommand ask for.
+/// What the words behind the name of a subcommand ask for. The name may be any word.
 fn asked_with(alloc: Global, name: &str, words: &[String]) -> Result<Option<Request>, AllocError>
     ensures { IfOk result (IsAnswer (AsksWith (subcommand_named name.now)
         (map string_bytes words.now))) }
@@ -239,7 +239,7 @@ fn is_version(word: &str) -> bool
     word == "--version" || word == "-V"
 }
 
-/// The program's name and version.
+/// The request for the program's name and version.
 fn version(alloc: Global) -> Result<Request, AllocError>
     ensures { IfOk result IsVersion }
 {
@@ -249,11 +249,12 @@ fn version(alloc: Global) -> Result<Request, AllocError>
     Ok(Request::Version(text))
 }
 
-/// What a command line asks for, where it asks for something; its first word is the program's name.
+/// What a command line asks for, or `None` if it asks for nothing. The first word is the program's
+/// name.
 ///
 /// # Errors
 ///
-/// No memory for the request.
+/// An allocation was refused.
 pub(crate) fn asked(alloc: Global, words: &[String]) -> Result<Option<Request>, AllocError>
     ensures { IfOk result (IsAnswer (Asks (map string_bytes words.now))) }
 {

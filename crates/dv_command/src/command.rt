@@ -1,11 +1,11 @@
-//! The command line, as its help shows it.
+//! The command line, for `clap`.
 
 use crate::asked::VERSION;
 use crate::help::{Form, SubcommandHelp, WordHelp, subcommands};
 use clap::{Arg, ArgAction, Command};
 use std::alloc::{AllocError, Global};
 
-/// What stands below the help of the program.
+/// The text below the help of the program.
 const AFTER_HELP: &str = "\
 Exit status:
   0  an accepted model, and what was asked for; a whole trace without a fault
@@ -20,7 +20,7 @@ docs/TUTORIAL.md teaches the language of models, docs/REFERENCE.md has all of it
 with the inputs and the trace, and docs/ERRORS.md the refusals and faults, as
 'pdevs explain CODE'.";
 
-/// The command line, as its help shows it.
+/// The program with its subcommands, for `clap`.
 pub(crate) fn command<'a>(alloc: Global) -> Result<Command<'a>, AllocError> {
     let mut program = Command::new(alloc, "pdevs")
         .bin_name("pdevs")?
@@ -35,7 +35,7 @@ pub(crate) fn command<'a>(alloc: Global) -> Result<Command<'a>, AllocError> {
     Ok(program)
 }
 
-/// A subcommand, as its help shows it.
+/// A subcommand, for `clap`.
 fn subcommand<'a>(alloc: Global, help: &SubcommandHelp) -> Result<Command<'a>, AllocError> {
     let mut command = Command::new(alloc, help.name).about(help.about);
     for word in help.words {

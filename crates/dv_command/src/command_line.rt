@@ -1,4 +1,4 @@
-//! From the words of a command line to what they ask for.
+//! From the words of a command line to a request.
 
 ghost use Rattle.std.specs.Prelude.{IfErr, IfOk, map, string_bytes};
 ghost use Rattle.dv_command.specs.Asked.{AnswersNothing, Asks};
@@ -8,11 +8,12 @@ use crate::request::{Request, RequestError, Usage};
 use crate::usage::usage_text;
 use std::alloc::Global;
 
-/// What the words ask for; the first word is the program's name. Help, and why words ask for nothing, is for `clap` to say.
+/// What the words ask for. The first word is the program's name.
 ///
 /// # Errors
 ///
-/// `Usage` where the words are no command or ask for help, with the text to print; or no memory.
+/// `Usage`: the words are no command, or ask for help; it has the text to print, which `clap`
+/// makes. `Memory`: an allocation was refused.
 pub fn request_of(alloc: Global, words: &[String]) -> Result<Request, RequestError>
     ensures asked { IfOk result (Asks (map string_bytes words.now)) }
     ensures nothing { IfErr result (AnswersNothing (Asks (map string_bytes words.now))) }

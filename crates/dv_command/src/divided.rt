@@ -1,4 +1,4 @@
-//! Requests for a model with how it is divided, read from what words say.
+//! From parts to requests for plans and graphs. `None` means that the parts ask for nothing.
 
 ghost use Rattle.std.specs.Prelude.{◌≡◌, IfOk, is_some, map};
 ghost use Rattle.dv_command.specs.Asked.{AsksGraph, AsksGraphChoice, AsksPartition, AsksPlan, IsFitting, phases_of};
@@ -10,7 +10,7 @@ use crate::part::Part;
 use crate::request::{Graph, GraphChoice, PartitionChoice, Plan};
 use std::alloc::{AllocError, Global};
 
-/// How the components are divided, where that is given.
+/// The partition, if one is given: a file or a number of processes, but not both.
 pub(crate) fn partition_in(
     alloc: Global,
     parts: &[Part<'_>],
@@ -35,7 +35,7 @@ pub(crate) fn partition_in(
     }
 }
 
-/// A model with how it is divided.
+/// The request for a plan.
 pub(crate) fn plan_in(alloc: Global, parts: &[Part<'_>]) -> Result<Option<Plan>, AllocError>
     ensures { IfOk result (IsFitting (AsksPlan (map said_in parts.now))) }
 {
@@ -55,7 +55,7 @@ pub(crate) fn plan_in(alloc: Global, parts: &[Part<'_>]) -> Result<Option<Plan>,
     }))
 }
 
-/// What a graph shows.
+/// What a graph shows: everything, or what `--depth` or `--model` says, but not both.
 fn graph_choice_in(alloc: Global, parts: &[Part<'_>]) -> Result<Option<GraphChoice>, AllocError>
     ensures { IfOk result (IsFitting (AsksGraphChoice (map said_in parts.now))) }
 {
@@ -84,7 +84,7 @@ fn shows_phases(choice: &GraphChoice) -> bool
     }
 }
 
-/// A model as a graph.
+/// The request for a graph. Phases are shown without a partition.
 pub(crate) fn graph_in(alloc: Global, parts: &[Part<'_>]) -> Result<Option<Graph>, AllocError>
     ensures { IfOk result (IsFitting (AsksGraph (map said_in parts.now))) }
 {

@@ -1,4 +1,5 @@
-//! What parts say for an option.
+//! Values and options among parts. The outer `None` of an answer means that the parts ask for
+//! nothing.
 
 ghost use Rattle.std.specs.Prelude.{◌≡◌, ◌≤◌, List, ℕ, map, option_map, filter_map, IfOk, is_some, IfSome};
 ghost use Rattle.dv_command.specs.Words.{at_most_one, given, named_in, value_in, values};
@@ -29,7 +30,7 @@ fn named_in<'a>(wanted: &str, part: Part<'a>) -> Option<&'a str>
     }
 }
 
-/// The values that stand by themselves, in their order.
+/// The values that belong to no option, in their order.
 pub(crate) fn values<'a>(alloc: Global, parts: &[Part<'a>]) -> Result<Vec<&'a str>, AllocError>
     ensures { IfOk result (λ r. map (λ text. text.now) r.items ≡ values (map said_in parts.now)) }
 {
@@ -42,7 +43,7 @@ pub(crate) fn values<'a>(alloc: Global, parts: &[Part<'a>]) -> Result<Vec<&'a st
     Ok(texts)
 }
 
-/// All that is said to the option of this name.
+/// All values that are given for the option of this name. For a flag, each is its name.
 fn given<'a>(alloc: Global, name: &str, parts: &[Part<'a>]) -> Result<Vec<&'a str>, AllocError>
     ensures { IfOk result (λ r. map (λ text. text.now) r.items
         ≡ given name.now (map said_in parts.now)) }
@@ -56,7 +57,7 @@ fn given<'a>(alloc: Global, name: &str, parts: &[Part<'a>]) -> Result<Vec<&'a st
     Ok(texts)
 }
 
-/// The only text, if there is any.
+/// The text, if there is one; `None` if there are several.
 fn at_most_one<'a>(texts: &[&'a str]) -> Option<Option<&'a str>>
     ensures { option_map (option_map (λ text. text.now)) result
         ≡ at_most_one (map (λ text. text.now) texts.now) }
@@ -68,7 +69,7 @@ fn at_most_one<'a>(texts: &[&'a str]) -> Option<Option<&'a str>>
     }
 }
 
-/// The value of an option that need not stand; nothing where it stands more than once.
+/// The value of an option, if it is given; `None` if it is given more than once.
 pub(crate) fn text_in<'a>(
     alloc: Global,
     name: &str,
@@ -81,7 +82,7 @@ pub(crate) fn text_in<'a>(
     Ok(at_most_one(&texts))
 }
 
-/// The value of an option that need not stand, as a text of its own; nothing where it stands more than once.
+/// The same as `text_in`, with a copy of the value.
 pub(crate) fn owned_text_in(
     alloc: Global,
     name: &str,
@@ -96,7 +97,7 @@ pub(crate) fn owned_text_in(
     }
 }
 
-/// Whether a flag stands; nothing where it stands more than once.
+/// Whether a flag is given; `None` if it is given more than once.
 pub(crate) fn flag_in(
     alloc: Global,
     name: &str,
@@ -110,7 +111,7 @@ pub(crate) fn flag_in(
     }
 }
 
-/// Whether nothing is said to the option of this name.
+/// Whether an option is not given.
 pub(crate) fn is_left_out(alloc: Global, name: &str, parts: &[Part<'_>]) -> Result<bool, AllocError>
     ensures { IfOk result (λ r. r ≡ is_left_out name.now (map said_in parts.now)) }
 {
@@ -121,7 +122,8 @@ pub(crate) fn is_left_out(alloc: Global, name: &str, parts: &[Part<'_>]) -> Resu
     }
 }
 
-/// The number that an option's value writes, where it has one.
+/// The number in the value of an option, if it is given; `None` if the value is no number in this
+/// range.
 fn number_of(least: u64, greatest: u64, text: Option<&str>) -> Option<Option<u64>>
     ensures { result ≡ number_of least greatest (option_map (λ text. text.now) text.entry) }
 {
@@ -134,8 +136,8 @@ fn number_of(least: u64, greatest: u64, text: Option<&str>) -> Option<Option<u64
     }
 }
 
-/// The number of an option that may be left out; `None` if the option is given more than once, or if its value is not a
-/// number in this range.
+/// The number of an option, if it is given; `None` if it is given more than once, or if its value
+/// is not a number in this range.
 pub(crate) fn count_in(
     alloc: Global,
     least: u64,

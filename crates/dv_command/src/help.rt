@@ -1,46 +1,47 @@
-//! What the help says of each subcommand and of its words, as a table.
+//! The help of each subcommand and of its words, as tables.
 
 use crate::asked::MOST_WORKERS;
 use crate::number::number_in;
 use dv_time::{GREATEST_LIMIT, GREATEST_TICK};
 
-/// A subcommand: its name, what it does, and the words that it takes.
+/// A subcommand: its name, what it does, and the words that it takes, in the order of the help.
 pub(crate) struct SubcommandHelp {
     pub(crate) name: &'static str,
     pub(crate) about: &'static str,
     pub(crate) words: &'static [WordHelp],
 }
 
-/// A word of a subcommand.
+/// A value, an option or a flag of a subcommand.
 #[derive(Clone, Copy)]
 pub(crate) struct WordHelp {
+    /// The name, without hyphens.
     pub(crate) name: &'static str,
     pub(crate) form: Form,
     pub(crate) is_required: bool,
     pub(crate) help: &'static str,
 }
 
-/// How a word is given, with the name that the help has for its value.
+/// How a word is given. The texts are the names of values in the help.
 #[derive(Clone, Copy)]
 pub(crate) enum Form {
-    /// By its index.
+    /// A value by itself: its place says which one it is.
     Plain(&'static str),
-    /// Behind the word's name.
+    /// `--name value`
     Option(&'static str, Value),
-    /// By the word's name alone.
+    /// `--name`
     Flag,
 }
 
-/// What may stand behind the name of an option.
+/// The value of an option.
 #[derive(Clone, Copy)]
 pub(crate) struct Value {
-    /// What it is, as it is told where something else stands.
+    /// What it is, for the error if it is something else.
     pub(crate) words: &'static str,
-    /// The numbers of which it is one; every text may stand where there are none.
+    /// The range, if it is a number; otherwise it may be any text.
     numbers: Option<Numbers>,
 }
 
-/// The numbers from a least to a greatest one.
+/// The numbers from the least to the greatest one, both included.
 #[derive(Clone, Copy)]
 struct Numbers {
     least: u64,
@@ -48,7 +49,7 @@ struct Numbers {
 }
 
 impl Value {
-    /// Whether a text may stand behind the name of the option.
+    /// Whether a text is such a value.
     pub(crate) fn takes(self, text: &str) -> bool {
         match self.numbers {
             Some(numbers) => number_in(numbers.least, numbers.greatest, text).is_some(),
@@ -235,7 +236,7 @@ const PROCESSES: WordHelp = WordHelp {
     name: "processes",
     form: Form::Option(
         "N",
-        // A number past 256 is refused for the model, as Q4.
+        // A number above 256 is refused later, as Q4 of the model.
         Value {
             words: "a number of processes, 1 to 256",
             numbers: Some(Numbers {
@@ -365,7 +366,7 @@ const SUBCOMMANDS: &[SubcommandHelp] = &[
     },
 ];
 
-/// What the help says of each subcommand.
+/// The help of each subcommand.
 pub(crate) fn subcommands() -> &'static [SubcommandHelp] {
     SUBCOMMANDS
 }

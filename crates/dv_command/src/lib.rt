@@ -1,37 +1,39 @@
-//! The command line: what its words ask for.
+//! Reads command lines.
 //!
-//! `request_of` reads the words behind the program's name, by `clap`, and gives a `Request`: a subcommand with its
-//! files and options, whose numbers are within their ranges. The definition in `specs/` says what words ask for, and
-//! a request comes only where they do; words are answered by a text on how the program is used (`Usage`) only where
-//! they ask for nothing.
+//! `request_of` reads the words of a command line and returns a `Request`: a subcommand with its
+//! files and options, whose numbers are within their ranges. The words are first cut into parts
+//! (values, flags, options with their values), and each subcommand then takes its parts. `specs/`
+//! defines what words ask for. It is proved that they ask for the request that is returned, and
+//! that `Usage` is returned only if they ask for nothing. Only then `clap` is called: it makes the
+//! text of the help or of the error.
 //!
-//! The program does what the request says. No file is opened here, and whether a model has the asked component or can
-//! be divided so is not asked.
+//! No file is opened here. Whether a model has a component of a path, or can be divided into so
+//! many processes, is tested later.
 #![tactic(auto)]
 
-/// Requests, read from what words say.
+/// From parts to requests.
 mod asked;
-/// The command line, as its help shows it.
+/// The command line, for `clap`.
 mod command;
-/// From words to what they ask for.
+/// From words to a request.
 mod command_line;
-/// Requests for a model with how it is divided, read from what words say.
+/// From parts to requests for plans and graphs.
 mod divided;
-/// What parts say for an option.
+/// Values and options among parts.
 mod given;
-/// What the help says of subcommands and words.
+/// The help of subcommands and their words.
 mod help;
-/// Numbers as words write them.
+/// Numbers in decimal digits.
 mod number;
-/// What words say, one after the other.
+/// From words to parts.
 mod part;
 /// What a command line can ask for.
 pub mod request;
 /// The subcommands, their names and their options.
 mod subcommand;
-/// Why words ask for nothing.
+/// The text of help and of errors.
 mod usage;
-/// Requests for what a trace says, read from what words say.
+/// From parts to requests for views of a trace.
 mod viewed;
 
 pub use command_line::request_of;

@@ -1,4 +1,4 @@
-//! Numbers as words write them.
+//! Numbers in decimal digits.
 
 ghost use Rattle.std.specs.Prelude.{◌≡◌, ◌<◌, ◌^◌};
 ghost use Rattle.std.specs.Char.{is_ascii_digit};
@@ -12,14 +12,15 @@ fn all_digits(bytes: &[u8]) -> bool
     bytes.iter().all(|byte| byte.is_ascii_digit())
 }
 
-/// Whether the text is decimal digits, and some.
+/// Whether the text is one decimal digit or more.
 fn is_numeral(text: &str) -> bool
     ensures { result ≡ is_numeral text.now }
 {
     !text.is_empty() && all_digits(text.as_bytes())
 }
 
-/// The number that decimal digits write, where it is from the least to the greatest.
+/// The number that the text is in decimal digits; `None` if it is not in this range, or not digits
+/// alone.
 pub(crate) fn number_in(least: u64, greatest: u64, text: &str) -> Option<u64>
     ensures { result ≡ number_in least greatest text.now }
 {

@@ -1,4 +1,4 @@
-//! What the words behind a subcommand say, one after the other.
+//! From the words behind a subcommand to parts.
 
 ghost use Rattle.std.specs.Prelude.{◌≡◌, ◌++◌, map, option_map, option_to_list, IfOk, OnOk, string_bytes};
 ghost use Rattle.dv_command.specs.Words.{Ready, is_value, joined_step, named_in, option_step, said_by, step, value_in};
@@ -7,10 +7,10 @@ ghost use Rattle.dv_command.specs.Steps.{reading_of, said_in, step_of};
 use crate::subcommand::{Subcommand, is_flag, takes_value};
 use std::alloc::{AllocError, Global};
 
-/// One thing that words say.
+/// A value, a flag, or an option with its value.
 #[derive(Clone, Copy)]
 pub(crate) enum Part<'a> {
-    /// A value by itself.
+    /// A value that belongs to no option.
     Value(&'a str),
     /// `--name`
     Flag(&'a str),
@@ -21,21 +21,24 @@ pub(crate) enum Part<'a> {
 /// How the next word is read.
 #[derive(Clone, Copy)]
 pub(crate) enum Index<'a> {
+    /// As a value, a flag or an option.
     Ready,
     /// As the value of this option.
     Awaits(&'a str),
-    /// As a value by itself, whatever it looks like.
+    /// As a value, even if it begins with a hyphen: `--` was read.
     Ended,
 }
 
-/// What a word says, if anything yet, and how the next one is read.
+/// The answer to a word.
 #[derive(Clone, Copy)]
 pub(crate) struct Read<'a> {
+    /// The part that the word completes, if it completes one.
     pub part: Option<Part<'a>>,
+    /// How the next word is read.
     pub next: Index<'a>,
 }
 
-/// Whether a word is no option.
+/// Whether a word is a value: it does not begin with a hyphen, or is a hyphen alone.
 pub(crate) fn is_value(word: &str) -> bool
     ensures { result ≡ is_value word.now }
 {
@@ -55,7 +58,7 @@ fn says(part: Part<'_>) -> Read<'_>
     }
 }
 
-/// `name=value`, where a value belongs to an option of this name.
+/// Reads `name=value`; `None` if no option of this name takes a value.
 fn joined_step(subcommand: Subcommand, word: &str) -> Option<Read<'_>>
     ensures { option_map step_of result ≡ joined_step subcommand word.now }
 {
@@ -67,7 +70,7 @@ fn joined_step(subcommand: Subcommand, word: &str) -> Option<Read<'_>>
     }
 }
 
-/// A word that is an option.
+/// Reads a word that is no value; `None` if the subcommand has no such flag or option.
 fn option_step(subcommand: Subcommand, word: &str) -> Option<Read<'_>>
     ensures { option_map step_of result ≡ option_step subcommand word.now }
 {
@@ -88,7 +91,7 @@ fn option_step(subcommand: Subcommand, word: &str) -> Option<Read<'_>>
     }
 }
 
-/// A word, as it is read where it stands; nothing where it cannot stand there.
+/// Reads the next word; `None` if it is not allowed here.
 fn step<'a>(subcommand: Subcommand, index: Index<'a>, word: &'a str) -> Option<Read<'a>>
     ensures { option_map step_of result ≡ step subcommand (reading_of index.entry) word.now }
 {
@@ -114,7 +117,7 @@ fn step<'a>(subcommand: Subcommand, index: Index<'a>, word: &'a str) -> Option<R
     }
 }
 
-/// Adds what a word says, if anything.
+/// Adds the part that a word completes, if there is one.
 fn push_part<'a>(parts: &mut Vec<Part<'a>>, part: Option<Part<'a>>) -> Result<(), AllocError>
     ensures { OnOk result (map said_in parts.new.items
         ≡ map said_in parts.old.items ++ option_to_list (option_map said_in part.entry)) }
@@ -125,11 +128,12 @@ fn push_part<'a>(parts: &mut Vec<Part<'a>>, part: Option<Part<'a>>) -> Result<()
     Ok(())
 }
 
-/// What words say; nothing where one of them cannot stand there, or the value of an option is missing.
+/// The parts of all words; `None` if a word is not allowed where it is, or if the value of an
+/// option is missing.
 ///
 /// # Errors
 ///
-/// No memory for the parts.
+/// An allocation was refused.
 pub(crate) fn said_by<'a>(
     alloc: Global,
     subcommand: Subcommand,

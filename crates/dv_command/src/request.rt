@@ -6,10 +6,10 @@ ghost use Rattle.dv_command.specs.Ranges.{AreInRange};
 use dv_explain::Explanation;
 use std::alloc::AllocError;
 
-/// The microstep limit of a run where none is given.
+/// The greatest microstep of a tick if none is given.
 pub(crate) const USUAL_LIMIT: u32 = 20;
 
-/// A subcommand with its values.
+/// What a command line asks for: a subcommand with its values, or the version.
 #[derive(Drop)]
 pub enum Request {
     /// Check a model and print the number of its components.
@@ -34,7 +34,7 @@ pub enum Request {
     Version(String),
 }
 
-/// A model that is asked for by itself.
+/// The file of a model.
 #[derive(Drop)]
 pub struct ModelFile {
     /// The file of the model.
@@ -48,7 +48,7 @@ pub struct ModelFile {
 pub struct Check {
     /// The model.
     pub file: ModelFile,
-    /// Whether the warnings are printed.
+    /// Whether warnings are printed.
     pub warned: bool,
 }
 
@@ -65,20 +65,20 @@ pub struct TraceFiles {
     pub explained: bool,
 }
 
-/// A trace as a value change dump.
+/// A trace to print as a value change dump.
 #[derive(Drop)]
 pub struct Waves {
     /// The model and the trace.
     pub files: TraceFiles,
-    /// The file of the inputs of the run, where it is given.
+    /// The file of the inputs of the run, if it is given.
     pub inputs: Option<String>,
-    /// Whether a port has the last value that left it until the next one.
+    /// Whether a port shows its last value until the next one.
     pub holds_ports: bool,
-    /// What a tick is, as text, where that is given. Whether it is a timescale is not asked here.
+    /// The length of a tick, if it is given, as text. It may be no timescale.
     pub timescale: Option<String>,
 }
 
-/// Count what a trace says of each component.
+/// A trace to print in numbers.
 #[derive(Drop)]
 pub struct Stats {
     /// The model and the trace.
@@ -90,55 +90,55 @@ pub struct Stats {
 /// What of a trace is counted, and how it is printed. The last tick is not before the first one.
 #[derive(Drop)]
 pub struct StatsChoice {
-    /// The first tick that counts, 0 to 10^15, where that is given.
+    /// The first tick that counts, 0 to 10^15, if it is given.
     pub from: Option<u64>,
-    /// The last tick that counts, 0 to 10^15, where that is given.
+    /// The last tick that counts, 0 to 10^15, if it is given.
     pub to: Option<u64>,
-    /// The path of what is counted alone, where that is given.
+    /// The path of the component, or of the coupled model, that alone is counted, if it is given.
     pub only: Option<String>,
     /// Whether quantiles are printed.
     pub quantiles: bool,
-    /// Whether the numbers are printed with commas between them.
+    /// Whether the numbers are printed as comma-separated values.
     pub csv: bool,
 }
 
-/// A trace as a table.
+/// A trace to print as a table.
 #[derive(Drop)]
 pub struct Table {
     /// The model and the trace.
     pub files: TraceFiles,
-    /// The file of the inputs of the run, where it is given.
+    /// The file of the inputs of the run, if it is given.
     pub inputs: Option<String>,
-    /// Whether rows are printed as JSON, and not with commas between values.
+    /// Whether rows are printed as JSON lines, instead of comma-separated values.
     pub json: bool,
 }
 
 /// How the components of a model are divided into processes.
 #[derive(Drop)]
 pub enum PartitionChoice {
-    /// As the text of a file says.
+    /// By the partition in this file.
     File(String),
-    /// Into so many processes. Whether a model can be divided so is not asked here.
+    /// Into this number of processes, which may be too great for the model.
     Count(u32),
 }
 
-/// A model with how it is divided into processes.
+/// A model whose plan is printed.
 #[derive(Drop)]
 pub struct Plan {
     /// The file of the model.
     pub model: String,
-    /// How it is divided, where that was given; else there is one process.
+    /// How it is divided, if that is given; otherwise there is one process.
     pub partition: Option<PartitionChoice>,
     /// Whether a refusal is explained.
     pub explained: bool,
 }
 
-/// A model to print as a graph. It is not divided where phases are shown.
+/// A model to print as a graph. If phases are shown, there is no partition.
 #[derive(Drop)]
 pub struct Graph {
     /// The model.
     pub file: ModelFile,
-    /// How it is divided, where that was given; else no processes are shown.
+    /// How it is divided, if that is given; otherwise no processes are shown.
     pub partition: Option<PartitionChoice>,
     /// What of the model is shown.
     pub choice: GraphChoice,
@@ -149,46 +149,47 @@ pub struct Graph {
 pub enum GraphChoice {
     /// All components.
     All,
-    /// The parts down to this depth.
+    /// The parts down to this depth. The root is at depth 0.
     Depth(u64),
-    /// The phases of the atomic model of this name. Whether there is one is not asked here.
+    /// The phases of the atomic model of this name. The model may have none.
     Phases(String),
 }
 
-/// Run a model and print its trace, or the numbers of it. Horizon and microsteps are within their ranges: the type keeps that.
+/// A model to run. The type keeps horizon and microsteps within their ranges.
 #[derive(Drop)]
 pub struct Run {
     /// The file of the model.
     pub model: String,
-    /// How it is divided, where that was given; else there is one process.
+    /// How it is divided, if that is given; otherwise there is one process.
     pub partition: Option<PartitionChoice>,
-    /// The file of the inputs, where one was given.
+    /// The file of the inputs, if it is given.
     pub inputs: Option<String>,
     /// The last tick of the run, 0 to 10^15.
     pub horizon: u64,
-    /// The greatest microstep of a tick, 1 to 1,000; 20 where none was given.
+    /// The greatest microstep of a tick, 1 to 1,000; 20 if none is given.
     pub microsteps: u32,
-    /// The most rounds of turns and packets, where that was given; else there are as many as it takes.
+    /// The most rounds, if that is given; otherwise there are as many as are needed.
     pub rounds: Option<u64>,
-    /// The threads that run the processes, where that was given; it is not beside rounds.
+    /// The number of threads that run the processes, 1 to 256, if that is given. There are no
+    /// rounds then.
     pub workers: Option<u32>,
-    /// Whether a refusal is explained.
+    /// Whether refusals and faults are explained.
     pub explained: bool,
-    /// The numbers that are printed in the place of the trace, where they are asked for.
+    /// The numbers that are printed instead of the trace, if they are asked for.
     pub stats: Option<StatsChoice>,
-    /// Whether it is told how far the run is.
+    /// Whether progress is printed on standard error.
     pub progress: bool,
     pub ghost in_range: { AreInRange horizon microsteps },
 }
 
-/// The text to print where the words are no command.
+/// The answer to words that are no command.
 #[derive(Drop)]
 pub struct Usage {
-    /// The text, as it is printed.
+    /// The text to print, with its line feeds.
     pub text: String,
 }
 
-/// Why nothing is asked for.
+/// Why there is no request.
 #[derive(Drop)]
 pub enum RequestError {
     /// The words are no command, or ask for help.

@@ -5,7 +5,7 @@ ghost use Rattle.dv_command.specs.Subcommands.{graph_takes_value, is_flag, plan_
 ghost use Rattle.dv_command.specs.Subcommands.{stats_has_flag, stats_takes_value, subcommand_named, table_has_flag, takes_value};
 ghost use Rattle.dv_command.specs.Subcommands.{vcd_has_flag, vcd_takes_value};
 
-/// What stands behind the program's name.
+/// A subcommand of the program.
 #[derive(Clone, Copy)]
 pub(crate) enum Subcommand {
     Check,
@@ -19,7 +19,7 @@ pub(crate) enum Subcommand {
     Vcd,
 }
 
-/// The subcommand of this name.
+/// The subcommand of this name, if there is one.
 pub(crate) fn subcommand_named(word: &str) -> Option<Subcommand>
     ensures { result ≡ subcommand_named word.now }
 {
@@ -82,7 +82,7 @@ fn vcd_takes_value(name: &str) -> bool
     name == "--inputs" || name == "--timescale"
 }
 
-/// Whether the subcommand has an option of this name to which a value belongs.
+/// Whether the subcommand has an option of this name that takes a value. The name begins with `--`.
 pub(crate) fn takes_value(subcommand: Subcommand, name: &str) -> bool
     ensures { result ≡ takes_value subcommand name.now }
 {
@@ -127,7 +127,7 @@ fn vcd_has_flag(name: &str) -> bool
     name == "--explain" || name == "--hold-ports" || name == "--partial"
 }
 
-/// Whether the subcommand has a flag of this name.
+/// Whether the subcommand has a flag of this name, which begins with `--`.
 pub(crate) fn is_flag(subcommand: Subcommand, name: &str) -> bool
     ensures { result ≡ is_flag subcommand name.now }
 {

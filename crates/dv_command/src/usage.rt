@@ -1,4 +1,4 @@
-//! Why words ask for nothing, as a text to print.
+//! The text of help and of errors.
 
 use crate::command::command;
 use crate::help::{Form, Value, WordHelp, subcommands};
@@ -8,22 +8,22 @@ use clap::error::ErrorKind;
 use dv_explain::{Explanation, faults, input_refusals, partition_refusals, refusals};
 use std::alloc::{AllocError, Global};
 
-/// An option without a value that it takes.
+/// An option with a wrong value, or without one.
 #[derive(Drop)]
 struct Misfit<'a> {
     /// The option's name, without its hyphens.
     name: &'a str,
     /// What the option takes.
     value: Value,
-    /// What stands behind it, if anything.
+    /// What is given instead, if anything.
     text: Option<&'a str>,
 }
 
-/// The text to print where the words are no command or ask for help.
+/// The text to print if the words are no command or ask for help.
 ///
 /// # Errors
 ///
-/// No memory for the text.
+/// An allocation was refused.
 pub(crate) fn usage_text(alloc: Global, words: &[String]) -> Result<String, AllocError> {
     match command(alloc)?.try_get_matches_from(words) {
         Ok(matches) => match matches.subcommand() {
@@ -51,7 +51,8 @@ pub(crate) fn usage_text(alloc: Global, words: &[String]) -> Result<String, Allo
     }
 }
 
-/// Why words ask for nothing though `clap` takes them for a command line, and each option has a value that it takes.
+/// Why words ask for nothing although `clap` accepts them and each option has a value that it
+/// takes.
 fn reason(subcommand: &str, matches: &ArgMatches) -> &'static str {
     let has = |name: &str| matches.get_str(name).is_some();
     if has("partition") && has("processes") {
@@ -71,7 +72,7 @@ fn reason(subcommand: &str, matches: &ArgMatches) -> &'static str {
     }
 }
 
-/// Whether it is said what is counted of a trace.
+/// Whether an option is given that says what of a trace is counted.
 fn has_stats_choice(matches: &ArgMatches) -> bool {
     let has = |name: &str| matches.get_str(name).is_some();
     has("from")
@@ -81,7 +82,8 @@ fn has_stats_choice(matches: &ArgMatches) -> bool {
         || matches.get_flag("csv")
 }
 
-/// The first option that has no value that it takes; the first word is the program's name, and the second the subcommand's.
+/// The first option with a wrong value, or without one. The first word is the program's name, the
+/// second one that of the subcommand.
 fn first_misfit(words: &[String]) -> Option<Misfit<'_>> {
     let takes = words_of(words.get(1)?.as_str());
     for (index, word) in words.iter().enumerate().skip(2) {
@@ -107,8 +109,8 @@ fn words_of(subcommand: &str) -> &'static [WordHelp] {
     }
 }
 
-/// An option, where a word names one, without a value that it takes: behind `=`, or as the next word, which does not look like
-/// an option.
+/// The option that a word names, if its value is wrong or missing. The value is behind `=`, or is
+/// the next word, unless that looks like an option.
 fn misfit_at<'a>(takes: &[WordHelp], word: &'a str, next: Option<&'a str>) -> Option<Misfit<'a>> {
     let option = word.strip_prefix("--")?;
     let (name, text, may_stand) = match option.split_once('=') {
@@ -122,7 +124,7 @@ fn misfit_at<'a>(takes: &[WordHelp], word: &'a str, next: Option<&'a str>) -> Op
     }
 }
 
-/// What the option of this name takes.
+/// What the option of this name takes, if there is one.
 fn value_of(takes: &[WordHelp], name: &str) -> Option<Value> {
     let word = takes.iter().find(|word| word.name == name)?;
     match word.form {
@@ -131,7 +133,7 @@ fn value_of(takes: &[WordHelp], name: &str) -> Option<Value> {
     }
 }
 
-/// The words that list the codes.
+/// The error of an unknown code, with a list of all codes.
 fn unknown_code(alloc: Global) -> Result<String, AllocError> {
     let mut reason = String::from_str(alloc, "there is no such code; the codes are")?;
     push_codes(&mut reason, refusals())?;
@@ -149,7 +151,7 @@ fn push_codes(text: &mut String, explanations: &[Explanation]) -> Result<(), All
     Ok(())
 }
 
-/// The text that refuses an option for its value.
+/// The error of an option with a wrong value, or without one.
 fn refused_misfit(alloc: Global, misfit: &Misfit<'_>) -> Result<String, AllocError> {
     let name = misfit.name;
     let takes = misfit.value.words;
@@ -160,7 +162,7 @@ fn refused_misfit(alloc: Global, misfit: &Misfit<'_>) -> Result<String, AllocErr
     refused(alloc, reason.as_str())
 }
 
-/// The text that refuses words for a reason.
+/// The text of an error, in the form of those of `clap`.
 fn refused(alloc: Global, reason: &str) -> Result<String, AllocError> {
     format!(in alloc; "error: {reason}\n\nFor more information, try '--help'.\n")
 }

@@ -1,4 +1,4 @@
-//! Requests for what a trace says, read from what words say.
+//! From parts to requests for views of a trace. `None` means that the parts ask for nothing.
 
 ghost use Rattle.std.specs.Prelude.{◌≡◌, IfOk, map};
 ghost use Rattle.dv_command.specs.Asked.{AsksRunStats, AsksStats, AsksStatsChoice, AsksTable, AsksTrace, AsksWaves};
@@ -11,10 +11,10 @@ use crate::request::{Stats, StatsChoice, Table, TraceFiles, Waves};
 use dv_time::GREATEST_TICK;
 use std::alloc::{AllocError, Global};
 
-/// The first tick that counts and the last one, where they are given.
+/// The first tick that counts and the last one, if they are given.
 type Window = (Option<u64>, Option<u64>);
 
-/// A model with its trace.
+/// The files of a model and its trace.
 fn trace_in(alloc: Global, parts: &[Part<'_>]) -> Result<Option<TraceFiles>, AllocError>
     ensures { IfOk result (IsFitting (AsksTrace (map said_in parts.now))) }
 {
@@ -38,7 +38,7 @@ fn trace_in(alloc: Global, parts: &[Part<'_>]) -> Result<Option<TraceFiles>, All
     }
 }
 
-/// A trace as a value change dump.
+/// The request for a value change dump.
 pub(crate) fn waves_in(alloc: Global, parts: &[Part<'_>]) -> Result<Option<Waves>, AllocError>
     ensures { IfOk result (IsFitting (AsksWaves (map said_in parts.now))) }
 {
@@ -62,7 +62,7 @@ pub(crate) fn waves_in(alloc: Global, parts: &[Part<'_>]) -> Result<Option<Waves
     }))
 }
 
-/// Whether the last tick is not before the first one, where both are given.
+/// Whether the last tick is not before the first one, if both are given.
 fn are_in_order(first: Option<u64>, last: Option<u64>) -> bool
     ensures { result ≡ are_in_order first last }
 {
@@ -92,7 +92,7 @@ fn window_in(alloc: Global, parts: &[Part<'_>]) -> Result<Option<Window>, AllocE
     }
 }
 
-/// What is counted of a trace, and how it is printed.
+/// The options that say what is counted of a trace, and how it is printed.
 fn stats_choice_in(alloc: Global, parts: &[Part<'_>]) -> Result<Option<StatsChoice>, AllocError>
     ensures { IfOk result (IsFitting (AsksStatsChoice (map said_in parts.now))) }
 {
@@ -117,7 +117,7 @@ fn stats_choice_in(alloc: Global, parts: &[Part<'_>]) -> Result<Option<StatsChoi
     }))
 }
 
-/// A trace in numbers.
+/// The request for the numbers of a trace.
 pub(crate) fn stats_in(alloc: Global, parts: &[Part<'_>]) -> Result<Option<Stats>, AllocError>
     ensures { IfOk result (IsFitting (AsksStats (map said_in parts.now))) }
 {
@@ -130,7 +130,7 @@ pub(crate) fn stats_in(alloc: Global, parts: &[Part<'_>]) -> Result<Option<Stats
     Ok(Some(Stats { files, choice }))
 }
 
-/// Whether no option stands that says what is counted.
+/// Whether no option is given that says what is counted.
 fn has_no_stats_choice(alloc: Global, parts: &[Part<'_>]) -> Result<bool, AllocError>
     ensures { IfOk result (λ r. r ≡ has_no_stats_choice (map said_in parts.now)) }
 {
@@ -143,7 +143,7 @@ fn has_no_stats_choice(alloc: Global, parts: &[Part<'_>]) -> Result<bool, AllocE
     )
 }
 
-/// The numbers that a run prints in the place of its trace, where they are asked for.
+/// The numbers that a run prints instead of its trace, if they are asked for.
 pub(crate) fn run_stats_in(
     alloc: Global,
     parts: &[Part<'_>],
@@ -166,7 +166,7 @@ pub(crate) fn run_stats_in(
     }
 }
 
-/// A trace as a table.
+/// The request for a table.
 pub(crate) fn table_in(alloc: Global, parts: &[Part<'_>]) -> Result<Option<Table>, AllocError>
     ensures { IfOk result (IsFitting (AsksTable (map said_in parts.now))) }
 {
