@@ -1,4 +1,4 @@
-//! From an error of a job to what is told of it.
+//! Explains the error of a job.
 
 use crate::inputs::cause_in_inputs;
 use dv_explain::{Spot, explanation_of, pointed};
@@ -7,20 +7,21 @@ use dv_job::JobError;
 use dv_lex::TextError;
 use std::alloc::{AllocError, Global};
 
-/// A file that was read: its name, as the words of the command line have it, and its bytes.
+/// A file that was read.
 #[derive(Clone, Copy)]
 pub struct Source<'a> {
-    /// The name of the file, as the command line has it.
+    /// The name of the file, as in the command line.
     pub name: &'a str,
     /// The bytes of the file.
     pub bytes: &'a [u8],
 }
 
-/// What an error means, behind its cause. Nothing where no text is at fault.
+/// The cause of an error, followed by what the error means in general. Empty if no text is at
+/// fault.
 ///
 /// # Errors
 ///
-/// No memory for the text.
+/// An allocation was refused.
 pub fn explained(
     alloc: Global,
     model: Source<'_>,
@@ -35,7 +36,7 @@ pub fn explained(
     }
 }
 
-/// The code of a refusal, as `E7`; empty where no text is at fault.
+/// The code of a refusal, as `E7`; empty if no text is at fault.
 fn code_of(alloc: Global, error: &JobError) -> Result<String, AllocError> {
     match error {
         JobError::Text(refusal) => format!(in alloc; "{}", refusal.number),
@@ -45,12 +46,12 @@ fn code_of(alloc: Global, error: &JobError) -> Result<String, AllocError> {
     }
 }
 
-/// The offset of the model or of the inputs at which an error was found and which case of its number it is, as
-/// `FILE:LINE:COLUMN: CODE: SUMMARY`, the line with a mark, and sentences on it. Nothing where no line is at fault.
+/// The cause of an error in the model or in the inputs: `FILE:LINE:COLUMN: CODE: SUMMARY`, the line
+/// with a mark, and sentences that help. Empty if no line is at fault.
 ///
 /// # Errors
 ///
-/// No memory for the text.
+/// An allocation was refused.
 pub fn cause_of(
     alloc: Global,
     model: Source<'_>,

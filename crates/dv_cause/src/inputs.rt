@@ -1,29 +1,29 @@
-//! Which field of a line of inputs is wrong.
+//! Explains a refused line of inputs.
 
 use crate::cause::Source;
 use dv_explain::{Cause, Quoted, Spot, pointed};
 use dv_inputs::{InputRefusal, InputRefusalNumber};
 use std::alloc::{AllocError, Global};
 
-/// A field of a line: its offset in the line, and its bytes.
+/// A field of a line, with its offset in the line in bytes.
 #[derive(Clone, Copy)]
 struct Field<'a> {
     offset: usize,
     bytes: &'a [u8],
 }
 
-/// What is wrong in a line: its offset in the line, and the words on it.
+/// What is wrong in a line, with its offset in the line in bytes.
 #[derive(Drop)]
 struct Flaw {
     offset: usize,
     cause: Cause,
 }
 
-/// The offset and the line of inputs that are refused, with a mark under the field that is wrong, and sentences on it.
+/// The cause of a refusal of inputs, as `cause_of`, with a mark under the field that is wrong.
 ///
 /// # Errors
 ///
-/// No memory for the text.
+/// An allocation was refused.
 pub fn cause_in_inputs(
     alloc: Global,
     inputs: Source<'_>,
@@ -42,7 +42,7 @@ pub fn cause_in_inputs(
     pointed(alloc, &spot, code.as_str(), &flaw.cause)
 }
 
-/// How many bytes come before a line.
+/// The offset of a line, in bytes. Lines count from 1.
 fn offset_of_line(text: &[u8], line: u64) -> usize {
     let mut offset: usize = 0;
     for _ in 1..line {
@@ -53,7 +53,7 @@ fn offset_of_line(text: &[u8], line: u64) -> usize {
     offset
 }
 
-/// What stands before the first line feed.
+/// The text before the first line feed.
 fn first_line(text: &[u8]) -> &[u8] {
     match text.iter().position(|byte| *byte == b'\n') {
         Some(end) => text.get(..end).unwrap_or(text),
@@ -61,7 +61,7 @@ fn first_line(text: &[u8]) -> &[u8] {
     }
 }
 
-/// A line without one carriage return at its end.
+/// A line without the carriage return at its end.
 fn without_return(line: &[u8]) -> &[u8] {
     match line {
         [front @ .., b'\r'] => front,
@@ -69,7 +69,7 @@ fn without_return(line: &[u8]) -> &[u8] {
     }
 }
 
-/// What is wrong in a line that is refused with a number.
+/// What is wrong in a line that is refused with this number.
 fn flaw_in(alloc: Global, line: &[u8], number: InputRefusalNumber) -> Result<Flaw, AllocError> {
     let fields = fields_of(alloc, line)?;
     let (index, summary) = match number {
@@ -106,7 +106,7 @@ fn flaw_in(alloc: Global, line: &[u8], number: InputRefusalNumber) -> Result<Fla
     })
 }
 
-/// A field as it is shown.
+/// A field in quotation marks.
 fn quoted<'a>(fields: &[Field<'a>], number: usize) -> Quoted<'a> {
     match fields.get(number) {
         Some(field) => Quoted(str::from_utf8(field.bytes).unwrap_or("")),
@@ -121,7 +121,7 @@ fn offset_of_field(fields: &[Field<'_>], number: usize) -> usize {
     }
 }
 
-/// The fields of a line, which stand between blanks.
+/// The fields of a line. Blanks separate them.
 fn fields_of(alloc: Global, line: &[u8]) -> Result<Vec<Field<'_>>, AllocError> {
     let mut fields = Vec::new(alloc);
     let mut offset: usize = 0;
@@ -139,7 +139,7 @@ fn is_blank(byte: u8) -> bool {
     matches!(byte, b' ' | b'\t')
 }
 
-/// What is wrong in a line that is no `TICK PORT VALUE` and no `TICK.MICRO PORT VALUE`.
+/// What is wrong in a line that is neither `TICK PORT VALUE` nor `TICK.MICRO PORT VALUE`.
 fn malformed(alloc: Global, line: &[u8], fields: &[Field<'_>]) -> Result<Flaw, AllocError> {
     if let Err(error) = str::from_utf8(line) {
         return Ok(Flaw {
@@ -174,7 +174,8 @@ fn wrong_time(alloc: Global, fields: &[Field<'_>]) -> Result<Flaw, AllocError> {
     })
 }
 
-/// The flaw of a wrong number of fields: too few are marked behind the last field, too many at the fourth.
+/// The flaw of a wrong number of fields. The mark is after the last field if there are too few, and
+/// at the fourth one if there are too many.
 fn wrong_count(alloc: Global, fields: &[Field<'_>]) -> Result<Flaw, AllocError> {
     if let Some(fourth) = fields.get(3) {
         let summary = "the line has more than the three fields `TICK PORT VALUE`";
