@@ -24,8 +24,8 @@ pub mod ended;
 mod faults;
 /// Laws of texts and models.
 pub mod laws;
-/// From the bytes of a model to the checked text.
-mod load;
+/// From the bytes of a model to its tree.
+pub mod load;
 /// The names that a plan prints.
 mod names;
 /// The options of a run.

@@ -1,9 +1,8 @@
-//! Why there is no view.
+//! Why a view is not complete.
 
 use dv_fault::FaultsError;
 use dv_inputs::InputsError;
 use dv_job::JobError;
-use dv_lex::LoadError;
 use dv_partition::PartitionError;
 use dv_stats::StatsError;
 use dv_table::TableError;
@@ -15,18 +14,23 @@ use std::io::ErrorKind;
 use std::{fmt, io};
 use thiserror::Error;
 
-/// Why there is no view, or none to its end.
+/// Why a view is not complete.
 #[derive(Debug, Drop, Error)]
 pub enum ViewError {
-    /// The model, the partition or the inputs are refused, a write failed or an allocation was refused.
+    /// The model, the partition or the inputs are refused, a write failed or an allocation was
+    /// refused.
     Job(JobError),
-    /// The trace can't be read to its end; nothing was written, or, where a second reading fails, a beginning of the view.
+    /// The trace can't be read to its end; nothing was written. If a second reading failed, a
+    /// beginning of the view was written.
     Unread(io::Error),
-    /// The trace is refused; nothing was written, or, where it was changed before a second reading, a beginning of the view.
+    /// The trace is refused; nothing was written. If it was changed before a second reading, a
+    /// beginning of the view was written.
     Trace(TraceRefusal),
-    /// No component has the path of which numbers are asked for, in words; nothing was written.
+    /// No component has the path whose numbers are asked for; nothing was written. The text says
+    /// which path, and similar ones.
     NoPath(String),
-    /// No atomic model has the name whose phases are asked for, in words; nothing was written.
+    /// No atomic model has the name whose phases are asked for; nothing was written. The text says
+    /// which name, and similar ones.
     NoPhases(String),
 }
 
@@ -42,7 +46,7 @@ impl fmt::Display for ViewError {
 }
 
 impl From<io::Error> for ViewError {
-    // The error where a trace can't be read.
+    // The error of a trace that can't be read.
     fn from(error: io::Error) -> Self {
         match error.kind() {
             ErrorKind::OutOfMemory => ViewError::Job(JobError::Memory),
@@ -121,12 +125,4 @@ impl From<JobError> for ViewError {
     fn from(error: JobError) -> Self {
         ViewError::Job(error)
     }
-}
-
-/// The error of a model that was not loaded.
-pub(crate) fn unloaded(text: &[u8], error: LoadError) -> ViewError {
-    ViewError::Job(match error {
-        LoadError::Refused(refusal) => JobError::Text(dv_lex::answer(text, refusal)),
-        LoadError::Memory => JobError::Memory,
-    })
 }

@@ -1,27 +1,28 @@
-//! Where the faults of a run came from.
+//! Explanations of the faults of a run.
 
 ghost use Rattle.std.specs.Prelude.{◌≡◌, None};
 ghost use Rattle.dv_flat.specs.Limit.{link_refusal};
 ghost use Rattle.dv_syntax.specs.Trees.{file_of};
 
 use crate::error::ViewError;
-use crate::model::{accept, load};
 use dv_fault::{FaultWriter, FileText};
 use dv_flat::flatten;
 use dv_inputs::read_inputs;
+use dv_job::load::{accept, load};
 use dv_job::{Options, run_bytes};
 use dv_partition::Partition;
 use dv_tree::Tree;
 use std::alloc::Global;
 
-/// Runs a model again, in one process, and explains the first ten faults of its components: of each where it came from, as
-/// `FILE:LINE:COLUMN: FAULT: ..` with the line of the text, the values there and what it means. Behind them a line says how many
-/// more there are. Without faults the text is empty. Workers that the options give are not used.
+/// Runs a model again, in one process, and explains the first ten faults of its components: for
+/// each, `FILE:LINE:COLUMN: FAULT: ..` with the line of the model that caused it, the values there,
+/// and what the fault means. A last line says how many more faults there are. Without faults the
+/// text is empty. Workers in the options are ignored.
 ///
 /// # Errors
 ///
-/// `Job` with `Text`, the answer to the model's text, or with `Inputs`, where the model is accepted, that to the inputs. `Job` with
-/// `Memory`: an allocation was refused.
+/// `Job` with `Text`: the model is refused. `Job` with `Inputs`: the model is accepted, and the
+/// inputs are refused. `Job` with `Memory`: an allocation was refused.
 pub fn faults_text(
     alloc: Global,
     model: FileText<'_>,

@@ -5,20 +5,20 @@ ghost use Rattle.dv_flat.specs.Limit.{link_refusal};
 ghost use Rattle.dv_syntax.specs.Trees.{file_of};
 
 use crate::error::ViewError;
-use crate::model::{accept, load};
 use dv_flat::{LinkLists, flatten, paths_of};
 use dv_graph::{write_graph, write_overview, write_phases};
 use dv_hints::unknown_name;
+use dv_job::load::{accept, load};
 use dv_partition::{Groups, Partition, partition};
 use dv_syntax::{Atomic, Model};
 use dv_tree::Tree;
 use std::alloc::{AllocError, Global};
 use std::io::Write;
 
-/// What is wanted of a graph.
+/// Options of a graph.
 #[derive(Clone, Copy)]
 pub struct GraphOptions<'a> {
-    /// The partition, where processes are to be shown.
+    /// The partition, if processes are to be shown.
     pub groups: Option<Partition<'a>>,
     /// What of the model is shown.
     pub shown: Shown<'a>,
@@ -29,20 +29,23 @@ pub struct GraphOptions<'a> {
 pub enum Shown<'a> {
     /// All components.
     All,
-    /// An overview, in which coupled models at this depth are boxes. The root is at depth 0, its parts are at depth 1.
+    /// An overview, in which coupled models at this depth are boxes. The root is at depth 0, its
+    /// parts are at depth 1.
     Depth(u64),
     /// The phases of the atomic model of this name. A partition is not read then.
     Phases(&'a str),
 }
 
-/// Writes the graph of the model of a text in the DOT language, with its processes where there is a partition; or an overview of it; or
-/// the phases of one of its models.
+/// Writes a graph of a model in the DOT language: all its components, an overview, or the phases of
+/// one atomic model. If there is a partition, the processes are shown.
 ///
 /// # Errors
 ///
-/// `Job` with `Text`, the answer to the model's text, or with `Partition`, where the model is accepted, that to the partition;
-/// or `NoPhases`, where the model is accepted and none of its atomic models has the name; nothing was written then. With `Write` or
-/// `Memory` the writer holds a beginning of the graph that is not all of it, for `Memory` perhaps nothing. It is never `Trace`.
+/// - `Job` with `Text`: the model is refused. `Job` with `Partition`: the model is accepted, and
+///   the partition is refused. `NoPhases`: the model is accepted, and no atomic model has the name.
+///   Nothing was written in these cases.
+/// - `Job` with `Write`: a write failed. `Job` with `Memory`: an allocation was refused. The writer
+///   holds a beginning of the graph, for `Memory` perhaps nothing.
 pub fn graph_bytes<W: Write>(
     alloc: Global,
     model: &[u8],
@@ -68,7 +71,7 @@ pub fn graph_bytes<W: Write>(
     Ok(())
 }
 
-// The links of a model, and the groups of its components, where there is a partition.
+// The links of a model, and the groups of its components if there is a partition.
 fn linked(
     alloc: Global,
     tree: &Tree<'_>,
@@ -81,7 +84,7 @@ fn linked(
     Ok((links, groups))
 }
 
-// The groups of the components, where there is a partition.
+// The groups of the components, if there is a partition.
 fn groups_of(
     alloc: Global,
     tree: &Tree<'_>,
@@ -90,13 +93,13 @@ fn groups_of(
     let Some(groups) = groups else {
         return Ok(None);
     };
-    // A checked text has few components.
+    // For the prover alone: a checked text has few components.
     let _few = tree.component_count();
     let paths = paths_of(alloc, tree)?;
     Ok(Some(partition(alloc, &paths, groups)?))
 }
 
-// The atomic model of a name, among all of the text.
+// The atomic model with a name, among all models of the text.
 fn atomic_named<'t>(
     alloc: Global,
     tree: &'t Tree<'_>,

@@ -1,23 +1,24 @@
-//! Views of models and of traces, from bytes to bytes.
+//! Views of models and traces, from bytes to bytes.
 //!
-//! Each call takes the bytes of a model, and some of a trace, inputs or a partition, and writes one view:
-//! `graph_bytes` a graph, `vcd_bytes` a value change dump, `stats_bytes` numbers, `table_bytes` a table,
-//! `warnings_bytes` warnings; `faults_text` runs the model again and tells where its faults came from. A `ViewError`
-//! is the answer to the first of the texts that is refused.
+//! Each call takes the bytes of a model, and those of a trace, inputs or a partition if it needs
+//! them, and writes one view: `graph_bytes` a graph, `vcd_bytes` a value change dump, `stats_bytes`
+//! numbers, `table_bytes` a table, `warnings_bytes` warnings. `faults_text` runs the model again
+//! and explains its faults. All of them read the model by `load` and `accept` of `dv_job`, so a
+//! model is refused with the same answer as by a run. A `ViewError` is the answer to the first text
+//! that is refused.
 //!
-//! The program calls these for `graph`, `vcd`, `stats`, `table`, `check --warn` and `run --explain`. Views only read:
-//! no trace depends on them, and nothing is claimed of them but that they are made without a fault of the program.
+//! The program calls these for `graph`, `vcd`, `stats`, `table`, `check --warn` and `run
+//! --explain`. No trace depends on a view, and nothing is claimed of a view except that it is made
+//! without a fault of the program.
 #![tactic(auto)]
 
-/// Why there is no view.
+/// Why a view is not complete.
 pub mod error;
 /// Where the faults of a run came from.
 pub mod faults;
 /// The graph of a model.
 pub mod graph;
-/// From the bytes of a model to its tree, on which a `StatsWriter` stands.
-pub mod model;
-/// What a trace says, in numbers.
+/// The numbers of a trace.
 pub mod stats;
 /// The table of a trace.
 pub mod table;
@@ -34,7 +35,6 @@ pub use dv_vcd::{NoTimescale, TimeUnit, Timescale, UnitCount, WaveOptions};
 pub use error::ViewError;
 pub use faults::faults_text;
 pub use graph::{GraphOptions, Shown, graph_bytes};
-pub use model::{accept, load};
 pub use stats::{numbers_of, stats_bytes};
 pub use table::table_bytes;
 pub use vcd::vcd_bytes;

@@ -1,23 +1,27 @@
-//! What a trace says, in numbers.
+//! The numbers of a trace.
 
 use crate::error::ViewError;
-use crate::model::{accept, load};
 use dv_hints::unknown_name;
+use dv_job::load::{accept, load};
 use dv_stats::{StatsOptions, StatsWriter};
 use dv_trace::{PieceReader, Reach};
 use dv_tree::Tree;
 use std::alloc::{AllocError, Global};
 use std::io::{Read, Write};
 
-/// Writes what a trace of the model of a text says of each component and each output of the root, in numbers, and returns how far the
-/// trace reaches. The trace is read to its end, piece by piece, so that without quantiles memory does not grow with it.
+/// Writes the numbers of each component and each output of the root in a trace of a model, and
+/// returns how far the trace reaches. The trace is read to its end, piece by piece. Without
+/// quantiles, memory does not grow with it.
 ///
 /// # Errors
 ///
-/// `Unread` where no first piece of the trace can be read, and else `Job` with `Text`, the answer to the model's text; where the model is
-/// accepted, `NoPath` where no component has the path that is asked for, or else the first of `Trace`, the answer to the trace, and
-/// `Unread`; nothing was written then. `Job` with `Write` or `Memory`: the writer holds a beginning of the text that is not all of it,
-/// for `Memory` perhaps nothing.
+/// - `Unread`: the trace can't be read. This is also the answer if its first piece can't be read
+///   and the model would be refused.
+/// - `Job` with `Text`: the model is refused. `NoPath`: the model is accepted, and no component has
+///   the path that is asked for. `Trace`: both are accepted, and the trace is refused.
+/// - `Job` with `Write`: a write failed. `Job` with `Memory`: an allocation was refused. The writer
+///   holds a beginning of the text, for `Memory` perhaps nothing. For all other errors nothing was
+///   written.
 pub fn stats_bytes<T: Read, W: Write>(
     alloc: Global,
     model: &[u8],
@@ -31,7 +35,8 @@ pub fn stats_bytes<T: Read, W: Write>(
     count_trace(alloc, &tree, &mut pieces, options, writer)
 }
 
-// Counts a trace, of which a first piece was read, and writes the numbers. Why a line is not counted is said by `finish`.
+// Counts a trace, whose first piece was read, and writes the numbers. `finish` returns the error of
+// a line that is not counted.
 fn count_trace<T: Read, W: Write>(
     alloc: Global,
     tree: &Tree<'_>,
@@ -48,7 +53,8 @@ fn count_trace<T: Read, W: Write>(
 ///
 /// # Errors
 ///
-/// `NoPath` where only some components are asked for, and there are none; which paths are near is told. `Job` with `Memory`.
+/// `NoPath`: no component has the path that is asked for. `Job` with `Memory`: an allocation was
+/// refused.
 pub fn numbers_of<'t>(
     alloc: Global,
     tree: &'t Tree<'t>,
@@ -60,7 +66,7 @@ pub fn numbers_of<'t>(
     }
 }
 
-// That no component has a path, and which paths are near: of components, and of the coupled models around them.
+// The error for a path that no component has, with similar paths of components and coupled models.
 fn no_path(alloc: Global, tree: &Tree<'_>, path: &str) -> Result<ViewError, AllocError> {
     let paths = all_paths(alloc, tree)?;
     let mut names = Vec::with_capacity(alloc, paths.len())?;
@@ -71,7 +77,8 @@ fn no_path(alloc: Global, tree: &Tree<'_>, path: &str) -> Result<ViewError, Allo
     Ok(ViewError::NoPath(format!(in alloc; "no component of this path: {words}")?))
 }
 
-// The paths of all components and of the coupled models around them, each once. The components of a coupled model follow each other.
+// The paths of all components and coupled models, each once. The components of a coupled model
+// follow each other.
 fn all_paths(alloc: Global, tree: &Tree<'_>) -> Result<Vec<String>, AllocError> {
     let mut paths = Vec::new(alloc);
     let mut before: &[u32] = &[];
@@ -87,7 +94,7 @@ fn all_paths(alloc: Global, tree: &Tree<'_>) -> Result<Vec<String>, AllocError> 
     Ok(paths)
 }
 
-// How many names two paths begin with that are the same.
+// The number of names that both paths begin with.
 fn shared(one: &[u32], other: &[u32]) -> usize {
     one.iter()
         .zip(other)

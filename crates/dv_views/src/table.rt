@@ -5,22 +5,24 @@ ghost use Rattle.dv_flat.specs.Limit.{link_refusal};
 ghost use Rattle.dv_syntax.specs.Trees.{file_of};
 
 use crate::error::ViewError;
-use crate::model::{accept, load};
 use dv_flat::flatten;
+use dv_job::load::{accept, load};
 use dv_table::{TableOptions, write_table};
 use dv_trace::Reach;
 use dv_tree::Tree;
 use std::alloc::Global;
 use std::io::Write;
 
-/// Writes a trace of the model of a text as a table, as comma-separated values or as JSON lines. How far the trace reaches is
-/// returned.
+/// Writes a trace of a model as a table, as comma-separated values or as JSON lines, and returns
+/// how far the trace reaches.
 ///
 /// # Errors
 ///
-/// `Job` with `Text`, the answer to the model's text, or with `Inputs`, where the model is accepted, that to the inputs, or `Trace`,
-/// where both are accepted, that to the trace; nothing was written then. `Job` with `Write` or `Memory`: the writer holds a
-/// beginning of the table that is not all of it, for `Memory` perhaps nothing.
+/// - `Job` with `Text`: the model is refused. `Job` with `Inputs`: the model is accepted, and the
+///   inputs are refused. `Trace`: both are accepted, and the trace is refused. Nothing was written
+///   in these cases.
+/// - `Job` with `Write`: a write failed. `Job` with `Memory`: an allocation was refused. The writer
+///   holds a beginning of the table, for `Memory` perhaps nothing.
 pub fn table_bytes<W: Write>(
     alloc: Global,
     model: &[u8],

@@ -1,21 +1,25 @@
 //! The value change dump of a trace.
 
 use crate::error::ViewError;
-use crate::model::{accept, load};
+use dv_job::load::{accept, load};
 use dv_trace::Reach;
 use dv_vcd::{WaveOptions, write_vcd};
 use std::alloc::Global;
 use std::io::{Read, Seek, Write};
 
-/// Writes a trace of the model of a text as a value change dump. How far the trace reaches is returned. The trace, which stands at its
-/// beginning, is read to its end, piece by piece, and then once more, so that memory does not grow with it.
+/// Writes a trace of a model as a value change dump, and returns how far the trace reaches. `trace`
+/// has to be at its beginning. It is read to its end, piece by piece, and then once more. Memory
+/// does not grow with it.
 ///
 /// # Errors
 ///
-/// `Job` with `Text`, the answer to the model's text, or with `Inputs`, where the model is accepted, that to the inputs; where both are
-/// accepted, the first of `Trace`, the answer to the trace, and `Unread`; nothing was written then, unless the second reading fails, or
-/// finds a trace that was changed. `Job` with `Write` or `Memory`: the writer holds a beginning of the dump that is not all of it, for
-/// `Memory` perhaps nothing.
+/// - `Job` with `Text`: the model is refused. `Job` with `Inputs`: the model is accepted, and the
+///   inputs are refused. Nothing was written.
+/// - `Trace`: both are accepted, and the trace is refused. `Unread`: both are accepted, and the
+///   trace can't be read. Nothing was written, unless it was the second reading that failed, or
+///   that found a changed trace.
+/// - `Job` with `Write`: a write failed. `Job` with `Memory`: an allocation was refused. The writer
+///   holds a beginning of the dump, for `Memory` perhaps nothing.
 pub fn vcd_bytes<T: Read + Seek, W: Write>(
     alloc: Global,
     model: &[u8],

@@ -1,4 +1,4 @@
-//! Runs whose numbers are printed in the place of the trace.
+//! `run --stats`: prints the numbers of a run instead of its trace.
 
 use crate::ACCEPTED;
 use crate::lines::Lines;
@@ -7,22 +7,24 @@ use crate::progress::Progress;
 use crate::runs::{Job, run_job};
 use crate::told::tell_error;
 use dv_command::StatsChoice;
+use dv_job::load::{accept, load};
 use dv_job::{JobEnded, JobError, status};
 use dv_trace::End;
-use dv_views::{Form, StatsOptions, StatsWriter, Tree, ViewError, accept, load, numbers_of};
+use dv_views::{Form, StatsOptions, StatsWriter, Tree, ViewError, numbers_of};
 use std::sync::Wait;
 use std::thread::Threads;
 use std::time::Clock;
 
-/// A model whose runs are counted.
+/// A model whose run is counted.
 #[derive(Drop)]
 struct Counted<'c> {
     tree: Tree<'c>,
-    /// The path of the components that count, where not all do.
+    /// The path of the components that count, if not all do.
     only: Option<String>,
 }
 
-/// What is counted of a trace, and how it is printed: of all components, or of those under a path.
+/// The options of numbers, from those of the command line. `only` is a copy of `choice.only` that
+/// lives long enough.
 pub fn stats_options<'p>(
     choice: &StatsChoice,
     only: Option<&'p String>,
@@ -42,13 +44,14 @@ pub fn stats_options<'p>(
     }
 }
 
-/// Runs a job, prints the numbers of its trace, and answers the status, which is that of the run where all numbers are printed.
-/// Why they are not is told.
+/// Runs a job, prints the numbers of its trace, and returns the status. This is the status of the
+/// run if all numbers are printed; otherwise a message with the cause is printed.
 ///
 /// # Errors
 ///
-/// `Job` with `Text`, the answer to the model's text, or with `Memory`; where the model is accepted, `NoPath` where no component has
-/// the path that is asked for. Nothing was run then.
+/// `Job` with `Text`: the model is refused. `NoPath`: the model is accepted, and no component has
+/// the path that is asked for. `Job` with `Memory`: an allocation was refused. Nothing was run in
+/// these cases.
 pub fn print_numbers<R: AllocGlobal + Clock + Print + Eprint + Threads + Wait + Sync>(
     rt: &R,
     job: &Job<'_>,
@@ -64,7 +67,7 @@ pub fn print_numbers<R: AllocGlobal + Clock + Print + Eprint + Threads + Wait + 
     count_run(rt, job, &counted, choice, progress)
 }
 
-/// Runs a job whose model has a tree, and counts and prints, as `print_numbers` does.
+/// The same as `print_numbers`, with the tree of the model.
 fn count_run<R: AllocGlobal + Clock + Print + Eprint + Threads + Wait + Sync>(
     rt: &R,
     job: &Job<'_>,
@@ -85,7 +88,7 @@ fn count_run<R: AllocGlobal + Clock + Print + Eprint + Threads + Wait + Sync>(
     Ok(print_counted(rt, job, writer, &ended))
 }
 
-/// Prints what was counted of a run, and answers the status.
+/// Prints what was counted of a run, and returns the status.
 fn print_counted<R: AllocGlobal + Print + Eprint>(
     rt: &R,
     job: &Job<'_>,
@@ -93,7 +96,7 @@ fn print_counted<R: AllocGlobal + Print + Eprint>(
     ended: &Result<JobEnded, JobError>,
 ) -> u8 {
     match ended {
-        // Why a line could not be counted is said where the numbers are asked for.
+        // The cause of a line that was not counted is an error of `finish`.
         Ok(_) | Err(JobError::Write) => {}
         Err(error) => {
             tell_error(rt, job.texts, error, job.is_explained);
