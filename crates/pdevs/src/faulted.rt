@@ -1,12 +1,13 @@
-//! Where the faults of a run came from.
+//! Explains the faults of a run.
 
 use crate::runs::Job;
 use crate::told::tell_text;
 use dv_job::Options;
 use dv_views::{FileText, faults_text};
 
-/// Tells where the faults of a run came from. The model is run again, in one process: neither processes nor workers change its
-/// trace. Where memory does not suffice for that, the trace alone tells of them.
+/// Prints an explanation of the faults of a run. The model is run again in one process, since
+/// neither processes nor workers change its trace. If memory does not suffice for that, nothing is
+/// printed.
 pub fn tell_faults<R: AllocGlobal + Eprint>(rt: &R, job: &Job<'_>) {
     let given = job.options;
     let Some(alone) = Options::new(given.horizon, given.limit, None, None, given.capacity) else {

@@ -1,4 +1,4 @@
-//! The files that the words of a command line name.
+//! Reads the files that a command line names.
 
 use crate::plans::partition_of_plan;
 use crate::told::{Texts, tell_unread};
@@ -16,9 +16,9 @@ pub const STANDARD_INPUT: &str = "-";
 /// A file that was read.
 #[derive(Drop)]
 pub struct FileBytes<'a> {
-    /// Its name, as it is told.
+    /// Its name, as messages show it.
     pub name: &'a str,
-    /// What it holds.
+    /// Its contents.
     pub bytes: Vec<u8>,
 }
 
@@ -30,12 +30,12 @@ impl FileBytes<'_> {
         }
     }
 
-    /// The texts of which a refusal can be where this is the model and there are no inputs.
+    /// The texts that may be refused, if this is the model and there are no inputs.
     pub fn texts(&self) -> Texts<'_> {
         self.texts_with(None)
     }
 
-    /// The texts of which a refusal can be where this is the model.
+    /// The texts that may be refused, if this is the model.
     pub fn texts_with<'a>(&'a self, inputs: Option<&'a FileBytes<'a>>) -> Texts<'a> {
         let inputs = match inputs {
             Some(inputs) => inputs.source(),
@@ -51,24 +51,24 @@ impl FileBytes<'_> {
     }
 }
 
-/// A model, a trace of it, and the inputs of the run where they are given.
+/// A model, a trace of it, and the inputs of the run if they are given.
 #[derive(Drop)]
 pub struct TraceBytes<'a> {
     /// The model.
     pub model: FileBytes<'a>,
     /// The trace.
     pub trace: FileBytes<'a>,
-    /// The inputs of the run, where they are given.
+    /// The inputs of the run, if they are given.
     pub inputs: Option<FileBytes<'a>>,
 }
 
 impl TraceBytes<'_> {
-    /// The texts of which a refusal can be.
+    /// The texts that may be refused.
     pub fn texts(&self) -> Texts<'_> {
         self.model.texts_with(self.inputs.as_ref())
     }
 
-    /// The bytes of the inputs, where they are given.
+    /// The bytes of the inputs, if they are given.
     pub fn input_bytes(&self) -> Option<&[u8]> {
         match &self.inputs {
             Some(inputs) => Some(&inputs.bytes),
@@ -77,17 +77,17 @@ impl TraceBytes<'_> {
     }
 }
 
-/// How a model is divided: by the text of a file, or into so many processes.
+/// How a model is divided into processes.
 #[derive(Drop)]
 pub enum Parting {
     /// By the text of a partition.
     Text(Vec<u8>),
-    /// Into so many processes.
+    /// Into this number of processes.
     Count(u32),
 }
 
 impl Parting {
-    /// The same, as `dv_job` takes it.
+    /// The partition for `dv_job`.
     pub fn partition(&self) -> Partition<'_> {
         match self {
             Parting::Text(text) => Partition::Json(text.as_slice()),
@@ -96,7 +96,7 @@ impl Parting {
     }
 }
 
-/// What a file is read from, piece by piece.
+/// Reads a file piece by piece.
 #[derive(Drop)]
 pub enum FileReader<F, I> {
     /// A file of the system.
@@ -114,12 +114,12 @@ impl<F: Read, I: Read> Read for FileReader<F, I> {
     }
 }
 
-/// What a file is read from, as often as is wanted.
+/// Reads a file piece by piece, any number of times.
 #[derive(Drop)]
 pub enum SeekableReader<F> {
     /// A regular file of the system.
     File(F),
-    /// The bytes of another file, or of standard input, which can be read once.
+    /// The bytes of another file, or of standard input, which can be read only once.
     Bytes(Cursor<Vec<u8>>),
 }
 
@@ -141,16 +141,16 @@ impl<F: Seek> Seek for SeekableReader<F> {
     }
 }
 
-/// A file that was opened, and stands at its beginning.
+/// A file that was opened, at its beginning.
 #[derive(Drop)]
 pub struct OpenedFile<'a, T> {
-    /// Its name, as it is told.
+    /// Its name, as messages show it.
     pub name: &'a str,
-    /// What it holds.
+    /// Reads its contents.
     pub reader: T,
 }
 
-/// The name of the file that a word names, as it is told.
+/// The name of the file that a word names, as messages show it.
 fn told_name(word: &str) -> &str {
     if word == STANDARD_INPUT {
         "<stdin>"
@@ -159,11 +159,12 @@ fn told_name(word: &str) -> &str {
     }
 }
 
-/// What was made of the file with a name. `None` if the file cannot be read: that is told, with the reason.
+/// The answer of reading the file with a name. `None` if the file can't be read: a message with the
+/// reason is printed then.
 ///
 /// # Errors
 ///
-/// No memory for it.
+/// An allocation was refused.
 fn unless_unread<R: Eprint, T>(rt: &R, name: &str, answer: io::Result<T>) -> io::Result<Option<T>> {
     match answer {
         Ok(made) => Ok(Some(made)),
@@ -175,12 +176,12 @@ fn unless_unread<R: Eprint, T>(rt: &R, name: &str, answer: io::Result<T>) -> io:
     }
 }
 
-/// The bytes of the file that a word names, or of standard input where the word is `-`. `None` if they cannot be read: that was
-/// told, with the reason.
+/// The bytes of the file that a word names, or of standard input if the word is `-`. `None` if they
+/// can't be read: a message with the reason is printed then.
 ///
 /// # Errors
 ///
-/// No memory for the bytes.
+/// An allocation was refused.
 pub fn read<'a, R: AllocGlobal + Files + Input + Eprint>(
     rt: &R,
     word: &'a str,
@@ -197,12 +198,12 @@ pub fn read<'a, R: AllocGlobal + Files + Input + Eprint>(
     }
 }
 
-/// The file that a word names, or standard input where the word is `-`, to be read piece by piece. `None` if it cannot be opened:
-/// that was told, with the reason.
+/// Opens the file that a word names, or standard input if the word is `-`, to be read piece by
+/// piece. `None` if it can't be opened: a message with the reason is printed then.
 ///
 /// # Errors
 ///
-/// No memory for it.
+/// An allocation was refused.
 pub fn open<'a, R: Files + Input + Eprint>(
     rt: &R,
     word: &'a str,
@@ -219,12 +220,12 @@ pub fn open<'a, R: Files + Input + Eprint>(
     }
 }
 
-/// The same, to be read as often as is wanted. What is no regular file, as a pipe, may give its bytes only once, so all of them are
-/// read and kept. `None` also if that fails.
+/// Opens a file as `open` does, to be read any number of times. What is no regular file, such as a
+/// pipe, may give its bytes only once, so all of them are read and kept. `None` also if that fails.
 ///
 /// # Errors
 ///
-/// No memory for it, or for its bytes.
+/// An allocation was refused.
 pub fn open_seekable<'a, R: AllocGlobal + Files + Input + Eprint>(
     rt: &R,
     word: &'a str,
@@ -241,7 +242,7 @@ pub fn open_seekable<'a, R: AllocGlobal + Files + Input + Eprint>(
     }
 }
 
-/// A regular file, or the bytes of another one.
+/// Opens a regular file, or reads the bytes of another one.
 fn open_or_keep<R: AllocGlobal + Files>(rt: &R, name: &str) -> io::Result<SeekableReader<R::File>> {
     let mut file = fs::open(rt, name)?;
     if file.metadata()?.is_file() {
@@ -252,12 +253,12 @@ fn open_or_keep<R: AllocGlobal + Files>(rt: &R, name: &str) -> io::Result<Seekab
     Ok(SeekableReader::Bytes(Cursor::new(bytes)))
 }
 
-/// The bytes of standard input.
+/// Reads all of standard input, and keeps it.
 fn kept_input<R: AllocGlobal + Input, F>(rt: &R) -> io::Result<SeekableReader<F>> {
     Ok(SeekableReader::Bytes(Cursor::new(standard_input(rt)?)))
 }
 
-/// A file of the system.
+/// Opens a file of the system.
 fn open_file<R: Files, I>(rt: &R, name: &str) -> io::Result<FileReader<R::File, I>> {
     Ok(FileReader::File(fs::open(rt, name)?))
 }
@@ -270,11 +271,11 @@ fn standard_input<R: AllocGlobal + Input>(rt: &R) -> io::Result<Vec<u8>> {
     Ok(bytes)
 }
 
-/// The file of the inputs, where one is given; `None` if it cannot be read, as `read`.
+/// Reads the file of the inputs, if one is given. `None` if it can't be read, as for `read`.
 ///
 /// # Errors
 ///
-/// No memory for the bytes.
+/// An allocation was refused.
 pub fn read_inputs<'a, R: AllocGlobal + Files + Input + Eprint>(
     rt: &R,
     inputs: Option<&'a String>,
@@ -288,11 +289,12 @@ pub fn read_inputs<'a, R: AllocGlobal + Files + Input + Eprint>(
     }
 }
 
-/// Model, trace and inputs, in this order; `None` at the first that cannot be read, as `read`.
+/// Reads a model, a trace and inputs, in this order. `None` if one of them can't be read, as for
+/// `read`.
 ///
 /// # Errors
 ///
-/// No memory for the bytes.
+/// An allocation was refused.
 pub fn read_trace<'a, R: AllocGlobal + Files + Input + Eprint>(
     rt: &R,
     files: &'a TraceFiles,
@@ -314,12 +316,12 @@ pub fn read_trace<'a, R: AllocGlobal + Files + Input + Eprint>(
     }))
 }
 
-/// How a model is divided: into one process where nothing is chosen. The text of a plan stands for its partition. `None` if the file
-/// cannot be read, as `read`.
+/// How a model is divided: into one process if nothing is chosen. A file with a plan is turned into
+/// the partition of that plan. `None` if the file can't be read, as for `read`.
 ///
 /// # Errors
 ///
-/// No memory for the bytes.
+/// An allocation was refused.
 pub fn read_parting<R: AllocGlobal + Files + Input + Eprint>(
     rt: &R,
     choice: Option<&PartitionChoice>,

@@ -1,16 +1,16 @@
-//! Where the lines of a run go.
+//! A writer that counts lines for the progress.
 
 use crate::progress::Progress;
 use std::io;
 use std::io::Write;
 use std::time::Clock;
 
-/// A writer of the lines of a run, beside which is told how far they are.
+/// A writer of the lines of a run, which also prints the progress.
 #[derive(Drop)]
 pub struct Lines<'a, W, R> {
-    /// Where the lines go.
+    /// The writer of the lines.
     pub writer: W,
-    /// How far the lines are, where that is told.
+    /// The progress, if it is printed.
     pub progress: Option<Progress<'a, R>>,
 }
 

@@ -1,42 +1,43 @@
-//! The program: from the words of a command line to files, streams and a status.
+//! The program: from the words of a command line to files, streams and an exit status.
 //!
-//! It checks model texts, runs them and prints their traces, prints their programs, plans and graphs, prints traces
-//! as wave forms, in numbers and as tables, and explains refusals and faults. `main` has the words read by
-//! `dv_command`; the modules open the files, call `dv_job` for what is proved of traces and `dv_views` for what only
-//! reads, and tell errors by `dv_cause` on standard error. A run by workers tells its progress here too.
+//! It checks models, runs them and prints their traces, prints programs, plans and graphs, prints
+//! traces as value change dumps, numbers and tables, and explains refusals and faults. `dv_command`
+//! reads the words. The modules here open the files, call `dv_job` for runs and `dv_views` for
+//! views, and print errors on standard error, which `dv_cause` explains. Progress is printed by the
+//! writer of a run, so none is shown while no line is written.
 //!
-//! What files hold and what a terminal shows no contract says: the claims of `dv_job` end at the writer. Nothing is
-//! computed here. Its test is the first model of the README (`stdout`); what the other commands print, crates of
-//! tests and scripts compare.
+//! No contract speaks of files or terminals: the claims of `dv_job` end at the writer. The test of
+//! this crate is the first model of the README (`stdout`). The other commands are tested by scripts
+//! that run the built program.
 #![tactic(auto)]
 
-/// Where the faults of a run came from.
+/// Explains the faults of a run.
 mod faulted;
-/// The files that the words of a command line name.
+/// Reads the files that a command line names.
 mod files;
-/// Where the lines of a run go.
+/// A writer that counts lines for the progress.
 mod lines;
-/// What is asked of a model alone.
+/// The subcommands `check`, `code`, `plan` and `graph`.
 mod models;
-/// A writer that keeps why a write failed.
+/// A writer that keeps the cause of a failed write.
 mod noted;
-/// Runs whose numbers are printed in the place of the trace.
+/// `run --stats`.
 mod numbers;
 /// How the program was built.
 mod origin;
-/// What `plan` prints, in the place of a partition.
+/// Plans that are given as partitions.
 mod plans;
-/// Printing through such a writer.
+/// Prints through these writers.
 mod printed;
-/// How far a run is, told while it goes on.
+/// The progress of a run.
 mod progress;
-/// Runs of models.
+/// The subcommand `run`.
 mod runs;
-/// Standard input in the place of several files.
+/// Standard input that is named for several files.
 mod shared;
-/// What is told on standard error.
+/// Prints on standard error.
 mod told;
-/// What is asked of a trace and its model.
+/// The subcommands `vcd`, `stats` and `table`.
 mod traces;
 
 use dv_command::{Request, RequestError, request_of};
@@ -56,16 +57,16 @@ use std::time::Clock;
 use told::{tell_failure, tell_line, tell_text};
 use traces::{count_trace, dump_trace, tabulate_trace};
 
-/// A model that is accepted.
+/// The status if everything was printed.
 const ACCEPTED: u8 = 0;
 
-/// A model that is refused, or cannot be read or run.
+/// The status of a refusal, of a file that can't be read, of a failed write, and of refused memory.
 const REFUSED: u8 = 1;
 
-/// Words that are no command.
+/// The status of words that are no command.
 const USAGE: u8 = 2;
 
-/// A whole run in which a component had a fault.
+/// The status of a whole run in which a component had a fault.
 const FAULTED: u8 = 3;
 
 fn main(rt: HostRuntime) -> ExitCode {
@@ -78,7 +79,11 @@ fn main(rt: HostRuntime) -> ExitCode {
     }
 }
 
-/// Does what the words ask for, and answers the status. An error is of the system: no memory for the words.
+/// Does what the words ask for, and returns the status.
+///
+/// # Errors
+///
+/// The words can't be read, or an allocation was refused.
 fn answer<R: AllocGlobal + Clock + Env + Files + Input + Print + Eprint + Threads + Wait + Sync>(
     rt: &R,
 ) -> io::Result<u8> {
@@ -106,7 +111,11 @@ fn answer<R: AllocGlobal + Clock + Env + Files + Input + Print + Eprint + Thread
     }
 }
 
-/// Does what is asked for, and answers the status. An error is of the system: a write that failed, or no memory.
+/// Does what is asked for, and returns the status.
+///
+/// # Errors
+///
+/// A write failed, or an allocation was refused.
 fn do_request<R: AllocGlobal + Clock + Files + Input + Print + Eprint + Threads + Wait + Sync>(
     rt: &R,
     request: &Request,

@@ -1,4 +1,4 @@
-//! What is asked of a model alone.
+//! The subcommands `check`, `code`, `plan` and `graph`.
 
 use crate::files::{read, read_parting};
 use crate::printed::print_through;
@@ -10,7 +10,11 @@ use dv_views::{GraphOptions, Shown, ViewError, graph_bytes, warnings_bytes};
 use std::io;
 use std::rt::Files;
 
-/// Checks what was asked for, prints its warnings if they are wanted, and answers the status.
+/// Checks a model, prints its warnings if they are asked for, and returns the status.
+///
+/// # Errors
+///
+/// A write failed, or an allocation was refused.
 pub fn check_model<R: AllocGlobal + Files + Input + Print + Eprint>(
     rt: &R,
     check: &Check,
@@ -35,7 +39,11 @@ pub fn check_model<R: AllocGlobal + Files + Input + Print + Eprint>(
     Ok(printed.status(rt, model.texts(), check.file.explained))
 }
 
-/// Prints the programs that were asked for, and answers the status.
+/// Prints the programs of a model, and returns the status.
+///
+/// # Errors
+///
+/// An allocation was refused.
 pub fn list_model<R: AllocGlobal + Files + Input + Print + Eprint>(
     rt: &R,
     code: &ModelFile,
@@ -50,7 +58,12 @@ pub fn list_model<R: AllocGlobal + Files + Input + Print + Eprint>(
     Ok(printed.status(rt, model.texts(), code.explained))
 }
 
-/// Prints the plan that was asked for, and answers the status. Files are read in the order model, partition.
+/// Prints the plan of a model, and returns the status. Files are read in the order model,
+/// partition.
+///
+/// # Errors
+///
+/// A write failed, or an allocation was refused.
 pub fn plan_model<R: AllocGlobal + Files + Input + Print + Eprint>(
     rt: &R,
     plan: &Plan,
@@ -73,7 +86,12 @@ pub fn plan_model<R: AllocGlobal + Files + Input + Print + Eprint>(
     }
 }
 
-/// Prints the graph that was asked for, and answers the status. Files are read in the order model, partition.
+/// Prints the graph of a model, and returns the status. Files are read in the order model,
+/// partition.
+///
+/// # Errors
+///
+/// An allocation was refused.
 pub fn graph_model<R: AllocGlobal + Files + Input + Print + Eprint>(
     rt: &R,
     graph: &Graph,

@@ -1,13 +1,13 @@
-//! A writer that keeps why a write failed.
+//! A writer that keeps the cause of a failed write.
 
 use std::io;
 use std::io::{Error, Write};
 
-/// A writer, and the first error that it answered.
+/// A writer, and the first error that it returned.
 #[derive(Drop)]
 pub struct Noted<W> {
     writer: W,
-    /// Why the first write that failed did.
+    /// The error of the first failed write.
     reason: Option<Error>,
 }
 
@@ -20,7 +20,7 @@ impl<W> Noted<W> {
         }
     }
 
-    /// Keeps an error, where it is the first.
+    /// Keeps an error, if it is the first.
     fn note(&mut self, error: Error) {
         if self.reason.is_none() {
             self.reason = Some(error);
@@ -29,7 +29,7 @@ impl<W> Noted<W> {
 }
 
 impl<W: Drop> Noted<W> {
-    /// Why the first write that failed did, where one did.
+    /// The error of the first failed write, if one failed.
     pub fn into_reason(self) -> Option<Error> {
         let Noted { writer: _, reason } = self;
         reason

@@ -1,4 +1,4 @@
-//! How the program was built. `build` says so in a line that it puts behind the program, as the last one of its file.
+//! How the program was built. `build` adds a line that says this to the end of the program's file.
 
 use std::io::ErrorKind;
 use std::rt::Files;
@@ -7,13 +7,17 @@ use std::{fs, io};
 /// The file of the program that runs.
 const PROGRAM: &str = "/proc/self/exe";
 
-/// What the line begins with.
+/// The beginning of the line.
 const BUILT: &str = "built of ";
 
-/// What is told where the file has no such line, or cannot be read.
+/// The answer if the file has no such line, or can't be read.
 const UNKNOWN: &str = "how it was built is not known";
 
-/// The commit and the kit of which the program was built, and whether it is proved. An error means that there is no memory.
+/// The commit and the kit of which the program was built, and whether it is proved.
+///
+/// # Errors
+///
+/// An allocation was refused.
 pub fn origin<R: AllocGlobal + Files>(rt: &R) -> io::Result<String> {
     let program = match fs::read(rt, PROGRAM) {
         Ok(program) => program,
@@ -24,7 +28,7 @@ pub fn origin<R: AllocGlobal + Files>(rt: &R) -> io::Result<String> {
     Ok(String::from_str(rt.alloc(), line)?)
 }
 
-/// The last line of a program's file, where it says how the program was built.
+/// The last line of a program's file, if it says how the program was built.
 fn line_in(program: &[u8]) -> Option<&str> {
     let line = program.rsplit(|byte| *byte == b'\n').next()?;
     let line = str::from_utf8(line).ok()?;

@@ -1,4 +1,4 @@
-//! What `plan` prints, in the place of a partition.
+//! Plans that are given as partitions.
 
 use serde_json::Value;
 use std::alloc::{AllocError, Global};
@@ -6,11 +6,12 @@ use std::alloc::{AllocError, Global};
 /// The keys of a plan, which no partition has.
 const KEYS: [&str; 4] = ["components", "entries", "exits", "links"];
 
-/// The partition that a plan has, as its text: the components of each process. `None` where the text is no plan.
+/// The text of the partition in a plan: the components of each process. `None` if the text is no
+/// plan.
 ///
 /// # Errors
 ///
-/// No memory for the values or the text.
+/// An allocation was refused.
 pub fn partition_of_plan(alloc: Global, text: &[u8]) -> Result<Option<Vec<u8>>, AllocError> {
     match Value::from_slice(alloc, text) {
         Ok(plan) if is_plan(&plan) => partition_text(alloc, &plan),
@@ -25,7 +26,8 @@ fn is_plan(value: &Value) -> bool {
     KEYS.iter().all(|key| value.get(*key).is_some())
 }
 
-/// The text of a partition whose processes are those of a plan; `None` where it does not say of each which components it has.
+/// The text of a partition with the processes of a plan. `None` if a process has no components in
+/// the plan.
 fn partition_text(alloc: Global, plan: &Value) -> Result<Option<Vec<u8>>, AllocError> {
     let Some(processes) = plan.get("processes").and_then(Value::as_array) else {
         return Ok(None);

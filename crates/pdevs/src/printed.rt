@@ -1,4 +1,4 @@
-//! Printing through a writer that keeps why a write failed.
+//! Prints through a writer that keeps the cause of a failed write.
 
 use crate::lines::Lines;
 use crate::noted::Noted;
@@ -11,16 +11,16 @@ use std::io;
 use std::io::{Printer, Write};
 use std::time::Clock;
 
-/// What became of something that was to be printed.
+/// How printing something ended.
 #[derive(Drop)]
 pub struct Printed<T, E> {
-    /// What the printing answered.
+    /// The result of the call that printed it.
     pub result: Result<T, E>,
-    /// Why the first write that failed did, where one did.
+    /// The error of the first failed write, if one failed.
     pub reason: Option<io::Error>,
 }
 
-/// Prints what `print` writes. Where not all of it could be written, that is an error, too.
+/// Prints what `print` writes. If not all of it can be written, the result is `WriteError::Write`.
 pub fn print_through<'a, R, T, E, F>(rt: &'a R, print: F) -> Printed<T, E>
 where
     R: Print,
@@ -40,7 +40,7 @@ where
     }
 }
 
-/// Prints the lines that `print` writes, as `print_through` does, and tells how far they are.
+/// Prints the lines that `print` writes, as `print_through` does, and the progress.
 pub fn print_lines<'a, R, T, E, F>(
     rt: &'a R,
     progress: Option<Progress<'a, R>>,
@@ -72,7 +72,8 @@ where
 }
 
 impl<T> Printed<T, ViewError> {
-    /// The status where a view was to be printed. Why there is none, or not all of it, is told.
+    /// The status of printing a view. If the view is not complete, a message with the cause is
+    /// printed.
     pub fn status<R: AllocGlobal + Eprint>(
         &self,
         rt: &R,
@@ -91,7 +92,7 @@ impl<T> Printed<T, ViewError> {
 }
 
 impl<T, E> Printed<T, E> {
-    /// Tells why a write failed, where one did and that is to be explained.
+    /// Prints the error of the first failed write, if one failed and errors are explained.
     pub fn tell_reason<R: Eprint>(&self, rt: &R, is_explained: bool) {
         if let Some(error) = &self.reason
             && is_explained

@@ -1,25 +1,26 @@
-//! How far a run is, told while it goes on.
+//! The progress of a run.
 
 use crate::told::tell_line;
 use std::fmt;
 use std::time::{Clock, Duration, Instant};
 
-/// Tells once a second how far the lines of a trace have come, on standard error. It counts lines and looks at the clock when they are
-/// written, many at once, so that a line costs next to nothing.
+/// Prints once a second, on standard error, how many lines of a trace are written, and the tick of
+/// the last one. Lines are counted, and the clock is read, when they are written. Many are written
+/// at once, so this takes hardly any time.
 #[derive(Drop)]
 pub struct Progress<'a, R> {
     rt: &'a R,
     began: Instant,
-    /// When the next line is told, as time since the begin.
+    /// When the next message is due, as time since the begin.
     due: Duration,
-    /// The lines that have ended.
+    /// The number of lines that have ended.
     lines: u64,
     /// Whether the next byte begins a line.
     begins_line: bool,
 }
 
 impl<'a, R: Clock + Eprint> Progress<'a, R> {
-    /// Begins now; `None` where the clock can't be read, and nothing is told then.
+    /// Begins now. `None` if the clock can't be read.
     pub fn begin(rt: &'a R) -> Option<Self> {
         Some(Progress {
             rt,
@@ -30,7 +31,7 @@ impl<'a, R: Clock + Eprint> Progress<'a, R> {
         })
     }
 
-    /// Counts the lines that end in bytes that were written, and tells how far they are where a second has passed.
+    /// Counts the lines that end in bytes that were written, and prints a message if it is due.
     pub fn add(&mut self, bytes: &[u8]) {
         self.lines = self.lines.saturating_add(line_ends(bytes));
         if let Some(elapsed) = self.elapsed_if_due()
@@ -43,7 +44,7 @@ impl<'a, R: Clock + Eprint> Progress<'a, R> {
         }
     }
 
-    /// The time since the begin, where a line is to be told.
+    /// The time since the begin, if a message is due.
     fn elapsed_if_due(&self) -> Option<Duration> {
         let elapsed = self.began.elapsed(self.rt).ok()?;
         if elapsed >= self.due {
@@ -53,7 +54,7 @@ impl<'a, R: Clock + Eprint> Progress<'a, R> {
         }
     }
 
-    /// Tells a tick and the lines, and waits for the next second.
+    /// Prints a message. The next one is due a second later.
     fn tell(&mut self, elapsed: Duration, tick: u64) {
         let seconds = elapsed.as_secs();
         let tenths = elapsed.subsec_millis() / 100;
@@ -66,11 +67,11 @@ impl<'a, R: Clock + Eprint> Progress<'a, R> {
     }
 }
 
-/// How many bytes are looked at together: no more than a byte counts, so that the sum below stays in bytes, of which a processor adds
-/// many at once.
+/// The number of bytes in which line feeds are counted at once. They are no more than a byte can
+/// count, so that the sum fits a byte and the processor adds many bytes at once.
 const PIECE_LENGTH: usize = 240;
 
-/// How many lines end in some bytes.
+/// The number of lines that end in some bytes.
 fn line_ends(bytes: &[u8]) -> u64 {
     let mut ended: u64 = 0;
     for piece in bytes.chunks(PIECE_LENGTH) {
@@ -83,10 +84,11 @@ fn line_ends(bytes: &[u8]) -> u64 {
     ended
 }
 
-/// The tick of the last line that ends in some bytes, where all of it is there, and it begins with a time.
+/// The tick of the last line that ends in some bytes. `None` if the beginning of the line is not
+/// among them, or is no time.
 fn last_tick(bytes: &[u8], begins_line: bool) -> Option<u64> {
     let mut pieces = bytes.rsplit(|byte| *byte == b'\n');
-    // The first piece is what stands behind the last line feed.
+    // The first piece is the text after the last line feed.
     pieces.next()?;
     let line = pieces.next()?;
     if pieces.next().is_none() && !begins_line {
@@ -96,11 +98,11 @@ fn last_tick(bytes: &[u8], begins_line: bool) -> Option<u64> {
     tick.parse().ok()
 }
 
-/// A number with a comma between each three digits and the next.
+/// A number, displayed with a comma after each group of three digits.
 #[derive(Clone, Copy)]
 struct Grouped(u64);
 
-/// What a group of three digits counts, from the first group of the greatest number on.
+/// The units of the groups of three digits, from the greatest one on.
 const UNITS: [u64; 7] = [
     1_000_000_000_000_000_000,
     1_000_000_000_000_000,

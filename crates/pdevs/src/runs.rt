@@ -1,4 +1,4 @@
-//! Runs of models.
+//! The subcommand `run`.
 
 use crate::faulted::tell_faults;
 use crate::files::{read, read_inputs, read_parting};
@@ -17,23 +17,27 @@ use std::sync::Wait;
 use std::thread::Threads;
 use std::time::Clock;
 
-/// The packets that a link between processes holds.
+/// The capacity of a link between two processes, in packets.
 const LINK_CAPACITY: u32 = 16;
 
-/// What is run.
+/// A model to run, and how.
 #[derive(Clone, Copy)]
 pub struct Job<'a> {
     /// The model and its inputs.
     pub texts: Texts<'a>,
     /// How the model is divided.
     pub groups: Partition<'a>,
-    /// How far to run, and how.
+    /// The horizon and how the processes are driven.
     pub options: &'a Options,
-    /// Whether a refusal or a failure is explained.
+    /// Whether errors are explained.
     pub is_explained: bool,
 }
 
-/// Runs a job, by workers where there are some, and writes its trace.
+/// Runs a job, by workers or in rounds, and writes its trace.
+///
+/// # Errors
+///
+/// The same as for `run_bytes` of `dv_job`.
 pub fn run_job<R: AllocGlobal + Threads + Wait + Sync, W: Write>(
     rt: &R,
     job: &Job<'_>,
@@ -47,7 +51,8 @@ pub fn run_job<R: AllocGlobal + Threads + Wait + Sync, W: Write>(
     }
 }
 
-/// Runs a job, prints its trace, and answers the status. Why not all of it is printed is told.
+/// Runs a job, prints its trace, and returns the status. If not all of it is printed, a message
+/// with the cause is printed.
 fn print_trace<'a, R: AllocGlobal + Clock + Print + Eprint + Threads + Wait + Sync>(
     rt: &'a R,
     job: &Job<'_>,
@@ -61,7 +66,12 @@ fn print_trace<'a, R: AllocGlobal + Clock + Print + Eprint + Threads + Wait + Sy
     status(&printed.result)
 }
 
-/// Runs what was asked for, and answers the status. Files are read in the order model, partition, inputs.
+/// Runs a model, prints its trace or its numbers, and returns the status. Files are read in the
+/// order model, partition, inputs.
+///
+/// # Errors
+///
+/// An allocation was refused.
 pub fn run_model<R: AllocGlobal + Clock + Files + Input + Print + Eprint + Threads + Wait + Sync>(
     rt: &R,
     run: &Run,

@@ -1,9 +1,10 @@
-//! Standard input in the place of several files.
+//! Standard input that is named for several files.
 
 use crate::files::STANDARD_INPUT;
 use dv_command::{PartitionChoice, Request, TraceFiles};
 
-/// Whether a request names standard input for more than one file. It can be read once: the second file would be empty.
+/// Whether a request names standard input for more than one file. It can be read only once, so the
+/// second file would be empty.
 pub fn shares_standard_input(request: &Request) -> bool {
     match request {
         Request::Run(run) => {
@@ -44,7 +45,7 @@ fn is_standard_input(name: Option<&String>) -> bool {
     }
 }
 
-/// The file of a partition, where one is chosen.
+/// The file of a partition, if one is chosen.
 fn file_of(choice: Option<&PartitionChoice>) -> Option<&String> {
     match choice {
         Some(PartitionChoice::File(name)) => Some(name),

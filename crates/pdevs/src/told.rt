@@ -1,4 +1,4 @@
-//! What is told on standard error.
+//! Prints on standard error.
 
 use dv_cause::{Source, explained};
 use dv_job::JobError;
@@ -7,36 +7,37 @@ use std::fmt::Display;
 use std::io;
 use std::io::ErrorKind;
 
-/// The texts of which a refusal can be.
+/// The texts that may be refused.
 #[derive(Clone, Copy)]
 pub struct Texts<'a> {
     /// The text of the model.
     pub model: Source<'a>,
-    /// It has no name and no bytes where there are no inputs.
+    /// The text of the inputs. Its name and its bytes are empty if there are no inputs.
     pub inputs: Source<'a>,
 }
 
-/// Tells a line. Where it cannot be written, the status alone tells.
+/// Prints a message as a line. A failed write is ignored, since the exit status still shows that
+/// there was an error.
 pub fn tell_line<R: Eprint>(rt: &R, line: impl Display + Drop) {
     let _ = eprintln!(rt; "pdevs: {line}");
 }
 
-/// Tells a text as it stands.
+/// Prints a text as it is.
 pub fn tell_text<R: Eprint>(rt: &R, text: &str) {
     let _ = eprint!(rt; "{text}");
 }
 
-/// Tells that a file cannot be read, and why.
+/// Prints that a file can't be read, and why.
 pub fn tell_unread<R: Eprint>(rt: &R, name: &str, error: &io::Error) {
     tell_line(rt, format_args!("cannot read {name}: {error}"));
 }
 
-/// Tells why the system failed, in its words.
+/// Prints an error of the system.
 pub fn tell_reason<R: Eprint>(rt: &R, error: &io::Error) {
     let _ = eprintln!(rt; "{error}");
 }
 
-/// Tells that the system failed, and why if that is to be explained.
+/// Prints the message for an error of the system, followed by the error itself if it is explained.
 pub fn tell_failure<R: Eprint>(rt: &R, error: &io::Error, is_explained: bool) {
     let failure = failure(error);
     let is_written = matches!(failure, JobError::Write);
@@ -46,7 +47,7 @@ pub fn tell_failure<R: Eprint>(rt: &R, error: &io::Error, is_explained: bool) {
     }
 }
 
-/// What is told where the system failed.
+/// The message for an error of the system: memory, or else a failed write.
 fn failure(error: &io::Error) -> JobError {
     match error.kind() {
         ErrorKind::OutOfMemory => JobError::Memory,
@@ -54,7 +55,7 @@ fn failure(error: &io::Error) -> JobError {
     }
 }
 
-/// Tells an error: its line, and where it is to be explained and memory suffices, what it means.
+/// Prints the message of an error, and its explanation if it is asked for and memory suffices.
 pub fn tell_error<R: AllocGlobal + Eprint>(
     rt: &R,
     texts: Texts<'_>,
@@ -70,7 +71,7 @@ pub fn tell_error<R: AllocGlobal + Eprint>(
     }
 }
 
-/// Tells why there is no view.
+/// Prints why a view is not complete.
 pub fn tell_view_error<R: AllocGlobal + Eprint>(
     rt: &R,
     texts: Texts<'_>,
@@ -79,6 +80,9 @@ pub fn tell_view_error<R: AllocGlobal + Eprint>(
 ) {
     match error {
         ViewError::Job(error) => tell_error(rt, texts, error, is_explained),
-        refusal => tell_line(rt, refusal),
+        ViewError::Unread(_)
+        | ViewError::Trace(_)
+        | ViewError::NoPath(_)
+        | ViewError::NoPhases(_) => tell_line(rt, error),
     }
 }

@@ -1,4 +1,4 @@
-//! What is asked of a trace and its model.
+//! The subcommands `vcd`, `stats` and `table`.
 
 use crate::files::{OpenedFile, open, open_seekable, read, read_inputs, read_trace};
 use crate::numbers::stats_options;
@@ -22,7 +22,8 @@ fn end_of(files: &TraceFiles) -> End {
     }
 }
 
-/// The status where a view of a trace was to be printed. That the trace has no end is told, and how far it reaches.
+/// The status of printing a view of a trace. If the trace has no end, a message says how far it
+/// reaches.
 fn status_of_view<R: AllocGlobal + Eprint>(
     rt: &R,
     texts: Texts<'_>,
@@ -37,7 +38,8 @@ fn status_of_view<R: AllocGlobal + Eprint>(
     printed.status(rt, texts, is_explained)
 }
 
-/// The same where the trace, which has this name, was read while its view was made. That it can't be read is told.
+/// The same as `status_of_view`, for a trace that was read while its view was made. If it can't be
+/// read, a message with its name and the cause is printed.
 fn status_of_read_view<R: AllocGlobal + Eprint>(
     rt: &R,
     name: &str,
@@ -52,7 +54,8 @@ fn status_of_read_view<R: AllocGlobal + Eprint>(
     status_of_view(rt, texts, printed, is_explained)
 }
 
-/// What a tick is, where that is given, and else a second; `None` where the text is no timescale, which is told.
+/// The length of a tick: the one that is given, or a second. `None` if the text is no timescale: a
+/// message says so then.
 fn timescale_of<R: Eprint>(rt: &R, text: Option<&String>) -> Option<Timescale> {
     let Some(text) = text else {
         return Some(Timescale::SECOND);
@@ -66,8 +69,13 @@ fn timescale_of<R: Eprint>(rt: &R, text: Option<&String>) -> Option<Timescale> {
     }
 }
 
-/// Prints the value change dump that was asked for, and answers the status. Files are read in the order model, trace, inputs; but a
-/// trace that is a regular file is only opened then, and is read twice, piece by piece, once the model and the inputs are accepted.
+/// Prints the value change dump of a trace, and returns the status. Files are read in the order
+/// model, trace, inputs. But a trace that is a regular file is only opened then; it is read twice,
+/// piece by piece, after the model and the inputs are accepted.
+///
+/// # Errors
+///
+/// An allocation was refused.
 pub fn dump_trace<R: AllocGlobal + Files + Input + Print + Eprint>(
     rt: &R,
     waves: &Waves,
@@ -99,8 +107,13 @@ pub fn dump_trace<R: AllocGlobal + Files + Input + Print + Eprint>(
     Ok(status_of_read_view(rt, name, texts, &printed, files.explained))
 }
 
-/// Prints the numbers that were asked for, and answers the status. Files are read in the order model, trace; the trace is read piece
-/// by piece, as it is counted, and its first piece before the model is checked.
+/// Prints the numbers of a trace, and returns the status. Files are read in the order model, trace.
+/// The first piece of the trace is read before the model is checked, and the others as they are
+/// counted.
+///
+/// # Errors
+///
+/// An allocation was refused.
 pub fn count_trace<R: AllocGlobal + Files + Input + Print + Eprint>(
     rt: &R,
     stats: &Stats,
@@ -120,7 +133,12 @@ pub fn count_trace<R: AllocGlobal + Files + Input + Print + Eprint>(
     Ok(status_of_read_view(rt, name, model.texts(), &printed, files.explained))
 }
 
-/// Prints the table that was asked for, and answers the status. Files are read in the order model, trace, inputs.
+/// Prints the table of a trace, and returns the status. Files are read in the order model, trace,
+/// inputs.
+///
+/// # Errors
+///
+/// An allocation was refused.
 pub fn tabulate_trace<R: AllocGlobal + Files + Input + Print + Eprint>(
     rt: &R,
     table: &Table,
