@@ -1,4 +1,4 @@
-//! The links, as edges.
+//! The edges of `write_graph`.
 
 use crate::graph_text::GraphText;
 use crate::pieces::{Escaped, input_name, output_name};
@@ -9,7 +9,11 @@ use dv_text::WriteError;
 use std::fmt;
 use std::io::Write;
 
-/// Writes all links. With groups those that lead to another process are dashed.
+/// Writes all links as edges. With groups, links to another process are dashed.
+///
+/// # Errors
+///
+/// As of `write_graph`.
 pub(crate) fn write_links<W: Write>(
     scene: Scene<'_>,
     links: &LinkLists,
@@ -38,7 +42,7 @@ fn write_entries<W: Write>(
     Ok(())
 }
 
-// Writes the links from component to component.
+// Writes the links between components.
 fn write_direct<W: Write>(
     scene: Scene<'_>,
     links: &[DirectLink],
@@ -89,7 +93,7 @@ pub(crate) fn is_crossing(groups: Option<&Groups>, link: &DirectLink) -> bool {
     }
 }
 
-// The copies of a link, where they are more than one.
+// The number of copies of a link, displayed if there are several.
 #[derive(Clone, Copy)]
 struct Copies(u64);
 

@@ -4,10 +4,14 @@ use dv_syntax::{BagCall, Expr, Operator, Prefix};
 use dv_tree::Tree;
 use std::alloc::{AllocError, Global};
 
-/// The most characters that are shown of an expression.
+/// The greatest number of characters that is shown of an expression.
 const SHOWN: usize = 40;
 
-/// An expression, which is cut off where it is long.
+/// The text of an expression, cut off after `SHOWN` characters.
+///
+/// # Errors
+///
+/// Memory is refused.
 pub(crate) fn short_text(
     alloc: Global,
     tree: &Tree,
@@ -18,7 +22,11 @@ pub(crate) fn short_text(
     cut_off(alloc, text)
 }
 
-/// That an expression is false, which is cut off where it is long.
+/// The text of the negation of an expression, cut off after `SHOWN` characters.
+///
+/// # Errors
+///
+/// Memory is refused.
 pub(crate) fn short_negation(
     alloc: Global,
     tree: &Tree,
@@ -96,7 +104,7 @@ fn prefix_word(operator: Prefix) -> &'static str {
     }
 }
 
-// With a blank on each side.
+// The operator with a blank on each side.
 fn operator_word(operator: Operator) -> &'static str {
     match operator {
         Operator::Or => " or ",

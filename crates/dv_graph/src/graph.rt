@@ -13,15 +13,18 @@ use dv_tree::Tree;
 use std::alloc::Global;
 use std::io::Write;
 
-/// Writes a model as a graph in the DOT language. A component is a node with the name of its part and that of its model, in the
-/// clusters of the coupled models around it; the ports of the root are nodes of their own. An edge is a link between ports of
-/// components, or to or from those of the root, through whatever coupled models it leads. Ports that no link takes are told in grey.
-/// With groups the components of a process have one colour, and the links to another process are dashed.
+/// Writes a model as a graph in the DOT language.
+///
+/// A component is a node, labelled with the names of its part and its model, in the clusters of the
+/// coupled models around it. The ports of the root are nodes too. An edge is a link between ports
+/// of components, or from an input or to an output of the root, with no regard to the coupled
+/// models through which it leads. Unlinked ports are shown in grey. With `groups` all components of
+/// a process have the same colour, and links to another process are dashed.
 ///
 /// # Errors
 ///
-/// `WriteError::Write` where a write failed or took nothing, `WriteError::Memory` where memory was refused. A
-/// beginning of the graph was written then, and not all of it.
+/// `WriteError::Write` if a write fails or takes nothing, `WriteError::Memory` if memory is
+/// refused. Then only a part of the graph is written, from its beginning on.
 pub fn write_graph<W: Write>(
     alloc: Global,
     tree: &Tree<'_>,
@@ -51,7 +54,7 @@ fn write_scene<W: Write>(
     text.end()
 }
 
-// Writes the nodes of the parts, at all depths.
+// Writes the nodes of the components, at all depths.
 fn write_all_nodes<W: Write>(
     scene: Scene<'_>,
     text: &mut GraphText<'_, W>,

@@ -1,4 +1,4 @@
-//! The links of an overview.
+//! The edges of an overview.
 
 use crate::edges::is_crossing;
 use crate::nodes::Nodes;
@@ -6,19 +6,24 @@ use crate::scene::Scene;
 use dv_flat::LinkLists;
 use std::alloc::AllocError;
 
-/// Links from one node to another, by the indices of these.
+/// All links from one node to another. Nodes are given by index.
 #[derive(Clone, Copy)]
 pub(crate) struct JoinedLinks {
     pub(crate) from: u32,
     pub(crate) to: u32,
-    /// How many they are, each counted as often as it has copies.
+    /// How many links they are, each counted once for each of its copies.
     pub(crate) count: u64,
     /// Whether one of them leads to another process.
     pub(crate) is_crossing: bool,
 }
 
-/// The links between different nodes, and from a component to itself, joined: those from the root's inputs, between components, and
-/// to the root's outputs, each ascending by indices.
+/// All links between different nodes, and from a component to itself, joined: first the links from
+/// the root's inputs, then those between components, then those to the root's outputs. Each of
+/// these lists ascends by the indices of the nodes.
+///
+/// # Errors
+///
+/// Memory is refused.
 pub(crate) fn joined_links(
     scene: Scene<'_>,
     links: &LinkLists,
@@ -86,7 +91,7 @@ fn exits_of(
     Ok(exits)
 }
 
-// Adds links in ascending order, and joins those with the same ends.
+// Adds links in ascending order, and joins links with the same ends.
 fn join(mut links: Vec<JoinedLinks>, joined: &mut Vec<JoinedLinks>) -> Result<(), AllocError> {
     links.sort_unstable_by_key(|links| (links.from, links.to));
     for more in &links {

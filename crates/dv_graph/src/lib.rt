@@ -1,43 +1,43 @@
 //! A model as a graph in the DOT language of Graphviz.
 //!
-//! `write_graph` draws each component as a node within the clusters of its coupled models, and each link as an edge.
-//! `write_overview` draws a model down to a depth, with one edge for all links between two boxes. `write_phases`
-//! draws the phases of one atomic model, with the rules that go from one to another. The groups of a partition show
-//! as colours.
+//! `write_graph` draws each component as a node, inside of the clusters of its coupled models, and
+//! each link as an edge. `write_overview` draws a model down to a depth, with one edge for all
+//! links between two boxes. `write_phases` draws the phases of one atomic model, and the rules that
+//! lead from one to another. The processes of a partition are shown as colours.
 //!
-//! `dv_views` calls these for `pdevs graph`. Nothing is claimed of a graph but that it is made without a fault of the
-//! program, and nothing is laid out here: Graphviz does that.
+//! `dv_views` calls these for `pdevs graph`. It is proved that they are safe and return, and
+//! nothing about the graphs themselves. This crate computes no positions: Graphviz does.
 #![tactic(auto)]
 
-/// The links.
+/// The edges of `write_graph`.
 mod edges;
 /// Expressions as text.
 mod expressions;
-/// The door: the graph of a model, given to a writer.
+/// The graph of a model, with all components.
 pub mod graph;
-/// The text of a graph, and the writer that gets it.
+/// The text of a graph, and the writer to which it goes.
 mod graph_text;
-/// The links of an overview.
+/// The edges of an overview.
 mod joined;
 /// The nodes, in clusters.
 mod nodes;
-/// Counts as numbers of nodes, ports and components.
+/// The numbers of nodes, ports and components.
 mod number;
-/// Another door: an overview of a model.
+/// An overview of a model.
 pub mod overview;
-/// The third door: the phases of an atomic model.
+/// The phases of an atomic model.
 pub mod phases;
-/// Pieces of the text.
+/// Names, labels and indentation.
 mod pieces;
 /// The processes of nodes.
 mod processes;
-/// In which rows of a picture nodes stand.
+/// The rows into which a long line of nodes is broken.
 mod rows;
 /// What the rules of an atomic model do.
 mod rules;
 /// What is drawn of a model.
 mod scene;
-/// Ports that no link takes.
+/// Unlinked ports.
 mod unlinked;
 
 pub use graph::write_graph;

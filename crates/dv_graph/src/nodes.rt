@@ -1,4 +1,4 @@
-//! The nodes of components and of coupled models, in the clusters of the coupled models around them.
+//! The nodes of components and of coupled models, inside of clusters.
 
 use crate::graph_text::GraphText;
 use crate::number::number_of;
@@ -13,13 +13,16 @@ use std::alloc::{AllocError, Global};
 use std::fmt;
 use std::io::Write;
 
-/// What a node stands for. It is displayed as the node's name.
+/// What a node shows. `Display` writes the name of the node.
 #[derive(Clone, Copy)]
 pub(crate) enum Node {
+    /// A component, by its number.
     Component(u32),
-    /// A coupled model that is drawn as one box, by its number among these.
+    /// A coupled model that is drawn as one box, by its number among the boxes.
     Box(u32),
+    /// An input port of the root, by its index.
     Input(u32),
+    /// An output port of the root, by its index.
     Output(u32),
 }
 
@@ -34,13 +37,16 @@ impl fmt::Display for Node {
     }
 }
 
-/// The nodes so far, and of each component so far the index of its node.
+/// The nodes that are written so far, and which of them has which component.
 #[derive(Drop)]
 pub(crate) struct Nodes {
     pub(crate) nodes: Vec<Node>,
-    /// Of each node the number of the part of the root in which it is; ports count as parts.
+    /// For each node, the number of the part of the root in which it is. A port of the root counts
+    /// as a part.
     pub(crate) parts: Vec<u32>,
+    // The number of the current part of the root.
     part: u32,
+    // For each component, the index of its node.
     indices: Vec<u32>,
     boxes: u32,
     clusters: u32,
@@ -49,7 +55,7 @@ pub(crate) struct Nodes {
 }
 
 impl Nodes {
-    /// No nodes.
+    /// No nodes yet.
     pub(crate) fn new(alloc: Global) -> Self {
         Nodes {
             nodes: Vec::new(alloc),
@@ -63,17 +69,17 @@ impl Nodes {
         }
     }
 
-    /// The index of the node in which a component is.
+    /// The index of the node that shows a component: its own node or a box.
     pub(crate) fn index_of(&self, component: u32) -> u32 {
         self.indices.get(component as usize).copied().unwrap_or(0)
     }
 
-    /// Whether the node at an index is one component.
+    /// Whether the node at an index is a component, not a box or a port.
     pub(crate) fn is_component(&self, index: u32) -> bool {
         matches!(self.nodes.get(index as usize), Some(Node::Component(_)))
     }
 
-    // Another part of the root begins.
+    // Begins the next part of the root.
     fn begin_part(&mut self) {
         self.part = self.part.saturating_add(1);
     }
@@ -84,7 +90,7 @@ impl Nodes {
         Ok(())
     }
 
-    // A node for the next component, whose number is returned.
+    // Adds a node for the next component, and returns the component's number.
     fn add_component(&mut self) -> Result<u32, AllocError> {
         let component = number_of(self.indices.len());
         self.indices.push(number_of(self.nodes.len()))?;
@@ -92,7 +98,7 @@ impl Nodes {
         Ok(component)
     }
 
-    // A node for a box of the next so many components, which is returned.
+    // Adds a box for the next components, and returns it.
     fn add_box(&mut self, components: usize) -> Result<Node, AllocError> {
         let index = number_of(self.nodes.len());
         for _component in 0..components {
@@ -104,7 +110,7 @@ impl Nodes {
         Ok(node)
     }
 
-    // The number of the next cluster.
+    // Returns the number of the next cluster, and counts it.
     fn add_cluster(&mut self) -> u32 {
         let number = self.clusters;
         self.clusters = number.saturating_add(1);
@@ -112,6 +118,10 @@ impl Nodes {
     }
 
     /// Adds nodes for the ports of the root, inputs before outputs.
+    ///
+    /// # Errors
+    ///
+    /// Memory is refused.
     pub(crate) fn add_ports(&mut self, inputs: usize, outputs: usize) -> Result<(), AllocError> {
         self.first_input = number_of(self.nodes.len());
         for port in 0..inputs {
@@ -137,8 +147,13 @@ impl Nodes {
     }
 }
 
-/// Writes the parts of a coupled model: a node for a component, and a cluster for a coupled model, or one box where no more levels
-/// are shown. There may be levels to a depth below.
+/// Writes the parts of a coupled model. A component is a node. A coupled model is a cluster with
+/// its parts, or one box if `shown` is 1. `shown` is how many levels are shown, `depth` how many
+/// there can be at most.
+///
+/// # Errors
+///
+/// As of `write_graph`.
 pub(crate) fn write_nodes<W: Write>(
     scene: Scene<'_>,
     level: &Level,
@@ -166,7 +181,7 @@ pub(crate) fn write_nodes<W: Write>(
     Ok(())
 }
 
-// The front of the cluster of this number.
+// Begins a cluster.
 fn put_cluster_front<W: Write>(
     scene: Scene<'_>,
     part: &ResolvedPart,
@@ -183,7 +198,7 @@ fn put_cluster_front<W: Write>(
     ))
 }
 
-// A part that is a coupled model, as one box, or a component.
+// Writes a part as one node: a component, or a coupled model as a box.
 fn put_part<W: Write>(
     scene: Scene<'_>,
     part: &ResolvedPart,
@@ -203,7 +218,11 @@ fn put_part<W: Write>(
     }
 }
 
-/// The root as one box.
+/// Writes the root as one box.
+///
+/// # Errors
+///
+/// As of `write_graph`.
 pub(crate) fn put_root_box<W: Write>(
     scene: Scene<'_>,
     nodes: &mut Nodes,
@@ -214,7 +233,7 @@ pub(crate) fn put_root_box<W: Write>(
     put_box(scene, label, scene.tree.component_count(), nodes, text)
 }
 
-// A box of the next so many components.
+// Writes a box for the next `count` components.
 fn put_box<L: fmt::Display + Drop, W: Write>(
     scene: Scene<'_>,
     label: L,
@@ -232,7 +251,7 @@ fn put_box<L: fmt::Display + Drop, W: Write>(
     ))
 }
 
-// The node of a component. What of its ports is unlinked is told in grey, where something is.
+// Writes the node of a component. Its unlinked ports are named in grey, if it has any.
 fn put_component<W: Write>(
     scene: Scene<'_>,
     label: PartLabel<'_>,
@@ -250,7 +269,8 @@ fn put_component<W: Write>(
     }
 }
 
-// The node of a component with unlinked ports. Its label is HTML; no name has a character that means something there.
+// Writes the node of a component with unlinked ports. Its label is HTML; no name has a character
+// that has a meaning in HTML.
 fn put_unlinked<W: Write>(
     component: u32,
     label: PartLabel<'_>,
@@ -263,7 +283,7 @@ fn put_unlinked<W: Write>(
     text.put(format_args!("c{component} [label=<{label}{line}{ports}>{colour}];\n"))
 }
 
-// How many components a coupled model holds, at any level.
+// How many components a coupled model has, at all levels below it.
 fn components_in(levels: &[Option<Level>], level: &Level, depth: usize) -> usize {
     if depth == 0 {
         return 0;

@@ -15,16 +15,19 @@ use std::alloc::Global;
 use std::fmt;
 use std::io::Write;
 
-/// Writes an overview of a model as a graph in the DOT language. The root is at depth 0, its parts are at depth 1. A coupled model
-/// at the depth that is given is one box, which tells how many components it holds; above it models are drawn as `write_graph`
-/// draws them. All links from one node to another are one edge, which tells how many they are, each counted as often as it has
-/// copies, where they are several; those inside of a box are not drawn. A long line of nodes is broken into rows. With groups a box
-/// whose components are in one process has its colour, and an edge is dashed where one of its links leads to another process.
+/// Writes an overview of a model as a graph in the DOT language.
+///
+/// The root is at depth 0, its parts are at depth 1. A coupled model at `depth` is one box,
+/// labelled with the number of its components. What is above that depth is drawn as by
+/// `write_graph`. All links from one node to another are one edge. If there are several, counted
+/// with their copies, their number is its label. Links inside of a box are not drawn. A long line
+/// of nodes is broken into rows. With `groups` a box whose components are all in one process has
+/// the colour of this process, and an edge is dashed if one of its links leads to another process.
 ///
 /// # Errors
 ///
-/// `WriteError::Write` where a write failed or took nothing, `WriteError::Memory` where memory was refused. A
-/// beginning of the graph was written then, and not all of it.
+/// `WriteError::Write` if a write fails or takes nothing, `WriteError::Memory` if memory is
+/// refused. Then only a part of the graph is written, from its beginning on.
 pub fn write_overview<W: Write>(
     alloc: Global,
     tree: &Tree<'_>,
@@ -65,7 +68,7 @@ fn write_scene<W: Write>(
     text.end()
 }
 
-// Writes the nodes of the root, or of its parts.
+// Writes the root as one box, or the nodes of its parts.
 fn write_inside<W: Write>(
     scene: Scene<'_>,
     depth: u64,
@@ -110,14 +113,14 @@ fn write_edges<W: Write>(
     Ok(())
 }
 
-// How an edge looks: as one link or more, and in which style.
+// The label and the style of an edge, by how many links it is.
 #[derive(Clone, Copy)]
 struct Looks {
     count: u64,
     style: &'static str,
 }
 
-// An edge between rows moves no node.
+// An edge between rows must not move nodes, so it is no constraint for Graphviz.
 fn style_of(is_crossing: bool, is_between_rows: bool) -> &'static str {
     match (is_crossing, is_between_rows) {
         (false, false) => "",

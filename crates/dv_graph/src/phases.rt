@@ -10,7 +10,7 @@ use dv_tree::Tree;
 use std::alloc::{AllocError, Global};
 use std::io::Write;
 
-/// What a diagram shows.
+/// What a diagram shows, and where names are looked up.
 #[derive(Clone, Copy)]
 struct Diagram<'d> {
     alloc: Global,
@@ -19,15 +19,18 @@ struct Diagram<'d> {
     phases: &'d [Name],
 }
 
-/// Writes the phases of an atomic model of a tree as a graph in the DOT language. A phase is a node with its hold and what its output
-/// rule sends; an arrow leads to the start from a point. Each `goto` of a rule is an edge, with the conditions and the loops around
-/// it, and so is a rule that may end without one: an internal rule solid, an external one dashed, a confluent one dotted. A phase
-/// whose hold ends and that has no internal rule begins again.
+/// Writes the phases of an atomic model of a tree as a graph in the DOT language.
+///
+/// A phase is a node with its hold and with what its output rule sends. An arrow from a point leads
+/// to the start phase. Each `goto` of a rule is an edge, labelled with the conditions and the loops
+/// around it. A rule that may end without a `goto` is an edge from its phase to itself. Edges of
+/// internal rules are solid, of external rules dashed, of confluent rules dotted. A phase whose
+/// hold ends and that has no internal rule begins again, so it has an edge to itself.
 ///
 /// # Errors
 ///
-/// `WriteError::Write` where a write failed or took nothing, `WriteError::Memory` where memory was refused. A
-/// beginning of the graph was written then, and not all of it.
+/// `WriteError::Write` if a write fails or takes nothing, `WriteError::Memory` if memory is
+/// refused. Then only a part of the graph is written, from its beginning on.
 pub fn write_phases<W: Write>(
     alloc: Global,
     tree: &Tree<'_>,
@@ -64,7 +67,7 @@ fn write_diagram<W: Write>(
     text.end()
 }
 
-// The name of the model, and how nodes look.
+// Begins the graph: the name of the model, and the style of nodes and edges.
 fn put_front<W: Write>(
     diagram: Diagram<'_>,
     text: &mut GraphText<'_, W>,
@@ -92,7 +95,7 @@ fn write_nodes<W: Write>(
     Ok(())
 }
 
-// The hold of the phase with a name of this number.
+// Writes the hold of a phase, given by the number of its name.
 fn put_hold<W: Write>(
     diagram: Diagram<'_>,
     phase: u32,
@@ -117,7 +120,7 @@ fn ticks_of(atomic: &Atomic, phase: u32) -> Option<&Ticks> {
     None
 }
 
-// What the output rules of a phase send.
+// Writes what the output rule of a phase sends.
 fn put_sends<W: Write>(
     diagram: Diagram<'_>,
     phase: u32,
@@ -147,7 +150,7 @@ fn put_sends_of<W: Write>(
     Ok(())
 }
 
-// An arrow to the start.
+// Writes an arrow to the start phase.
 fn put_starts<W: Write>(
     diagram: Diagram<'_>,
     text: &mut GraphText<'_, W>,
@@ -160,7 +163,7 @@ fn put_starts<W: Write>(
     Ok(())
 }
 
-// Writes the edges of the rules, in their order.
+// Writes the edges of the rules, in the order of the text.
 fn write_edges<W: Write>(
     diagram: Diagram<'_>,
     text: &mut GraphText<'_, W>,
@@ -176,7 +179,7 @@ fn write_edges<W: Write>(
     Ok(())
 }
 
-// The edges of a rule of the phase at an index, which takes these steps.
+// Writes the edges of a rule. `from` is the index of its phase, `steps` is what the rule does.
 fn put_rule<W: Write>(
     diagram: Diagram<'_>,
     rule: &Rule,
@@ -209,7 +212,7 @@ fn put_edge<W: Write>(
     text.put(format_args!("\tp{from} -> p{to} [label=\"{word}{conditions}\"{style}];\n"))
 }
 
-// The word of a sort of rules, and the style of its edges.
+// The word for a sort of rules, and the style of its edges.
 fn looks_of(sort: RuleSort) -> (&'static str, &'static str) {
     match sort {
         RuleSort::Output => ("output", ""),
@@ -233,7 +236,7 @@ fn write_new_beginnings<W: Write>(
 }
 
 impl<'d> Diagram<'d> {
-    // The index of the phase with a name of this number.
+    // The index of a phase, given by the number of its name.
     fn index_of(self, phase: u32) -> Option<usize> {
         for (index, name) in self.phases.iter().enumerate() {
             if name.number == phase {
@@ -243,7 +246,7 @@ impl<'d> Diagram<'d> {
         None
     }
 
-    // How rules are read, with this in front of each condition.
+    // How rules are read, with `separator` before each condition.
     fn reading(self, separator: &'static str) -> Reading<'d> {
         Reading {
             alloc: self.alloc,
@@ -252,7 +255,7 @@ impl<'d> Diagram<'d> {
         }
     }
 
-    // Whether the hold of a phase ends, and it has no internal rule.
+    // Whether a phase has a hold that ends, and no internal rule.
     fn begins_again(self, phase: u32) -> bool {
         for rule in &self.atomic.rules {
             if rule.sort == RuleSort::Internal && rule.phase.number == phase {

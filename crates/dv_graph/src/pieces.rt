@@ -1,15 +1,15 @@
-//! Pieces of the text of a graph.
+//! Names, labels and indentation.
 
 use dv_check::GREATEST_DEPTH;
 use dv_syntax::Model;
 use dv_tree::{ResolvedPart, Tree};
 use std::fmt;
 
-/// As many tabs as the deepest line has: the label of a cluster at the greatest depth.
+/// As many tabs as the most indented line has: the label of a cluster at the greatest depth.
 const TABS: &str = "\t\t\t\t\t\t\t\t\t\t\t\t\t\t\t\t\t";
 
-/// A name in a quoted string. Names are of letters, digits and such, with no quote and no backslash; if there were one, a
-/// backslash would stand before it.
+/// A name inside of a quoted string. A quote or a backslash gets a backslash before it, though no
+/// name of a model has one.
 #[derive(Clone, Copy)]
 pub(crate) struct Escaped<'n>(pub(crate) &'n str);
 
@@ -27,7 +27,7 @@ impl fmt::Display for Escaped<'_> {
     }
 }
 
-/// The name of a part and that of its model.
+/// The name of a part and the name of its model.
 #[derive(Clone, Copy)]
 pub(crate) struct PartLabel<'t> {
     name: &'t str,
@@ -54,12 +54,12 @@ impl fmt::Display for PartLabel<'_> {
     }
 }
 
-/// How many tabs indent the lines of a level at which there may be so many levels below.
+/// How many tabs indent the lines of a level, if there can be at most `depth` levels from there on.
 pub(crate) fn tabs_at(depth: usize) -> usize {
     GREATEST_DEPTH.saturating_sub(depth).saturating_add(1)
 }
 
-/// So many tabs.
+/// A string of tabs.
 pub(crate) fn tabs(count: usize) -> &'static str {
     TABS.get(..count).unwrap_or(TABS)
 }
@@ -74,7 +74,7 @@ pub(crate) fn input_name<'t>(tree: &'t Tree<'_>, component: u32, port: u32) -> &
     port_name(tree, inputs_of(tree, component), port)
 }
 
-/// The names of the output ports of a component, by their numbers.
+/// The numbers of the names of a component's output ports.
 pub(crate) fn outputs_of<'t>(tree: &'t Tree<'_>, component: u32) -> &'t [u32] {
     let component = component as usize;
     if component < tree.component_count() {
@@ -84,7 +84,7 @@ pub(crate) fn outputs_of<'t>(tree: &'t Tree<'_>, component: u32) -> &'t [u32] {
     }
 }
 
-/// The names of the input ports of a component, by their numbers.
+/// The numbers of the names of a component's input ports.
 pub(crate) fn inputs_of<'t>(tree: &'t Tree<'_>, component: u32) -> &'t [u32] {
     let component = component as usize;
     if component < tree.component_count() {
@@ -94,7 +94,7 @@ pub(crate) fn inputs_of<'t>(tree: &'t Tree<'_>, component: u32) -> &'t [u32] {
     }
 }
 
-// The name of the port at an index of some ports.
+// The name of the port at an index, or nothing if there is no such port.
 fn port_name<'t>(tree: &'t Tree<'_>, ports: &[u32], port: u32) -> &'t str {
     match ports.get(port as usize) {
         Some(number) => tree.name(*number),

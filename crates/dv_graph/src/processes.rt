@@ -1,21 +1,22 @@
-//! The processes of nodes, as words and as colours.
+//! The processes of nodes, as text and as colours.
 
 use crate::number::number_of;
 use dv_partition::Groups;
 use std::fmt;
 
-/// Where the components of a node are.
+/// In which processes the components of a node are.
 #[derive(Clone, Copy)]
 pub(crate) enum Place {
     /// There is no partition.
     Undivided,
-    /// In one process of so many.
+    /// All in one process. `count` is the number of processes of the partition.
     Process { process: u32, count: u64 },
+    /// In several processes.
     Several,
 }
 
 impl Place {
-    /// Where so many components are, from a first one on.
+    /// The place of `count` components with successive numbers, of which `first` is the least.
     pub(crate) fn of(groups: Option<&Groups>, first: usize, count: usize) -> Self {
         let Some(groups) = groups else {
             return Place::Undivided;
@@ -33,7 +34,7 @@ impl Place {
     }
 }
 
-/// A line of a label on the process, behind a line break.
+/// The process of a node as a line of its label, with the line break before it.
 #[derive(Clone, Copy)]
 pub(crate) struct PlaceLine(pub(crate) &'static str, pub(crate) Place);
 
@@ -48,7 +49,8 @@ impl fmt::Display for PlaceLine {
     }
 }
 
-/// The colour of a node in one process, behind a comma. The processes share the circle of hues evenly.
+/// The colour of a node in one process, as an attribute with a comma before it. The hues of the
+/// processes are evenly spaced.
 #[derive(Clone, Copy)]
 pub(crate) struct Colour(pub(crate) Place);
 

@@ -1,23 +1,29 @@
-//! In which rows of a picture nodes stand. A long line is broken as a text is, so that a picture is not much wider than high.
+//! The rows into which a long line of nodes is broken, so that a picture is not much wider than
+//! high.
 
 use crate::joined::JoinedLinks;
 use std::alloc::{AllocError, Global};
 
-/// The most columns of a row.
+/// The greatest number of columns in a row.
 const ROW_LENGTH: u32 = 12;
 
-/// In which rows parts of a picture are drawn.
+/// The row of each part of the root.
 #[derive(Drop)]
 pub(crate) struct Rows<'n> {
-    // Of each node its part.
+    // The part of each node.
     parts: &'n [u32],
-    // Of each part its least column, as if there were one row.
+    // The least column of each part, as if there were one row.
     columns: Vec<u32>,
 }
 
 impl<'n> Rows<'n> {
-    /// The rows of nodes that are in these parts. In one row each node would stand behind those from which links lead to it, as far
-    /// as no circle of links is in the way. A part is drawn in the row in which its first node is then.
+    /// The rows of nodes whose parts are given. In a single row each node would come behind all
+    /// nodes from which links lead to it, except where links form a cycle. A part is drawn in the
+    /// row of its first node.
+    ///
+    /// # Errors
+    ///
+    /// Memory is refused.
     pub(crate) fn of(
         alloc: Global,
         parts: &'n [u32],
@@ -45,7 +51,7 @@ impl<'n> Rows<'n> {
     }
 }
 
-// So many nodes, each in its column.
+// The nodes, `count` of them, each with its column.
 fn placed_nodes(
     alloc: Global,
     count: usize,
@@ -56,17 +62,19 @@ fn placed_nodes(
     Ok(placing.nodes)
 }
 
-/// A node that stands in a column, or is still to be placed.
+/// A node and its column.
 #[derive(Clone, Copy)]
 struct PlacedNode {
+    // The column, or the least possible one while the node is not placed.
     column: u32,
     is_placed: bool,
-    // From how many nodes that are not placed links lead to it.
+    // How many links lead to it from nodes that are not placed.
     waiting: u32,
 }
 
 impl PlacedNode {
-    // A node from which a link leads here is placed: this one stands in a column at least. Whether it waits for no other node then.
+    // Notes that a node from which a link leads here is placed, so that this node is in `column` or
+    // behind it. Answers whether this node can be placed now.
     fn is_ready_behind(&mut self, column: u32) -> bool {
         if self.is_placed {
             return false;
@@ -81,9 +89,9 @@ impl PlacedNode {
 #[derive(Drop)]
 struct Placing {
     nodes: Vec<PlacedNode>,
-    // To which nodes links lead from each.
+    // The nodes to which links lead, for each node.
     targets: Vec<Vec<u32>>,
-    // The nodes that are not placed and wait for none.
+    // The nodes that are not placed and wait for no other node.
     ready: Vec<usize>,
 }
 
@@ -124,7 +132,8 @@ impl Placing {
         Ok(())
     }
 
-    // Those that wait for none, the first one last.
+    // Lists the nodes that wait for none. The first node comes last, since `next` takes the last
+    // one.
     fn find_ready(&mut self) -> Result<(), AllocError> {
         for (index, node) in self.nodes.iter().enumerate().rev() {
             if node.waiting == 0 {
@@ -134,7 +143,7 @@ impl Placing {
         Ok(())
     }
 
-    // The next node: one that waits for none, or the first one, where each waits for another.
+    // The next node to place: one that waits for none, or the first one if links form a cycle.
     fn next(&mut self) -> Option<usize> {
         match self.ready.pop() {
             Some(node) => Some(node),
@@ -142,7 +151,8 @@ impl Placing {
         }
     }
 
-    // Places a node. Those to which links lead stand behind it, where they are not placed.
+    // Places a node. The nodes to which links lead from it come behind it, unless they are placed
+    // already.
     fn place(&mut self, index: usize) -> Result<(), AllocError> {
         if let Some(node) = self.nodes.get_mut(index)
             && let Some(targets) = self.targets.get(index)

@@ -1,24 +1,25 @@
-//! What the rules of an atomic model do: where they go, and what they send.
+//! What the rules of an atomic model do: to which phases they go, and what they send.
 
 use crate::expressions::{short_negation, short_text};
 use dv_syntax::{Block, Command, Expr, Stmt};
 use dv_tree::Tree;
 use std::alloc::{AllocError, Global};
 
-/// What a statement of a rule does.
+/// What a statement of a rule does, if a diagram shows it.
 #[derive(Clone, Copy)]
 pub(crate) enum Deed<'a> {
-    /// It goes to the phase with a name of this number.
+    /// It goes to the phase with this name.
     GoTo(u32),
-    /// It sends the value of an expression by the port with a name of this number.
+    /// It sends the value of an expression from the port with this name.
     Send { port: u32, value: &'a Expr },
 }
 
-/// What a statement does, and under which conditions and in which loops.
+/// What a statement does, under which conditions and in which loops.
 #[derive(Drop)]
 pub(crate) struct Step<'a> {
     pub(crate) deed: Deed<'a>,
-    /// As words, the outermost first, each behind a separator.
+    /// The conditions and loops as text, from the outermost to the innermost, each after a
+    /// separator.
     pub(crate) conditions: String,
 }
 
@@ -27,26 +28,26 @@ pub(crate) struct Step<'a> {
 pub(crate) struct Reading<'r> {
     pub(crate) alloc: Global,
     pub(crate) tree: &'r Tree<'r>,
-    /// What stands in front of each condition.
+    /// The text before each condition or loop.
     pub(crate) separator: &'static str,
 }
 
 impl Reading<'_> {
-    // Conditions, and that an expression is true.
+    // The conditions, and the one that an expression is true.
     fn and_if(self, conditions: &str, condition: &Expr) -> Result<String, AllocError> {
         let separator = self.separator;
         let condition = short_text(self.alloc, self.tree, condition)?;
         format!(in self.alloc; "{conditions}{separator}if {condition}")
     }
 
-    // Conditions, and that an expression is false.
+    // The conditions, and the one that an expression is false.
     fn and_if_not(self, conditions: &str, condition: &Expr) -> Result<String, AllocError> {
         let separator = self.separator;
         let condition = short_negation(self.alloc, self.tree, condition)?;
         format!(in self.alloc; "{conditions}{separator}if {condition}")
     }
 
-    // Conditions, in a loop.
+    // The conditions, and a loop.
     fn and_for(self, conditions: &str, variable: u32, bag: u32) -> Result<String, AllocError> {
         let separator = self.separator;
         let variable = self.tree.name(variable);
@@ -55,7 +56,11 @@ impl Reading<'_> {
     }
 }
 
-/// The steps of a block.
+/// The steps of a block, in the order of the text.
+///
+/// # Errors
+///
+/// Memory is refused.
 pub(crate) fn steps_of<'a>(
     reading: Reading<'_>,
     block: &'a Block,
@@ -65,7 +70,7 @@ pub(crate) fn steps_of<'a>(
     Ok(steps)
 }
 
-// Adds the steps of a block that runs under these conditions.
+// Adds the steps of a block that runs under some conditions.
 #[cycle(steps)]
 fn add_steps<'a>(
     reading: Reading<'_>,

@@ -10,20 +10,24 @@ use dv_tree::Tree;
 use std::alloc::Global;
 use std::io::Write;
 
-/// What is drawn of a model.
+/// A model, and what is drawn of it.
 #[derive(Clone, Copy)]
 pub(crate) struct Scene<'s> {
     pub(crate) alloc: Global,
     pub(crate) tree: &'s Tree<'s>,
-    /// The processes, where there is a partition.
+    /// Which process has which components, if there is a partition.
     pub(crate) groups: Option<&'s Groups>,
     pub(crate) linked: &'s LinkedPorts,
-    /// Whether the node of a component names the ports that no link takes.
+    /// Whether the node of a component names its unlinked ports.
     pub(crate) names_unlinked: bool,
 }
 
-/// Puts what stands before the nodes of the parts: the name of the graph, how its nodes and edges look, with further settings, and
-/// the ports of the root.
+/// Begins a graph: its name, the style of nodes, further settings, and the nodes of the root's
+/// ports.
+///
+/// # Errors
+///
+/// As of `write_graph`.
 pub(crate) fn put_front<W: Write>(
     scene: Scene<'_>,
     settings: &str,
@@ -36,7 +40,7 @@ pub(crate) fn put_front<W: Write>(
     put_outputs(scene, text)
 }
 
-// The nodes of the root's inputs. Those that no link takes are grey.
+// Writes the nodes of the root's inputs. Unlinked ones are grey.
 fn put_inputs<W: Write>(scene: Scene<'_>, text: &mut GraphText<'_, W>) -> Result<(), WriteError> {
     for (port, name) in scene.tree.input_names(scene.alloc)?.iter().enumerate() {
         let colour = port_colour(scene.linked.has_root_input(number_of(port)));
@@ -48,7 +52,7 @@ fn put_inputs<W: Write>(scene: Scene<'_>, text: &mut GraphText<'_, W>) -> Result
     Ok(())
 }
 
-// The nodes of the root's outputs. Those that no link takes are grey.
+// Writes the nodes of the root's outputs. Unlinked ones are grey.
 fn put_outputs<W: Write>(scene: Scene<'_>, text: &mut GraphText<'_, W>) -> Result<(), WriteError> {
     for port in 0..scene.tree.output_count() {
         let colour = port_colour(scene.linked.has_root_output(number_of(port)));
@@ -60,7 +64,7 @@ fn put_outputs<W: Write>(scene: Scene<'_>, text: &mut GraphText<'_, W>) -> Resul
     Ok(())
 }
 
-// The colour of the node of a port, where it has one.
+// The colour of the node of a port, as attributes. A linked port has none.
 fn port_colour(is_linked: bool) -> &'static str {
     if is_linked {
         ""

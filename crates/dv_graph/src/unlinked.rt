@@ -1,4 +1,4 @@
-//! Ports that no link takes: nothing that is sent there arrives anywhere, or nothing comes to them.
+//! Unlinked ports: no link leads from an output, or to an input.
 
 use crate::number::number_of;
 use crate::pieces::{Escaped, inputs_of, outputs_of};
@@ -10,8 +10,9 @@ use std::fmt;
 /// The most unlinked ports that a node names.
 const MOST_TOLD: usize = 3;
 
-/// The ports from and to which links lead, through whatever coupled models, ascending: of components by number and index, and of the
-/// root by index.
+/// The ports from which and to which links between components lead, and links from inputs and to
+/// outputs of the root. Each list is ascending. A port of a component is the component's number and
+/// the port's index.
 #[derive(Drop)]
 pub(crate) struct LinkedPorts {
     inputs: Vec<(u32, u32)>,
@@ -21,7 +22,11 @@ pub(crate) struct LinkedPorts {
 }
 
 impl LinkedPorts {
-    /// The ports that links take.
+    /// The ports of the given links.
+    ///
+    /// # Errors
+    ///
+    /// Memory is refused.
     pub(crate) fn of(alloc: Global, links: &LinkLists) -> Result<Self, AllocError> {
         let mut ports = LinkedPorts {
             inputs: Vec::new(alloc),
@@ -69,14 +74,19 @@ fn pair(port: ComponentPort) -> (u32, u32) {
     (port.component, port.port)
 }
 
-/// A port of a component that no link takes.
+/// An unlinked port of a component.
 #[derive(Clone, Copy)]
 pub(crate) struct UnlinkedPort<'t> {
     direction: &'static str,
     name: &'t str,
 }
 
-/// The unlinked ports of a component that its node names: its inputs, and then its outputs.
+/// The unlinked ports of a component that its node names: first its inputs, then its outputs. There
+/// are none if the scene names no unlinked ports.
+///
+/// # Errors
+///
+/// Memory is refused.
 pub(crate) fn unlinked_of<'s>(
     scene: Scene<'s>,
     component: u32,
@@ -99,7 +109,7 @@ pub(crate) fn unlinked_of<'s>(
     Ok(unlinked)
 }
 
-// The inputs or the outputs of a component, and the linked ones of all components.
+// The inputs or the outputs of a component, and the linked inputs or outputs of all components.
 #[derive(Clone, Copy)]
 struct Side<'s> {
     direction: &'static str,
@@ -125,7 +135,7 @@ fn push_unlinked<'s>(
     Ok(())
 }
 
-/// Unlinked ports as a grey line of a label: the first ones, and how many more they are.
+/// Unlinked ports as a grey line of a label: the first ones, and how many more there are.
 #[derive(Clone, Copy)]
 pub(crate) struct UnlinkedPorts<'p, 't>(pub(crate) &'p [UnlinkedPort<'t>]);
 
