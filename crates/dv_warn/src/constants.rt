@@ -1,11 +1,11 @@
-//! Expressions that name nothing.
+//! The values of expressions without names.
 
 use dv_bag::{Arrivals, State, Value, Variables};
 use dv_eval::{Context, Moment, Scope, eval};
 use dv_syntax::Expr;
 use std::alloc::Global;
 
-/// Where nothing is declared and nothing has arrived.
+/// A scope without names and a state without variables, to evaluate expressions that need none.
 #[derive(Drop)]
 pub(crate) struct Nowhere {
     scope: Scope,
@@ -13,6 +13,7 @@ pub(crate) struct Nowhere {
 }
 
 impl Nowhere {
+    /// The empty scope and state.
     pub(crate) fn new(alloc: Global) -> Self {
         Nowhere {
             scope: Scope::new(alloc),
@@ -23,7 +24,7 @@ impl Nowhere {
         }
     }
 
-    /// The value of an expression that names nothing and has no fault.
+    /// The value of an expression, or `None` if the expression has a name or a fault.
     pub(crate) fn value(&self, expression: &Expr) -> Option<Value> {
         if !names_nothing(expression) {
             return None;
@@ -35,13 +36,13 @@ impl Nowhere {
         eval(expression, &moment, &self.scope).ok()
     }
 
-    /// Whether an expression names nothing and is 0.
+    /// Whether an expression has no name and is 0.
     pub(crate) fn is_zero(&self, expression: &Expr) -> bool {
         self.value(expression) == Some(Value::Number(0))
     }
 }
 
-// Whether an expression has no name, no call and no `elapsed`.
+// Whether an expression needs no name: it has no variable, no port, no call and no `elapsed`.
 fn names_nothing(expression: &Expr) -> bool {
     match expression {
         Expr::Literal(_) | Expr::TruthValue { .. } => true,

@@ -1,4 +1,4 @@
-//! The warnings of a model.
+//! Finds the warnings of a model.
 
 use crate::constants::Nowhere;
 use crate::findings::Findings;
@@ -16,7 +16,7 @@ use dv_syntax::{Atomic, Model, RuleSort};
 use dv_tree::{Tree, level_at};
 use std::alloc::{AllocError, Global};
 
-/// What the warnings of an atomic model rest on, beside its text.
+/// An atomic model, with its names and the links at its ports.
 #[derive(Clone, Copy)]
 struct AtomicModel<'a> {
     atomic: &'a Atomic,
@@ -24,11 +24,12 @@ struct AtomicModel<'a> {
     links: &'a PortLinks,
 }
 
-/// The warnings of the model of a tree, in the order of the text. Of models that the root does not lead to nothing else is told.
+/// The warnings about the model of a tree, in the order of the text. A model that the root does not
+/// lead to gets only the warning that says so.
 ///
 /// # Errors
 ///
-/// No memory for the warnings, or for what they are found by.
+/// Memory is refused.
 pub fn find_warnings<'t>(alloc: Global, tree: &'t Tree<'t>) -> Result<Vec<Found<'t>>, AllocError> {
     let mut findings = Findings::new(alloc, tree);
     find_unreached_models(alloc, tree, &mut findings)?;

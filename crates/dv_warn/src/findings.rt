@@ -1,11 +1,11 @@
-//! What is found so far.
+//! The list of the warnings found so far.
 
 use crate::warning::{Found, Warning};
 use dv_syntax::{Model, Name};
 use dv_tree::Tree;
 use std::alloc::{AllocError, Global};
 
-/// What is found so far in the model of a tree.
+/// The warnings found so far about the model of a tree.
 #[derive(Drop)]
 pub(crate) struct Findings<'t> {
     tree: &'t Tree<'t>,
@@ -13,7 +13,7 @@ pub(crate) struct Findings<'t> {
 }
 
 impl<'t> Findings<'t> {
-    /// Nothing yet.
+    /// No warnings yet.
     pub(crate) fn new(alloc: Global, tree: &'t Tree<'t>) -> Self {
         Findings {
             tree,
@@ -26,7 +26,8 @@ impl<'t> Findings<'t> {
         self.tree.name(name.number)
     }
 
-    /// The name of the input port at an offset of the model at an offset among those that the root leads to.
+    /// The name of an input port, by its index in its model. The model is given by its index in
+    /// `Tree::reached`.
     pub(crate) fn input_name(&self, model: usize, port: usize) -> Option<&'t str> {
         let number = match self.tree.reached().get(model)? {
             Model::Atomic(_) => *self.tree.scopes().get(model)?.inputs().get(port)?,
@@ -35,20 +36,21 @@ impl<'t> Findings<'t> {
         Some(self.tree.name(number))
     }
 
-    /// Notes a warning at an offset of the text.
+    /// Adds a warning at an offset of the text, in bytes.
     ///
     /// # Errors
     ///
-    /// No memory for it.
+    /// Memory is refused. The warning is not added.
     pub(crate) fn note(&mut self, offset: u32, warning: Warning<'t>) -> Result<(), AllocError> {
         Ok(self.found.push(Found { offset, warning })?)
     }
 
-    /// What was found, in the order of the text.
+    /// The warnings in the order of the text. Warnings at one offset keep the order in which they
+    /// were added.
     ///
     /// # Errors
     ///
-    /// No memory to sort it.
+    /// Memory is refused.
     pub(crate) fn in_order(self) -> Result<Vec<Found<'t>>, AllocError> {
         let mut found = self.found;
         found.sort_by_key(|found| found.offset)?;

@@ -1,40 +1,41 @@
-//! What is told of a model that is accepted all the same.
+//! Warnings: probable mistakes in a model that is accepted.
 //!
-//! `find_warnings` looks for what is probably a slip: names that nothing uses, phases that nothing reaches, rules
-//! that never run, and values that are lost. Each `Warning` comes with the token that it belongs to, and
-//! `write_warnings` prints them in the order of the text, a line each.
+//! `find_warnings` looks for names that nothing uses, phases that nothing reaches, rules that never
+//! run, and values that are lost. Each `Warning` comes with the offset of the token to which it
+//! belongs. `write_warnings` prints them in the order of the text, one a line.
 //!
-//! `dv_views` calls it for `check --warn`. Nothing is claimed of warnings but that they are made without a fault of
-//! the program: a model without one may have slips, and one with some may be right.
+//! `dv_views` calls it for `check --warn`. It is proved that these calls are safe and return, and
+//! nothing about the warnings themselves: a model without warnings may have mistakes, and a model
+//! with some may be right.
 #![tactic(auto)]
 
-/// Expressions that name nothing.
+/// The values of expressions without names.
 mod constants;
-/// The door: the warnings of a model.
+/// Finds the warnings of a model.
 pub mod find;
-/// What is found so far.
+/// The list of the warnings found so far.
 mod findings;
-/// How the parts of a model are linked.
+/// Which ports have links.
 mod links;
 /// What rules and holds do with names.
 mod mentions;
-/// Models that the root does not lead to.
+/// Warnings about models that the root does not lead to.
 mod models;
-/// The names of an atomic model that nothing uses.
+/// Warnings about unused names of an atomic model.
 mod names;
-/// Parts without links, and the ports of coupled models.
+/// Warnings about parts and about ports of coupled models.
 mod parts;
 /// The phases of an atomic model, with their holds and rules.
 mod phases;
-/// Which phases rules lead to.
+/// Which phases can be reached.
 mod reach;
-/// Phases and rules that do nothing, or lose values.
+/// Warnings about phases and rules.
 mod rules;
-/// The statements of a rule.
+/// The statements of a rule as a list.
 mod statements;
-/// The warnings as lines.
+/// Writes warnings as lines.
 pub mod text;
-/// The warnings.
+/// The warnings and their sentences.
 pub mod warning;
 
 pub use find::find_warnings;

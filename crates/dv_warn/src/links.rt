@@ -1,16 +1,17 @@
-//! How the parts of a model are linked.
+//! Which ports have links.
 
 use dv_syntax::Model;
 use dv_tree::{Coupling, Level, Target, Tree, level_at};
 use std::alloc::{AllocError, Global};
 
-/// Which ports of a model have links, at any of its parts that have links at all.
+/// Which ports of a model have links from outside, at any of the parts that are of this model.
 #[derive(Drop)]
 pub(crate) struct PortLinks {
+    // Whether one of the parts has a link.
     is_linked: bool,
     inputs: Vec<bool>,
     outputs: Vec<bool>,
-    /// The offsets of the input ports that links lead to, in ascending order.
+    // The indices of the input ports to which links lead, ascending.
     fed: Vec<usize>,
 }
 
@@ -20,12 +21,13 @@ impl PortLinks {
         !self.is_linked || is_marked(&self.inputs, port)
     }
 
-    /// Whether a link leads from an output port; where no part of the model has a link, as of an input.
+    /// Whether a link leads from the output port at an index. Also true if no part of the model has
+    /// a link at all.
     pub(crate) fn is_output_linked(&self, port: Option<usize>) -> bool {
         !self.is_linked || is_marked(&self.outputs, port)
     }
 
-    /// The offsets of the input ports that links lead to, in ascending order.
+    /// The indices of the input ports to which links lead, ascending.
     pub(crate) fn fed_inputs(&self) -> &[usize] {
         &self.fed
     }
@@ -35,7 +37,7 @@ impl PortLinks {
         !self.inputs.is_empty() || !self.outputs.is_empty()
     }
 
-    // The links of a part.
+    // Adds the links of a part that is of this model.
     fn add(&mut self, part: &PartLinks) {
         if part.has_links() {
             self.is_linked = true;
@@ -44,7 +46,7 @@ impl PortLinks {
         mark_all(&mut self.outputs, &part.outputs);
     }
 
-    // No link more is to come.
+    // Lists the input ports with links, when all parts are added.
     fn finish(&mut self) -> Result<(), AllocError> {
         for (port, is_fed) in self.inputs.iter().enumerate() {
             if *is_fed {
@@ -70,7 +72,7 @@ fn mark_all(marks: &mut [bool], ports: &[usize]) {
     }
 }
 
-/// The ports of a part with links, by offset, in ascending order, each once.
+/// The indices of the ports of a part that have links, ascending, each once.
 #[derive(Drop)]
 pub(crate) struct PartLinks {
     pub(crate) inputs: Vec<usize>,
@@ -83,12 +85,12 @@ impl PartLinks {
         !self.inputs.is_empty() || !self.outputs.is_empty()
     }
 
-    /// Whether the input port at an offset has a link.
+    /// Whether the input port at an index has a link.
     pub(crate) fn has_input(&self, port: usize) -> bool {
         self.inputs.binary_search(&port).is_ok()
     }
 
-    /// Whether the output port at an offset has a link.
+    /// Whether the output port at an index has a link.
     pub(crate) fn has_output(&self, port: usize) -> bool {
         self.outputs.binary_search(&port).is_ok()
     }
@@ -97,17 +99,18 @@ impl PartLinks {
 /// The links inside of a coupled model.
 #[derive(Drop)]
 pub(crate) struct InsideLinks {
-    /// The ports of the model itself: its inputs from which links lead, and its outputs to which links lead.
+    /// The model's own ports: inputs from which links lead to parts, and outputs to which links
+    /// lead.
     pub(crate) own: PartLinks,
-    /// Those of its parts, by offset.
+    /// The ports of its parts, by the index of the part.
     pub(crate) parts: Vec<PartLinks>,
 }
 
-/// The links inside of each of the models that the root leads to, by index; an atomic model has none.
+/// The links inside of each model, by its index in `Tree::reached`. An atomic model has none.
 ///
 /// # Errors
 ///
-/// No memory for the lists.
+/// Memory is refused.
 pub(crate) fn links_inside(alloc: Global, tree: &Tree<'_>) -> Result<Vec<InsideLinks>, AllocError> {
     let mut inside = Vec::with_capacity(alloc, tree.reached().len())?;
     for offset in 0..tree.reached().len() {
@@ -162,7 +165,7 @@ impl InsideLinks {
         Ok(())
     }
 
-    // Where a link leads.
+    // Adds the port to which a link leads.
     fn add_target(&mut self, target: Target) -> Result<(), AllocError> {
         match target {
             Target::Own { port } => self.own.outputs.push(port)?,
@@ -175,7 +178,7 @@ impl InsideLinks {
         Ok(())
     }
 
-    // Each port once, in ascending order.
+    // Sorts the ports, and leaves each once.
     fn sort(&mut self) {
         sort_ports(&mut self.own);
         for part in &mut self.parts {
@@ -191,11 +194,11 @@ fn sort_ports(links: &mut PartLinks) {
     links.outputs.dedup();
 }
 
-/// Which ports of each of the models that the root leads to have links, by offset.
+/// Which ports of each model have links from outside, by the model's index in `Tree::reached`.
 ///
 /// # Errors
 ///
-/// No memory for the lists.
+/// Memory is refused.
 pub(crate) fn port_links(
     alloc: Global,
     tree: &Tree<'_>,
@@ -230,7 +233,7 @@ fn unlinked(alloc: Global, tree: &Tree<'_>) -> Result<Vec<PortLinks>, AllocError
     Ok(links)
 }
 
-// The links of the parts of a coupled model, at their models.
+// Adds the links of the parts of a coupled model to the models of these parts.
 fn add_parts(links: &mut [PortLinks], level: &Level, inside: &InsideLinks) {
     for (part, part_links) in level.parts().iter().zip(&inside.parts) {
         if let Some(links) = links.get_mut(part.model) {

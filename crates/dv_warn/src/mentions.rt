@@ -4,7 +4,7 @@ use crate::statements::add_statements;
 use dv_syntax::{Atomic, Command, Expr, Rule, Stmt, Ticks};
 use std::alloc::{AllocError, Global};
 
-/// What a rule or a hold does with the name of this number.
+/// What a rule or a hold does with a name, given by its number.
 #[derive(Clone, Copy)]
 pub(crate) enum Mention {
     /// It reads a state variable, a port or the variable of a loop.
@@ -17,11 +17,13 @@ pub(crate) enum Mention {
     GoesTo(u32),
 }
 
-/// A rule with its statements and what they do with names, both in the order of the text.
+/// A rule, with lists of what it contains in the order of the text.
 #[derive(Drop)]
 pub(crate) struct ReadRule<'a> {
     pub(crate) rule: &'a Rule,
+    /// All statements, also those in blocks of other statements.
     pub(crate) statements: Vec<&'a Stmt>,
+    /// What the statements do with names.
     pub(crate) mentions: Vec<Mention>,
 }
 
@@ -41,11 +43,11 @@ impl<'a> ReadRule<'a> {
     }
 }
 
-/// The rules of a model.
+/// The rules of a model, in the order of the text.
 ///
 /// # Errors
 ///
-/// No memory for them.
+/// Memory is refused.
 pub(crate) fn rules_of(alloc: Global, atomic: &Atomic) -> Result<Vec<ReadRule<'_>>, AllocError> {
     let mut rules = Vec::with_capacity(alloc, atomic.rules.len())?;
     for rule in &atomic.rules {
@@ -58,7 +60,7 @@ pub(crate) fn rules_of(alloc: Global, atomic: &Atomic) -> Result<Vec<ReadRule<'_
 ///
 /// # Errors
 ///
-/// No memory for the list.
+/// Memory is refused.
 pub(crate) fn mentions_in_holds(
     alloc: Global,
     atomic: &Atomic,
@@ -72,7 +74,7 @@ pub(crate) fn mentions_in_holds(
     Ok(mentions)
 }
 
-// What a statement does with names, without the blocks in it.
+// Adds what a statement does with names, without the blocks in it.
 fn add_mentions(statement: &Stmt, mentions: &mut Vec<Mention>) -> Result<(), AllocError> {
     match statement {
         Stmt::Assign { variable, value } => {
@@ -102,7 +104,7 @@ fn add_mentions(statement: &Stmt, mentions: &mut Vec<Mention>) -> Result<(), All
     }
 }
 
-// What an expression reads.
+// Adds what an expression reads.
 fn add_reads(expression: &Expr, mentions: &mut Vec<Mention>) -> Result<(), AllocError> {
     match expression {
         Expr::Literal(_) | Expr::TruthValue { .. } | Expr::Elapsed { .. } => Ok(()),

@@ -1,4 +1,4 @@
-//! Models that the root does not lead to.
+//! Warnings about models that the root does not lead to.
 
 use crate::findings::Findings;
 use crate::warning::Warning;
@@ -7,11 +7,11 @@ use dv_tree::Tree;
 use std::alloc::{AllocError, Global};
 use std::collections::HashSet;
 
-/// Notes the models of a text that the root does not lead to.
+/// Adds a warning for each model of the text that the root does not lead to.
 ///
 /// # Errors
 ///
-/// No memory for the names of the others, or for a warning.
+/// Memory is refused.
 pub(crate) fn find_unreached_models<'t>(
     alloc: Global,
     tree: &'t Tree<'t>,

@@ -1,4 +1,4 @@
-//! The names of an atomic model that nothing uses.
+//! Warnings about unused names of an atomic model.
 
 use crate::findings::Findings;
 use crate::links::PortLinks;
@@ -16,16 +16,17 @@ pub(crate) struct Uses {
     read: HashSet<u32>,
     changed: HashSet<u32>,
     sent: HashSet<u32>,
-    /// Whether a rule for what arrives reads no input port. It runs whatever comes, by any of them.
+    /// Whether an external or confluent rule reads no input port. It then uses all input ports,
+    /// since it runs for a value at any of them.
     takes_anything: bool,
 }
 
 impl Uses {
-    /// The uses in the rules and in the holds of a model.
+    /// What the rules and the holds of a model use.
     ///
     /// # Errors
     ///
-    /// No memory for the numbers.
+    /// Memory is refused.
     pub(crate) fn of(
         alloc: Global,
         rules: &[ReadRule<'_>],
@@ -59,7 +60,7 @@ impl Uses {
     }
 }
 
-// Whether a rule is for what arrives, and reads no input port.
+// Whether a rule runs for a value at any input port, whichever it is.
 fn takes_anything(rule: &ReadRule<'_>, scope: &Scope) -> bool {
     matches!(rule.rule.sort, RuleSort::External | RuleSort::Confluent)
         && !reads_input(&rule.mentions, scope)
@@ -71,11 +72,11 @@ fn reads_input(mentions: &[Mention], scope: &Scope) -> bool {
     )
 }
 
-/// Notes the ports and state variables of a model that nothing uses.
+/// Adds warnings about the ports and state variables of a model that nothing uses.
 ///
 /// # Errors
 ///
-/// No memory for a warning.
+/// Memory is refused.
 pub(crate) fn find_unused_names(
     findings: &mut Findings<'_>,
     atomic: &Atomic,

@@ -1,4 +1,4 @@
-//! Parts without links, and the ports of coupled models.
+//! Warnings about parts and about ports of coupled models.
 
 use crate::findings::Findings;
 use crate::links::{InsideLinks, PartLinks, PortLinks};
@@ -7,11 +7,12 @@ use dv_syntax::{Coupled, Name};
 use dv_tree::ResolvedPart;
 use std::alloc::AllocError;
 
-/// Notes the ports of a coupled model that no link has inside of it, or from outside at any part of the model.
+/// Adds warnings about the ports of a coupled model that have no link inside of the model, or none
+/// outside at any of its parts.
 ///
 /// # Errors
 ///
-/// No memory for a warning.
+/// Memory is refused.
 pub(crate) fn find_unlinked_ports(
     findings: &mut Findings<'_>,
     coupled: &Coupled,
@@ -77,11 +78,11 @@ fn find_unlinked_output(
     findings.note(output.offset, warning)
 }
 
-/// Notes the parts of a coupled model without links, and those of whose inputs some have no links.
+/// Adds warnings about the parts of a coupled model that have no links, or inputs without links.
 ///
 /// # Errors
 ///
-/// No memory for a warning.
+/// Memory is refused.
 pub(crate) fn find_unlinked_parts(
     findings: &mut Findings<'_>,
     parts: &[ResolvedPart],
@@ -112,7 +113,8 @@ fn find_in_part(
     }
 }
 
-// Inputs of a part to which no link leads, where links lead to those of other parts of the model. The first of them is named.
+// One warning for all inputs of a part to which no link leads, if links lead to these inputs of
+// other parts of the same model.
 fn find_unfed_input(
     findings: &mut Findings<'_>,
     part: &ResolvedPart,
@@ -136,7 +138,8 @@ fn find_unfed_input(
     Ok(())
 }
 
-// The first of some ports that is not among others, which are some of them, both in ascending order.
+// The first port that `others` lacks. Both lists are ascending, and `others` has only ports of the
+// first list.
 fn first_lacking(ports: &[usize], others: &[usize]) -> Option<usize> {
     for (offset, port) in ports.iter().enumerate() {
         if others.get(offset) != Some(port) {

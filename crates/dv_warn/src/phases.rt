@@ -7,22 +7,22 @@ use dv_eval::Scope;
 use dv_syntax::{Atomic, Hold, Name, RuleSort, Ticks};
 use std::alloc::{AllocError, Global};
 
-/// How long a phase is held, as far as its hold alone says it.
+/// How long a phase lasts, as far as its hold shows without the values of names.
 #[derive(Clone, Copy, PartialEq, Eq)]
 pub(crate) enum Length {
     Forever,
-    /// No ticks: the phase is left at the next microstep.
+    /// No ticks: the phase ends at the next microstep.
     Zero,
-    /// A number of ticks above 0, or one that is not known.
+    /// A number of ticks above 0, or an unknown one.
     Ticks,
 }
 
-/// What a model says of a phase.
+/// A phase of a model, with its hold and its rules.
 #[derive(Drop)]
 pub(crate) struct Phase<'a> {
     pub(crate) name: Name,
     pub(crate) length: Length,
-    /// The phase's name in its hold.
+    /// The name of the phase as its hold has it, for the offset.
     pub(crate) held: Name,
     /// At most one of each sort.
     pub(crate) rules: Vec<ReadRule<'a>>,
@@ -34,7 +34,7 @@ impl<'a> Phase<'a> {
         self.rules.iter().find(|rule| rule.rule.sort == sort)
     }
 
-    /// Whether an internal transition may leave the phase as it is.
+    /// Whether an internal transition may stay in the phase.
     pub(crate) fn may_stay(&self) -> bool {
         match self.rule(RuleSort::Internal) {
             Some(rule) => !always_goes(&rule.rule.body),
@@ -50,7 +50,7 @@ impl<'a> Phase<'a> {
     }
 }
 
-// Whether a `goto` names another phase than this one.
+// Whether a `goto` leads to another phase than this one.
 fn leads_away(mentions: &[Mention], phase: u32) -> bool {
     mentions.iter().any(|mention| matches!(mention, Mention::GoesTo(target) if *target != phase))
 }
@@ -59,7 +59,7 @@ fn leads_away(mentions: &[Mention], phase: u32) -> bool {
 ///
 /// # Errors
 ///
-/// No memory for them.
+/// Memory is refused.
 pub(crate) fn phases_of<'a>(
     alloc: Global,
     atomic: &'a Atomic,

@@ -1,4 +1,4 @@
-//! Which phases rules lead to.
+//! Which phases can be reached.
 
 use crate::mentions::{Mention, ReadRule};
 use crate::phases::{Length, Phase};
@@ -6,11 +6,11 @@ use dv_eval::Scope;
 use dv_syntax::{Atomic, RuleSort};
 use std::alloc::{AllocError, Global};
 
-/// Of each phase by offset, whether it is the start or rules lead from the start to it.
+/// For each phase, by index, whether it is the start or rules lead from the start to it.
 ///
 /// # Errors
 ///
-/// No memory for the answers.
+/// Memory is refused.
 pub(crate) fn reached_phases(
     alloc: Global,
     atomic: &Atomic,
@@ -36,7 +36,8 @@ pub(crate) fn reached_phases(
     Ok(walk.reached)
 }
 
-// Which phases are reached so far, and the offsets of those whose rules are still to be followed.
+// The phases that are reached so far, and the indices of those whose rules are still to be
+// followed.
 #[derive(Drop)]
 struct Walk {
     reached: Vec<bool>,
@@ -74,12 +75,13 @@ impl Walk {
     }
 }
 
-/// Of each phase by offset, whether its external rule can follow an internal rule at one instant: an internal transition can end
-/// there, of a phase that is reached, is not held forever and has no confluent rule.
+/// For each phase, by index, whether its external rule can run at the instant of an internal rule,
+/// directly after it. This is so if an internal transition can end in the phase, and begins in a
+/// phase that is reached, does not last forever and has no confluent rule.
 ///
 /// # Errors
 ///
-/// No memory for the answers.
+/// Memory is refused.
 pub(crate) fn phases_behind_internal_rules(
     alloc: Global,
     scope: &Scope,
@@ -95,7 +97,7 @@ pub(crate) fn phases_behind_internal_rules(
     Ok(behind)
 }
 
-// Whether something may arrive as the hold of a phase ends, and its internal rule runs then.
+// Whether the internal rule of a phase runs even if something arrives as the hold ends.
 fn is_left_by_internal_rule(phase: &Phase<'_>, reached: Option<&bool>) -> bool {
     reached == Some(&true)
         && phase.length != Length::Forever

@@ -1,4 +1,4 @@
-//! Phases and rules that do nothing, or lose values.
+//! Warnings about phases and rules.
 
 use crate::constants::Nowhere;
 use crate::findings::Findings;
@@ -9,30 +9,31 @@ use dv_bag::Value;
 use dv_syntax::{Expr, RuleSort, Stmt};
 use std::alloc::AllocError;
 
-/// What is known of the model around a phase.
+/// What is known of the model that has a phase.
 #[derive(Clone, Copy)]
 pub(crate) struct Surroundings {
+    /// Whether the model has input ports.
     pub(crate) has_inputs: bool,
-    /// Whether a link leads to an input port, of any part of the model.
+    /// Whether a link leads to an input port, at any part of the model.
     pub(crate) is_fed: bool,
     /// Whether a phase has an external rule.
     pub(crate) has_external_rules: bool,
 }
 
-/// What is known of a phase beside what the model says of it.
+/// How a phase can be reached.
 #[derive(Clone, Copy)]
 pub(crate) struct Standing {
     pub(crate) is_start: bool,
     pub(crate) is_reached: bool,
-    /// Whether its external rule can follow an internal rule at one instant.
+    /// Whether its external rule can run at the instant of an internal rule, directly after it.
     pub(crate) is_behind_internal_rule: bool,
 }
 
-/// Notes what is found at a phase. Of a phase that is not reached nothing else is told.
+/// Adds the warnings about a phase. If the phase is not reached, this is the only warning about it.
 ///
 /// # Errors
 ///
-/// No memory for a warning.
+/// Memory is refused.
 pub(crate) fn find_in_phase<'t>(
     findings: &mut Findings<'t>,
     phase: &Phase<'_>,
@@ -53,7 +54,7 @@ pub(crate) fn find_in_phase<'t>(
     Ok(())
 }
 
-// A phase that is held no time and that no rule leaves.
+// A phase of hold 0 that no rule leaves begins again and again at the same tick.
 fn find_endless_hold<'t>(findings: &mut Findings<'t>, phase: &Phase<'_>) -> Result<(), AllocError> {
     if phase.length != Length::Zero || phase.has_way_out() {
         return Ok(());
@@ -66,8 +67,9 @@ fn find_endless_hold<'t>(findings: &mut Findings<'t>, phase: &Phase<'_>) -> Resu
     findings.note(offset, Warning::EndlessPhase { phase: name })
 }
 
-// A phase without an external rule, where another phase has one. In a phase of hold 0 nothing can arrive; but what arrives as
-// an internal rule leads to it is for its external rule.
+// If a phase has no external rule but another phase has one, what arrives in the phase is probably
+// lost by mistake. In a phase of hold 0 nothing can arrive, except at the instant at which an
+// internal rule leads to it.
 fn find_lost_values<'t>(
     findings: &mut Findings<'t>,
     phase: &Phase<'_>,
@@ -90,7 +92,7 @@ fn find_lost_values<'t>(
     }
 }
 
-// Why a rule of a phase never runs, where that is plain.
+// Why a rule of a phase never runs, if that can be seen.
 fn idle_reason(
     sort: RuleSort,
     phase: &Phase<'_>,
@@ -127,11 +129,11 @@ fn note_idle_rule<'t>(
     )
 }
 
-/// Notes the conditions of a rule that name nothing.
+/// Adds warnings about the conditions of rules that always have the same value.
 ///
 /// # Errors
 ///
-/// No memory for a warning.
+/// Memory is refused.
 pub(crate) fn find_constant_conditions(
     findings: &mut Findings<'_>,
     rule: &ReadRule<'_>,
@@ -147,7 +149,7 @@ pub(crate) fn find_constant_conditions(
     Ok(())
 }
 
-// The condition of a statement that has one, with the offset of its `if`.
+// The condition of an `if`, with the offset of the `if`.
 fn condition_of(statement: &Stmt) -> Option<(u32, &Expr)> {
     match statement {
         Stmt::If {

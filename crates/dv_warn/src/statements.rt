@@ -1,9 +1,9 @@
-//! The statements of a rule.
+//! The statements of a rule as a list.
 
 use dv_syntax::{Block, Command, Stmt};
 use std::alloc::AllocError;
 
-/// Adds the statements of a block and of the blocks in it, each before those inside of it.
+/// Adds the statements of a block to a list, each before the statements in its own blocks.
 ///
 /// # Errors
 ///

@@ -1,4 +1,4 @@
-//! The warnings as lines.
+//! Writes warnings as lines.
 
 use crate::find::find_warnings;
 use dv_text::{WriteError, hand_over, hand_over_if_long};
@@ -6,7 +6,8 @@ use dv_tree::Tree;
 use std::alloc::Global;
 use std::io::Write;
 
-/// An offset of a text: how many bytes come before it, its line, and its column in characters, both counted from 1.
+/// An offset of a text in bytes, with its line and its column. Both count from 1, columns in
+/// characters.
 #[derive(Clone, Copy)]
 struct Spot {
     offset: usize,
@@ -21,7 +22,7 @@ impl Spot {
         column: 1,
     };
 
-    // Goes on to an offset that is not before it.
+    // Moves forward to an offset.
     fn advance(&mut self, text: &[u8], offset: usize) {
         for byte in text.get(self.offset..offset).unwrap_or(&[]) {
             if *byte == b'\n' {
@@ -40,13 +41,14 @@ fn goes_on(byte: u8) -> bool {
     byte & 0xc0 == 0x80
 }
 
-/// Writes the warnings of the model of a text, each on a line `FILE:LINE:COLUMN: warning: SENTENCE`, in the order of the
-/// text, and answers how many they are. Lines and columns count from 1, columns in characters.
+/// Writes the warnings about the model of a text, in the order of the text, and returns how many
+/// there are. A line is `FILE:LINE:COLUMN: warning: SENTENCE`, where `FILE` is `name`; lines and
+/// columns count from 1, columns in characters.
 ///
 /// # Errors
 ///
-/// `WriteError::Write` where a write failed or took nothing, `WriteError::Memory` where memory was refused. A
-/// beginning of the lines was written then, and not all of them.
+/// `WriteError::Write` if a write fails or takes nothing, `WriteError::Memory` if memory is
+/// refused. Then a part of the lines is written, from the first one on.
 pub fn write_warnings<W: Write>(
     alloc: Global,
     name: &str,

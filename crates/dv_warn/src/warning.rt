@@ -1,18 +1,18 @@
-//! The warnings: what is told of a model that is accepted all the same.
+//! The warnings and their sentences.
 
 use dv_syntax::RuleSort;
 use std::fmt;
 
-/// What a state variable is.
+/// The kind of a state variable.
 #[derive(Clone, Copy)]
 pub enum StateSort {
-    /// It holds a number.
+    /// A number.
     Variable,
-    /// It holds a truth value.
+    /// A truth value.
     Flag,
-    /// It holds a bag.
+    /// A bag.
     Bag,
-    /// It holds a queue.
+    /// A queue.
     Queue,
 }
 
@@ -30,9 +30,9 @@ impl fmt::Display for StateSort {
 /// Which way values go through a port.
 #[derive(Clone, Copy)]
 pub enum Direction {
-    /// Values arrive by it.
+    /// Values arrive at the port.
     Input,
-    /// Values are sent by it.
+    /// Values are sent from the port.
     Output,
 }
 
@@ -48,15 +48,16 @@ impl fmt::Display for Direction {
 /// Why a rule never runs.
 #[derive(Clone, Copy)]
 pub enum NeverRuns {
-    /// It is for what arrives, and the model has no input port.
+    /// It needs values that arrive, and the model has no input port.
     NoInput,
-    /// It is for the end of a hold, and the phase is held forever.
+    /// It runs at the end of the hold, and the hold is `forever`.
     HeldForever,
-    /// It is for what arrives before the end of a hold, and the phase is left before anything can.
+    /// It runs for values that arrive before the end of the hold, and the hold of 0 ends before any
+    /// can arrive.
     LeftAtOnce,
 }
 
-/// A warning, with the names in it.
+/// A warning, with the names that its sentence needs. `Display` writes the sentence.
 #[derive(Clone, Copy)]
 pub enum Warning<'a> {
     /// The root does not lead to a model.
@@ -64,28 +65,28 @@ pub enum Warning<'a> {
         /// The name of the model.
         model: &'a str,
     },
-    /// Neither a rule nor a hold has the name of a state variable.
+    /// No rule and no hold uses a state variable.
     UnusedVariable {
-        /// What the state variable is.
+        /// The kind of the state variable.
         sort: StateSort,
         /// Its name.
         name: &'a str,
     },
-    /// Rules set or change a state variable, and nothing reads it.
+    /// Rules set or change a state variable, but nothing reads it.
     UnreadVariable {
-        /// What the state variable is.
+        /// The kind of the state variable.
         sort: StateSort,
         /// Its name.
         name: &'a str,
     },
-    /// No rule has the name of a port of an atomic model, and no link has it from outside.
+    /// A port has no link outside of its model, and nothing inside of the model uses it.
     UnusedPort {
         /// Whether it is an input or an output port.
         direction: Direction,
         /// The name of the port.
         port: &'a str,
     },
-    /// No rule reads an input port, and each rule for what arrives reads another one.
+    /// No rule reads an input port, and each external or confluent rule reads another one.
     UnreadInput {
         /// The name of the port.
         port: &'a str,
@@ -95,17 +96,17 @@ pub enum Warning<'a> {
         /// The name of the port.
         port: &'a str,
     },
-    /// No link leads to an input port of any part of a model.
+    /// No link leads to an input port, at any part of its model.
     UnfedInput {
         /// The name of the port.
         port: &'a str,
     },
-    /// No link leads from an output port of any part of a model.
+    /// No link leads from an output port, at any part of its model.
     UntakenOutput {
         /// The name of the port.
         port: &'a str,
     },
-    /// No link inside of a coupled model has one of its ports.
+    /// No link inside of a coupled model leads from one of its inputs, or to one of its outputs.
     UnlinkedInside {
         /// Whether it is an input or an output port.
         direction: Direction,
@@ -114,53 +115,55 @@ pub enum Warning<'a> {
         /// The name of the port.
         port: &'a str,
     },
-    /// No link leads to or from a part that has ports.
+    /// No link leads to or from a part, and its model has ports.
     UnlinkedPart {
         /// The name of the part.
         part: &'a str,
     },
-    /// No link leads to an input port of a part, and to so many others of its inputs, where links lead to those of other
-    /// parts of its model.
+    /// No link leads to an input port of a part, but links lead to this port of other parts of the
+    /// same model.
     UnfedPart {
         /// The name of the part.
         part: &'a str,
-        /// The name of its first input port to which no link leads.
+        /// The name of the first such input port.
         port: &'a str,
-        /// How many others of its input ports no link leads to.
+        /// How many more such input ports the part has.
         others: usize,
     },
-    /// No rules lead from the start to a phase.
+    /// No sequence of rules leads from the start to a phase.
     UnreachedPhase {
         /// The name of the phase.
         phase: &'a str,
     },
-    /// A phase without an external rule, where another phase has one.
+    /// A phase has no external rule, but another phase of the model has one: what arrives in this
+    /// phase is lost.
     LostValues {
         /// The name of the phase.
         phase: &'a str,
     },
-    /// The same of a phase that is left at once: what arrives as an internal rule leads to it is lost.
+    /// A phase of hold 0 has no external rule, but another phase of the model has one: what arrives
+    /// as an internal rule leads to this phase is lost.
     LostOnArrival {
         /// The name of the phase.
         phase: &'a str,
     },
-    /// A rule that never runs.
+    /// A rule never runs.
     IdleRule {
         /// The sort of the rule.
         sort: RuleSort,
-        /// The phase that has it.
+        /// The name of its phase.
         phase: &'a str,
         /// Why it never runs.
         reason: NeverRuns,
     },
-    /// A phase of hold 0 that no rule leaves.
+    /// No rule leaves a phase of hold 0.
     EndlessPhase {
         /// The name of the phase.
         phase: &'a str,
     },
-    /// A condition that names nothing.
+    /// A condition uses no names, so it always has the same value.
     ConstantCondition {
-        /// What it always is.
+        /// The value.
         value: bool,
     },
 }
@@ -329,10 +332,10 @@ fn sort_word(sort: RuleSort) -> &'static str {
     }
 }
 
-/// A warning, and the offset of the token to which it belongs: the number of the bytes of the text before it.
+/// A warning and where it belongs.
 #[derive(Clone, Copy)]
 pub struct Found<'a> {
-    /// The offset of the token, in bytes of the text.
+    /// The offset of the token to which the warning belongs, in bytes of the text.
     pub offset: u32,
     /// The warning.
     pub warning: Warning<'a>,
