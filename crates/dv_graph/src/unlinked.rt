@@ -7,8 +7,8 @@ use dv_flat::{ComponentPort, LinkLists};
 use std::alloc::{AllocError, Global};
 use std::fmt;
 
-/// The most unlinked ports that a node names.
-const MOST_TOLD: usize = 3;
+/// The greatest number of unlinked ports that the label of a node names.
+const MOST_NAMED: usize = 3;
 
 /// The ports from which and to which links between components lead, and links from inputs and to
 /// outputs of the root. Each list is ascending. A port of a component is the component's number and
@@ -142,11 +142,11 @@ pub(crate) struct UnlinkedPorts<'p, 't>(pub(crate) &'p [UnlinkedPort<'t>]);
 impl fmt::Display for UnlinkedPorts<'_, '_> {
     fn fmt<W: fmt::Write>(&self, f: &mut fmt::Formatter<W>) -> fmt::Result {
         f.write_str("<br/><font point-size=\"10\" color=\"gray40\">unlinked: ")?;
-        for (index, port) in self.0.iter().take(MOST_TOLD).enumerate() {
+        for (index, port) in self.0.iter().take(MOST_NAMED).enumerate() {
             let separator = if index == 0 { "" } else { ", " };
             write!(f, "{separator}{} {}", port.direction, Escaped(port.name))?;
         }
-        match self.0.len().saturating_sub(MOST_TOLD) {
+        match self.0.len().saturating_sub(MOST_NAMED) {
             0 => f.write_str("</font>"),
             more => write!(f, " and {more} more</font>"),
         }
