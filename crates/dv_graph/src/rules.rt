@@ -129,7 +129,12 @@ fn add_steps_of<'a>(
             let inner = reading.and_for(conditions, variable.number, bag.number)?;
             add_steps(reading, block, inner.as_str(), steps)
         }
-        Stmt::Assign { .. } | Stmt::Command { .. } | Stmt::Change { .. } => Ok(()),
+        Stmt::Command {
+            command: Command::Pop,
+            ..
+        }
+        | Stmt::Assign { .. }
+        | Stmt::Change { .. } => Ok(()),
     }
 }
 
