@@ -102,11 +102,13 @@ impl Placing {
             is_placed: false,
             waiting: 0,
         };
-        Ok(Placing {
-            targets: empty_lists(alloc, count)?,
+        let mut placing = Placing {
             nodes: vec![in alloc; node; count]?,
+            targets: Vec::new(alloc),
             ready: Vec::new(alloc),
-        })
+        };
+        placing.targets.resize_with(count, || Vec::new(alloc))?;
+        Ok(placing)
     }
 
     fn place_all(&mut self, links: &[JoinedLinks]) -> Result<(), AllocError> {
@@ -169,12 +171,4 @@ impl Placing {
         }
         Ok(())
     }
-}
-
-fn empty_lists(alloc: Global, count: usize) -> Result<Vec<Vec<u32>>, AllocError> {
-    let mut lists = Vec::with_capacity(alloc, count)?;
-    for _list in 0..count {
-        lists.push(Vec::new(alloc))?;
-    }
-    Ok(lists)
 }
