@@ -162,6 +162,10 @@ fn condition_of(statement: &Stmt) -> Option<(u32, &Expr)> {
             condition,
             ..
         } => Some((*offset, condition)),
-        _ => None,
+        Stmt::Assign { .. }
+        | Stmt::Command { .. }
+        | Stmt::Send { .. }
+        | Stmt::For { .. }
+        | Stmt::Change { .. } => None,
     }
 }
