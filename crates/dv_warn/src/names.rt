@@ -85,19 +85,7 @@ pub(crate) fn find_unused_names(
     links: &PortLinks,
 ) -> Result<(), AllocError> {
     for declaration in &atomic.declarations {
-        match declaration {
-            Declaration::In(port) => find_unused_input(findings, *port, scope, uses, links)?,
-            Declaration::Out(port) => find_unused_output(findings, *port, scope, uses, links)?,
-            Declaration::Var(variable) => {
-                find_unused_variable(findings, StateSort::Variable, variable.name, uses)?;
-            }
-            Declaration::Flag(flag) => {
-                find_unused_variable(findings, StateSort::Flag, flag.name, uses)?;
-            }
-            Declaration::Held(held) => {
-                find_unused_variable(findings, sort_of(held.discipline), held.name, uses)?;
-            }
-        }
+        find_unused_name(findings, declaration, scope, uses, links)?;
     }
     Ok(())
 }
@@ -117,6 +105,36 @@ fn find_unused_variable<'t>(
 ) -> Result<(), AllocError> {
     if uses.read.contains(&variable.number) {
         return Ok(());
+fn find_unused_name(
+    findings: &mut Findings<'_>,
+    declaration: &Declaration,
+    scope: &Scope,
+    uses: &Uses,
+    links: &PortLinks,
+) -> Result<(), AllocError> {
+    match declaration {
+        Declaration::In(port) => {
+            let is_used = uses.takes_anything || uses.read.contains(&port.number);
+            let is_linked = links.is_input_linked(scope.input(port.number));
+            find_unused_port(findings, Direction::Input, *port, is_used, is_linked)
+        }
+        Declaration::Out(port) => {
+            let is_used = uses.sent.contains(&port.number);
+            let is_linked = links.is_output_linked(scope.output(port.number));
+            find_unused_port(findings, Direction::Output, *port, is_used, is_linked)
+        }
+        Declaration::Var(variable) => {
+            find_unused_variable(findings, StateSort::Variable, variable.name, uses)
+        }
+        Declaration::Flag(flag) => {
+            find_unused_variable(findings, StateSort::Flag, flag.name, uses)
+        }
+        Declaration::Held(held) => {
+            find_unused_variable(findings, sort_of(held.discipline), held.name, uses)
+        }
+    }
+}
+
     }
     let name = findings.name(variable);
     let warning = if uses.changed.contains(&variable.number) {
@@ -127,47 +145,22 @@ fn find_unused_variable<'t>(
     findings.note(variable.offset, warning)
 }
 
-// Where a rule takes whatever comes, no input port is unread.
-fn find_unused_input<'t>(
-    findings: &mut Findings<'t>,
-    input: Name,
-    scope: &Scope,
-    uses: &Uses,
-    links: &PortLinks,
+fn find_unused_port(
+    findings: &mut Findings<'_>,
+    direction: Direction,
+    port: Name,
+    is_used: bool,
+    is_linked: bool,
 ) -> Result<(), AllocError> {
-    let is_read = uses.takes_anything || uses.read.contains(&input.number);
-    let is_fed = links.is_input_linked(scope.input(input.number));
-    let port = findings.name(input);
-    let warning = match (is_read, is_fed) {
+    let name = findings.name(port);
+    let warning = match (is_used, is_linked) {
         (true, true) => return Ok(()),
-        (false, true) => Warning::UnreadInput { port },
-        (true, false) => Warning::UnfedInput { port },
+        (false, true) => Warning::unused_inside(direction, name),
+        (true, false) => Warning::unlinked_outside(direction, name),
         (false, false) => Warning::UnusedPort {
-            direction: Direction::Input,
-            port,
+            direction,
+            port: name,
         },
     };
-    findings.note(input.offset, warning)
-}
-
-fn find_unused_output<'t>(
-    findings: &mut Findings<'t>,
-    output: Name,
-    scope: &Scope,
-    uses: &Uses,
-    links: &PortLinks,
-) -> Result<(), AllocError> {
-    let is_sent = uses.sent.contains(&output.number);
-    let is_taken = links.is_output_linked(scope.output(output.number));
-    let port = findings.name(output);
-    let warning = match (is_sent, is_taken) {
-        (true, true) => return Ok(()),
-        (false, true) => Warning::UnsentOutput { port },
-        (true, false) => Warning::UntakenOutput { port },
-        (false, false) => Warning::UnusedPort {
-            direction: Direction::Output,
-            port,
-        },
-    };
-    findings.note(output.offset, warning)
+    findings.note(port.offset, warning)
 }

@@ -19,63 +19,59 @@ pub(crate) fn find_unlinked_ports(
     inside: &PartLinks,
     outside: &PortLinks,
 ) -> Result<(), AllocError> {
-    for (offset, port) in coupled.inputs.iter().enumerate() {
-        let is_inside = inside.has_input(offset);
-        let is_outside = outside.is_input_linked(Some(offset));
-        find_unlinked_input(findings, coupled.name, *port, is_inside, is_outside)?;
+    for (index, name) in coupled.inputs.iter().enumerate() {
+        let port = CoupledPort {
+            direction: Direction::Input,
+            name: *name,
+            is_linked_inside: inside.has_input(index),
+            is_linked_outside: outside.is_input_linked(Some(index)),
+        };
+        find_unlinked_port(findings, coupled.name, port)?;
     }
-    for (offset, port) in coupled.outputs.iter().enumerate() {
-        let is_inside = inside.has_output(offset);
-        let is_outside = outside.is_output_linked(Some(offset));
-        find_unlinked_output(findings, coupled.name, *port, is_inside, is_outside)?;
+    for (index, name) in coupled.outputs.iter().enumerate() {
+        let port = CoupledPort {
+            direction: Direction::Output,
+            name: *name,
+            is_linked_inside: inside.has_output(index),
+            is_linked_outside: outside.is_output_linked(Some(index)),
+        };
+        find_unlinked_port(findings, coupled.name, port)?;
     }
     Ok(())
 }
 
-fn find_unlinked_input(
-    findings: &mut Findings<'_>,
-    model: Name,
-    input: Name,
-    is_inside: bool,
-    is_outside: bool,
-) -> Result<(), AllocError> {
-    let direction = Direction::Input;
-    let model = findings.name(model);
-    let port = findings.name(input);
-    let warning = match (is_inside, is_outside) {
-        (true, true) => return Ok(()),
-        (true, false) => Warning::UnfedInput { port },
-        (false, true) => Warning::UnlinkedInside {
-            direction,
-            model,
-            port,
-        },
-        (false, false) => Warning::UnusedPort { direction, port },
-    };
-    findings.note(input.offset, warning)
+// A port of a coupled model, and on which sides of it there are links.
+#[derive(Clone, Copy)]
+struct CoupledPort {
+    direction: Direction,
+    name: Name,
+    is_linked_inside: bool,
+    is_linked_outside: bool,
 }
 
-fn find_unlinked_output(
+fn find_unlinked_port(
     findings: &mut Findings<'_>,
     model: Name,
-    output: Name,
-    is_inside: bool,
-    is_outside: bool,
+    port: CoupledPort,
 ) -> Result<(), AllocError> {
-    let direction = Direction::Output;
-    let model = findings.name(model);
-    let port = findings.name(output);
-    let warning = match (is_inside, is_outside) {
+    let CoupledPort {
+        direction,
+        name,
+        is_linked_inside,
+        is_linked_outside,
+    } = port;
+    let port = findings.name(name);
+    let warning = match (is_linked_inside, is_linked_outside) {
         (true, true) => return Ok(()),
-        (true, false) => Warning::UntakenOutput { port },
+        (true, false) => Warning::unlinked_outside(direction, port),
         (false, true) => Warning::UnlinkedInside {
             direction,
-            model,
+            model: findings.name(model),
             port,
         },
         (false, false) => Warning::UnusedPort { direction, port },
     };
-    findings.note(output.offset, warning)
+    findings.note(name.offset, warning)
 }
 
 /// Adds warnings about the parts of a coupled model that have no links, or inputs without links.

@@ -180,6 +180,24 @@ impl fmt::Display for Warning<'_> {
             Warning::UnreadVariable { sort, name } => write_unread(f, *sort, name),
             Warning::UnusedPort { direction, port } => {
                 write!(f, "the {direction} port `{port}` is never used")
+impl<'a> Warning<'a> {
+    /// That no rule of its atomic model uses a port.
+    pub(crate) fn unused_inside(direction: Direction, port: &'a str) -> Self {
+        match direction {
+            Direction::Input => Warning::UnreadInput { port },
+            Direction::Output => Warning::UnsentOutput { port },
+        }
+    }
+
+    /// That no link outside of its model leads to or from a port.
+    pub(crate) fn unlinked_outside(direction: Direction, port: &'a str) -> Self {
+        match direction {
+            Direction::Input => Warning::UnfedInput { port },
+            Direction::Output => Warning::UntakenOutput { port },
+        }
+    }
+}
+
             }
             Warning::UnreadInput { port } => write!(f, "no rule reads the input port `{port}`"),
             Warning::UnsentOutput { port } => {
