@@ -3,13 +3,13 @@
 use crate::constants::Nowhere;
 use crate::findings::Findings;
 use crate::links::{InsideLinks, PortLinks, links_inside, port_links};
-use crate::mentions::{mentions_in_holds, rules_of};
+use crate::mentions::{ReadRule, mentions_in_holds, rules_of};
 use crate::models::find_unreached_models;
 use crate::names::{Uses, find_unused_names};
 use crate::parts::{find_unlinked_parts, find_unlinked_ports};
 use crate::phases::{Phase, phases_of};
 use crate::reach::{phases_behind_internal_rules, reached_phases};
-use crate::rules::{Standing, Surroundings, find_constant_conditions, find_in_phase};
+use crate::rules::{Reach, Surroundings, find_constant_conditions, find_in_phase};
 use crate::warning::Found;
 use dv_eval::Scope;
 use dv_syntax::{Atomic, Model, RuleSort};
@@ -32,21 +32,30 @@ struct AtomicModel<'a> {
 /// Memory is refused.
 pub fn find_warnings<'t>(alloc: Global, tree: &'t Tree<'t>) -> Result<Vec<Found<'t>>, AllocError> {
     let mut findings = Findings::new(alloc, tree);
-    find_unreached_models(alloc, tree, &mut findings)?;
+    find_all(alloc, tree, &mut findings)?;
+    findings.in_order()
+}
+
+fn find_all<'t>(
+    alloc: Global,
+    tree: &'t Tree<'t>,
+    findings: &mut Findings<'t>,
+) -> Result<(), AllocError> {
+    find_unreached_models(alloc, tree, findings)?;
     let inside = links_inside(alloc, tree)?;
     let links = port_links(alloc, tree, &inside)?;
-    find_in_atomic_models(alloc, tree, &links, &mut findings)?;
-    find_in_coupled_models(tree, &inside, &links, &mut findings)?;
-    findings.in_order()
+    let nowhere = Nowhere::new(alloc);
+    find_in_atomic_models(alloc, tree, &links, &nowhere, findings)?;
+    find_in_coupled_models(tree, &inside, &links, findings)
 }
 
 fn find_in_atomic_models<'t>(
     alloc: Global,
     tree: &'t Tree<'t>,
     links: &[PortLinks],
+    nowhere: &Nowhere,
     findings: &mut Findings<'t>,
 ) -> Result<(), AllocError> {
-    let nowhere = Nowhere::new(alloc);
     for ((model, scope), links) in tree.reached().iter().zip(tree.scopes()).zip(links) {
         if let Model::Atomic(atomic) = model {
             let model = AtomicModel {
@@ -54,7 +63,7 @@ fn find_in_atomic_models<'t>(
                 scope,
                 links,
             };
-            find_in_atomic(alloc, model, &nowhere, findings)?;
+            find_in_atomic(alloc, model, nowhere, findings)?;
         }
     }
     Ok(())
@@ -67,14 +76,21 @@ fn find_in_atomic(
     findings: &mut Findings<'_>,
 ) -> Result<(), AllocError> {
     let rules = rules_of(alloc, model.atomic)?;
-    let holds = mentions_in_holds(alloc, model.atomic)?;
-    let uses = Uses::of(alloc, &rules, &holds, model.scope)?;
-    find_unused_names(findings, model.atomic, model.scope, &uses, model.links)?;
-    for rule in &rules {
-        find_constant_conditions(findings, rule, nowhere)?;
-    }
+    find_unused(alloc, model, &rules, findings)?;
+    find_constant_conditions(findings, &rules, nowhere)?;
     let phases = phases_of(alloc, model.atomic, model.scope, rules, nowhere)?;
     find_in_phases(alloc, model, &phases, findings)
+}
+
+fn find_unused(
+    alloc: Global,
+    model: AtomicModel<'_>,
+    rules: &[ReadRule<'_>],
+    findings: &mut Findings<'_>,
+) -> Result<(), AllocError> {
+    let holds = mentions_in_holds(alloc, model.atomic)?;
+    let uses = Uses::of(alloc, rules, &holds, model.scope)?;
+    find_unused_names(findings, model.atomic, model.scope, &uses, model.links)
 }
 
 fn find_in_phases(
@@ -87,12 +103,12 @@ fn find_in_phases(
     let behind = phases_behind_internal_rules(alloc, model.scope, phases, &reached)?;
     let around = surroundings(model);
     for ((phase, is_reached), is_behind) in phases.iter().zip(&reached).zip(&behind) {
-        let standing = Standing {
+        let reach = Reach {
             is_start: is_start(model.atomic, phase.name.number),
             is_reached: *is_reached,
             is_behind_internal_rule: *is_behind,
         };
-        find_in_phase(findings, phase, around, standing)?;
+        find_in_phase(findings, phase, around, reach)?;
     }
     Ok(())
 }
@@ -101,19 +117,26 @@ fn surroundings(model: AtomicModel<'_>) -> Surroundings {
     Surroundings {
         has_inputs: !model.scope.inputs().is_empty(),
         is_fed: !model.links.fed_inputs().is_empty(),
-        has_external_rules: model
-            .atomic
-            .rules
-            .iter()
-            .any(|rule| rule.sort == RuleSort::External),
+        has_external_rules: has_external_rules(model.atomic),
     }
 }
 
+fn has_external_rules(atomic: &Atomic) -> bool {
+    for rule in &atomic.rules {
+        if rule.sort == RuleSort::External {
+            return true;
+        }
+    }
+    false
+}
+
 fn is_start(atomic: &Atomic, phase: u32) -> bool {
-    atomic
-        .starts
-        .iter()
-        .any(|start| start.phase.number == phase)
+    for start in &atomic.starts {
+        if start.phase.number == phase {
+            return true;
+        }
+    }
+    false
 }
 
 fn find_in_coupled_models(

@@ -16,7 +16,18 @@ pub(crate) struct PortLinks {
 }
 
 impl PortLinks {
-    /// Whether a link leads to an input port. Where no part of the model has a link, that is told of the part alone.
+    // Ports without links.
+    fn new(alloc: Global, inputs: usize, outputs: usize) -> Result<Self, AllocError> {
+        Ok(PortLinks {
+            is_linked: false,
+            inputs: vec![in alloc; false; inputs]?,
+            outputs: vec![in alloc; false; outputs]?,
+            fed: Vec::new(alloc),
+        })
+    }
+
+    /// Whether a link leads to the input port at an index. Also true if no part of the model has a
+    /// link at all: then each part has a warning of its own.
     pub(crate) fn is_input_linked(&self, port: Option<usize>) -> bool {
         !self.is_linked || is_marked(&self.inputs, port)
     }
@@ -114,12 +125,16 @@ pub(crate) struct InsideLinks {
 pub(crate) fn links_inside(alloc: Global, tree: &Tree<'_>) -> Result<Vec<InsideLinks>, AllocError> {
     let mut inside = Vec::with_capacity(alloc, tree.reached().len())?;
     for offset in 0..tree.reached().len() {
-        inside.push(match level_at(tree.levels(), offset) {
-            Some(level) => links_in(alloc, level)?,
-            None => no_links(alloc, 0)?,
-        })?;
+        inside.push(links_at(alloc, tree, offset)?)?;
     }
     Ok(inside)
+}
+
+fn links_at(alloc: Global, tree: &Tree<'_>, offset: usize) -> Result<InsideLinks, AllocError> {
+    match level_at(tree.levels(), offset) {
+        Some(level) => links_in(alloc, level),
+        None => no_links(alloc, 0),
+    }
 }
 
 fn no_links(alloc: Global, parts: usize) -> Result<InsideLinks, AllocError> {
@@ -142,19 +157,25 @@ fn no_ports(alloc: Global) -> PartLinks {
 
 fn links_in(alloc: Global, level: &Level) -> Result<InsideLinks, AllocError> {
     let mut inside = no_links(alloc, level.parts().len())?;
-    for coupling in level.couplings_of_inputs() {
-        inside.own.inputs.push(coupling.port)?;
-        inside.add_target(coupling.target)?;
-    }
-    for part in 0..level.parts().len() {
-        inside.add_couplings(part, level.couplings_of_part(part))?;
-    }
-    inside.sort();
+    inside.add_all(level)?;
     Ok(inside)
 }
 
 impl InsideLinks {
-    // The links from a part.
+    // Adds the links of a level.
+    fn add_all(&mut self, level: &Level) -> Result<(), AllocError> {
+        for coupling in level.couplings_of_inputs() {
+            self.own.inputs.push(coupling.port)?;
+            self.add_target(coupling.target)?;
+        }
+        for part in 0..level.parts().len() {
+            self.add_couplings(part, level.couplings_of_part(part))?;
+        }
+        self.sort();
+        Ok(())
+    }
+
+    // Adds the links that lead from a part.
     fn add_couplings(&mut self, part: usize, couplings: &[Coupling]) -> Result<(), AllocError> {
         for coupling in couplings {
             if let Some(part) = self.parts.get_mut(part) {
@@ -223,12 +244,7 @@ fn unlinked(alloc: Global, tree: &Tree<'_>) -> Result<Vec<PortLinks>, AllocError
             Model::Atomic(_) => (scope.inputs().len(), scope.outputs().len()),
             Model::Coupled(coupled) => (coupled.inputs.len(), coupled.outputs.len()),
         };
-        links.push(PortLinks {
-            is_linked: false,
-            inputs: vec![in alloc; false; inputs]?,
-            outputs: vec![in alloc; false; outputs]?,
-            fed: Vec::new(alloc),
-        })?;
+        links.push(PortLinks::new(alloc, inputs, outputs)?)?;
     }
     Ok(links)
 }

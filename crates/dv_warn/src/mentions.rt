@@ -1,7 +1,7 @@
 //! What rules and holds do with names.
 
 use crate::statements::add_statements;
-use dv_syntax::{Atomic, Command, Expr, Rule, Stmt, Ticks};
+use dv_syntax::{Atomic, Command, Expr, Name, Rule, Stmt, Ticks};
 use std::alloc::{AllocError, Global};
 
 /// What a rule or a hold does with a name, given by its number.
@@ -29,17 +29,21 @@ pub(crate) struct ReadRule<'a> {
 
 impl<'a> ReadRule<'a> {
     fn of(alloc: Global, rule: &'a Rule) -> Result<Self, AllocError> {
-        let mut statements = Vec::new(alloc);
-        add_statements(&rule.body, &mut statements)?;
-        let mut mentions = Vec::new(alloc);
-        for statement in &statements {
-            add_mentions(statement, &mut mentions)?;
-        }
-        Ok(ReadRule {
+        let mut read = ReadRule {
             rule,
-            statements,
-            mentions,
-        })
+            statements: Vec::new(alloc),
+            mentions: Vec::new(alloc),
+        };
+        read.read_body()?;
+        Ok(read)
+    }
+
+    fn read_body(&mut self) -> Result<(), AllocError> {
+        add_statements(&self.rule.body, &mut self.statements)?;
+        for statement in &self.statements {
+            add_mentions(statement, &mut self.mentions)?;
+        }
+        Ok(())
     }
 }
 
@@ -76,31 +80,37 @@ pub(crate) fn mentions_in_holds(
 
 // Adds what a statement does with names, without the blocks in it.
 fn add_mentions(statement: &Stmt, mentions: &mut Vec<Mention>) -> Result<(), AllocError> {
+    if let Some(mention) = mention_of(statement) {
+        mentions.push(mention)?;
+    }
+    match expression_of(statement) {
+        Some(expression) => add_reads(expression, mentions),
+        None => Ok(()),
+    }
+}
+
+// What a statement does with the name that it has beside its expression.
+fn mention_of(statement: &Stmt) -> Option<Mention> {
     match statement {
-        Stmt::Assign { variable, value } => {
-            mentions.push(Mention::Changes(variable.number))?;
-            add_reads(value, mentions)
-        }
-        Stmt::Command { command, name, .. } => Ok(mentions.push(match command {
+        Stmt::Assign { variable, .. } => Some(Mention::Changes(variable.number)),
+        Stmt::Command { command, name, .. } => Some(match command {
             Command::Goto => Mention::GoesTo(name.number),
             Command::Pop => Mention::Changes(name.number),
-        })?),
-        Stmt::Send { port, value, .. } => {
-            mentions.push(Mention::Sends(port.number))?;
-            add_reads(value, mentions)
+        }),
+        Stmt::Send { port, .. } => Some(Mention::Sends(port.number)),
+        Stmt::For { bag, .. } => Some(Mention::Reads(bag.number)),
+        Stmt::Change { collection, .. } => Some(Mention::Changes(collection.number)),
+        Stmt::If { .. } | Stmt::IfElse { .. } => None,
+    }
+}
+
+fn expression_of(statement: &Stmt) -> Option<&Expr> {
+    match statement {
+        Stmt::Assign { value, .. } | Stmt::Send { value, .. } | Stmt::Change { value, .. } => {
+            Some(value)
         }
-        Stmt::If { condition, .. } | Stmt::IfElse { condition, .. } => {
-            add_reads(condition, mentions)
-        }
-        Stmt::For { bag, .. } => Ok(mentions.push(Mention::Reads(bag.number))?),
-        Stmt::Change {
-            value,
-            collection,
-            ..
-        } => {
-            mentions.push(Mention::Changes(collection.number))?;
-            add_reads(value, mentions)
-        }
+        Stmt::If { condition, .. } | Stmt::IfElse { condition, .. } => Some(condition),
+        Stmt::Command { .. } | Stmt::For { .. } => None,
     }
 }
 
@@ -108,17 +118,21 @@ fn add_mentions(statement: &Stmt, mentions: &mut Vec<Mention>) -> Result<(), All
 fn add_reads(expression: &Expr, mentions: &mut Vec<Mention>) -> Result<(), AllocError> {
     match expression {
         Expr::Literal(_) | Expr::TruthValue { .. } | Expr::Elapsed { .. } => Ok(()),
-        Expr::Named(name) => Ok(mentions.push(Mention::Reads(name.number))?),
+        Expr::Named(name) | Expr::Call { bag: name, .. } => add_read(*name, mentions),
         Expr::Parens { inner, .. } => add_reads(inner, mentions),
         Expr::Prefixed { operand, .. } => add_reads(operand, mentions),
         Expr::Binary { left, right, .. } => {
             add_reads(left, mentions)?;
             add_reads(right, mentions)
         }
-        Expr::Call { bag, .. } => Ok(mentions.push(Mention::Reads(bag.number))?),
         Expr::Times { value, bag, .. } => {
-            mentions.push(Mention::Reads(bag.number))?;
+            add_read(*bag, mentions)?;
             add_reads(value, mentions)
         }
     }
+}
+
+fn add_read(name: Name, mentions: &mut Vec<Mention>) -> Result<(), AllocError> {
+    mentions.push(Mention::Reads(name.number))?;
+    Ok(())
 }

@@ -39,12 +39,22 @@ impl Uses {
             sent: HashSet::new(alloc),
             takes_anything: false,
         };
-        uses.add(holds)?;
-        for rule in rules {
-            uses.add(&rule.mentions)?;
-            uses.takes_anything = uses.takes_anything || takes_anything(rule, scope);
-        }
+        uses.add_all(rules, holds, scope)?;
         Ok(uses)
+    }
+
+    fn add_all(
+        &mut self,
+        rules: &[ReadRule<'_>],
+        holds: &[Mention],
+        scope: &Scope,
+    ) -> Result<(), AllocError> {
+        self.add(holds)?;
+        for rule in rules {
+            self.add(&rule.mentions)?;
+            self.takes_anything = self.takes_anything || takes_anything(rule, scope);
+        }
+        Ok(())
     }
 
     fn add(&mut self, mentions: &[Mention]) -> Result<(), AllocError> {
@@ -67,9 +77,14 @@ fn takes_anything(rule: &ReadRule<'_>, scope: &Scope) -> bool {
 }
 
 fn reads_input(mentions: &[Mention], scope: &Scope) -> bool {
-    mentions.iter().any(
-        |mention| matches!(mention, Mention::Reads(name) if scope.input(*name).is_some()),
-    )
+    for mention in mentions {
+        if let Mention::Reads(name) = mention
+            && scope.input(*name).is_some()
+        {
+            return true;
+        }
+    }
+    false
 }
 
 /// Adds warnings about the ports and state variables of a model that nothing uses.
@@ -90,21 +105,6 @@ pub(crate) fn find_unused_names(
     Ok(())
 }
 
-fn sort_of(discipline: Discipline) -> StateSort {
-    match discipline {
-        Discipline::Bag => StateSort::Bag,
-        Discipline::Queue => StateSort::Queue,
-    }
-}
-
-fn find_unused_variable<'t>(
-    findings: &mut Findings<'t>,
-    sort: StateSort,
-    variable: Name,
-    uses: &Uses,
-) -> Result<(), AllocError> {
-    if uses.read.contains(&variable.number) {
-        return Ok(());
 fn find_unused_name(
     findings: &mut Findings<'_>,
     declaration: &Declaration,
@@ -135,6 +135,21 @@ fn find_unused_name(
     }
 }
 
+fn sort_of(discipline: Discipline) -> StateSort {
+    match discipline {
+        Discipline::Bag => StateSort::Bag,
+        Discipline::Queue => StateSort::Queue,
+    }
+}
+
+fn find_unused_variable<'t>(
+    findings: &mut Findings<'t>,
+    sort: StateSort,
+    variable: Name,
+    uses: &Uses,
+) -> Result<(), AllocError> {
+    if uses.read.contains(&variable.number) {
+        return Ok(());
     }
     let name = findings.name(variable);
     let warning = if uses.changed.contains(&variable.number) {

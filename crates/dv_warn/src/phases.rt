@@ -24,14 +24,19 @@ pub(crate) struct Phase<'a> {
     pub(crate) length: Length,
     /// The name of the phase as its hold has it, for the offset.
     pub(crate) held: Name,
-    /// At most one of each sort.
+    /// The rules of the phase, at most one of each sort.
     pub(crate) rules: Vec<ReadRule<'a>>,
 }
 
 impl<'a> Phase<'a> {
     /// The rule of a sort, if there is one.
     pub(crate) fn rule(&self, sort: RuleSort) -> Option<&ReadRule<'a>> {
-        self.rules.iter().find(|rule| rule.rule.sort == sort)
+        for rule in &self.rules {
+            if rule.rule.sort == sort {
+                return Some(rule);
+            }
+        }
+        None
     }
 
     /// Whether an internal transition may stay in the phase.
@@ -44,15 +49,25 @@ impl<'a> Phase<'a> {
 
     /// Whether a rule goes to another phase.
     pub(crate) fn has_way_out(&self) -> bool {
-        self.rules
-            .iter()
-            .any(|rule| leads_away(&rule.mentions, self.name.number))
+        for rule in &self.rules {
+            if leads_away(&rule.mentions, self.name.number) {
+                return true;
+            }
+        }
+        false
     }
 }
 
 // Whether a `goto` leads to another phase than this one.
 fn leads_away(mentions: &[Mention], phase: u32) -> bool {
-    mentions.iter().any(|mention| matches!(mention, Mention::GoesTo(target) if *target != phase))
+    for mention in mentions {
+        if let Mention::GoesTo(target) = mention
+            && *target != phase
+        {
+            return true;
+        }
+    }
+    false
 }
 
 /// The phases of a model with its rules, in the order of the text.

@@ -21,18 +21,7 @@ pub(crate) fn reached_phases(
         reached: vec![in alloc; false; phases.len()]?,
         waiting: Vec::new(alloc),
     };
-    for start in &atomic.starts {
-        walk.reach(scope.phase(start.phase.number))?;
-    }
-    // Each phase waits once.
-    for _phase in phases {
-        let Some(offset) = walk.waiting.pop() else {
-            break;
-        };
-        if let Some(phase) = phases.get(offset) {
-            walk.follow(&phase.rules, scope)?;
-        }
-    }
+    walk.follow_all(atomic, scope, phases)?;
     Ok(walk.reached)
 }
 
@@ -45,7 +34,27 @@ struct Walk {
 }
 
 impl Walk {
-    // A phase is reached; it waits if it was not reached before.
+    // Reaches all phases from the start. Each phase waits once, so one iteration a phase is enough.
+    fn follow_all(
+        &mut self,
+        atomic: &Atomic,
+        scope: &Scope,
+        phases: &[Phase<'_>],
+    ) -> Result<(), AllocError> {
+        for start in &atomic.starts {
+            self.reach(scope.phase(start.phase.number))?;
+        }
+        for _phase in phases {
+            if let Some(offset) = self.waiting.pop()
+                && let Some(phase) = phases.get(offset)
+            {
+                self.follow(&phase.rules, scope)?;
+            }
+        }
+        Ok(())
+    }
+
+    // Marks a phase as reached. If it was not reached before, its rules are still to be followed.
     fn reach(&mut self, phase: Option<u32>) -> Result<(), AllocError> {
         if let Some(offset) = phase
             && let Some(reached) = self.reached.get_mut(offset as usize)
@@ -57,7 +66,7 @@ impl Walk {
         Ok(())
     }
 
-    // The phases to which the rules of a phase go are reached.
+    // Reaches the phases to which the rules of a phase lead.
     fn follow(&mut self, rules: &[ReadRule<'_>], scope: &Scope) -> Result<(), AllocError> {
         for rule in rules {
             self.follow_rule(&rule.mentions, scope)?;

@@ -22,7 +22,7 @@ pub(crate) struct Surroundings {
 
 /// How a phase can be reached.
 #[derive(Clone, Copy)]
-pub(crate) struct Standing {
+pub(crate) struct Reach {
     pub(crate) is_start: bool,
     pub(crate) is_reached: bool,
     /// Whether its external rule can run at the instant of an internal rule, directly after it.
@@ -38,16 +38,16 @@ pub(crate) fn find_in_phase<'t>(
     findings: &mut Findings<'t>,
     phase: &Phase<'_>,
     around: Surroundings,
-    standing: Standing,
+    reach: Reach,
 ) -> Result<(), AllocError> {
-    if !standing.is_reached {
+    if !reach.is_reached {
         let name = findings.name(phase.name);
         return findings.note(phase.name.offset, Warning::UnreachedPhase { phase: name });
     }
     find_endless_hold(findings, phase)?;
-    find_lost_values(findings, phase, around, standing)?;
+    find_lost_values(findings, phase, around, reach)?;
     for rule in &phase.rules {
-        if let Some(reason) = idle_reason(rule.rule.sort, phase, around, standing) {
+        if let Some(reason) = idle_reason(rule.rule.sort, phase, around, reach) {
             note_idle_rule(findings, rule, reason)?;
         }
     }
@@ -74,7 +74,7 @@ fn find_lost_values<'t>(
     findings: &mut Findings<'t>,
     phase: &Phase<'_>,
     around: Surroundings,
-    standing: Standing,
+    reach: Reach,
 ) -> Result<(), AllocError> {
     let is_lossy = around.is_fed
         && around.has_external_rules
@@ -85,7 +85,7 @@ fn find_lost_values<'t>(
     let name = findings.name(phase.name);
     if phase.length != Length::Zero {
         findings.note(phase.name.offset, Warning::LostValues { phase: name })
-    } else if standing.is_behind_internal_rule {
+    } else if reach.is_behind_internal_rule {
         findings.note(phase.name.offset, Warning::LostOnArrival { phase: name })
     } else {
         Ok(())
@@ -97,20 +97,21 @@ fn idle_reason(
     sort: RuleSort,
     phase: &Phase<'_>,
     around: Surroundings,
-    standing: Standing,
+    reach: Reach,
 ) -> Option<NeverRuns> {
     match sort {
         RuleSort::External | RuleSort::Confluent if !around.has_inputs => Some(NeverRuns::NoInput),
         RuleSort::Output | RuleSort::Internal | RuleSort::Confluent => {
             (phase.length == Length::Forever).then_some(NeverRuns::HeldForever)
         }
-        RuleSort::External => is_left_unmet(phase, standing).then_some(NeverRuns::LeftAtOnce),
+        RuleSort::External => is_left_unmet(phase, reach).then_some(NeverRuns::LeftAtOnce),
     }
 }
 
-// Whether a phase is left before anything can arrive in it. At 0.0 inputs can come to the start phase.
-fn is_left_unmet(phase: &Phase<'_>, standing: Standing) -> bool {
-    phase.length == Length::Zero && !standing.is_start && !standing.is_behind_internal_rule
+// Whether a phase ends before anything can arrive in it. In the start phase inputs can arrive at
+// 0.0.
+fn is_left_unmet(phase: &Phase<'_>, reach: Reach) -> bool {
+    phase.length == Length::Zero && !reach.is_start && !reach.is_behind_internal_rule
 }
 
 fn note_idle_rule<'t>(
@@ -135,6 +136,17 @@ fn note_idle_rule<'t>(
 ///
 /// Memory is refused.
 pub(crate) fn find_constant_conditions(
+    findings: &mut Findings<'_>,
+    rules: &[ReadRule<'_>],
+    nowhere: &Nowhere,
+) -> Result<(), AllocError> {
+    for rule in rules {
+        find_constant_conditions_of(findings, rule, nowhere)?;
+    }
+    Ok(())
+}
+
+fn find_constant_conditions_of(
     findings: &mut Findings<'_>,
     rule: &ReadRule<'_>,
     nowhere: &Nowhere,

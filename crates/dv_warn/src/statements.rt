@@ -7,29 +7,39 @@ use std::alloc::AllocError;
 ///
 /// # Errors
 ///
-/// No memory for the list.
+/// Memory is refused.
+#[cycle(statements)]
 pub(crate) fn add_statements<'a>(
     block: &'a Block,
     statements: &mut Vec<&'a Stmt>,
 ) -> Result<(), AllocError> {
     for statement in &block.statements {
-        statements.push(statement)?;
-        match statement {
-            Stmt::If { then_block, .. } => add_statements(then_block, statements)?,
-            Stmt::IfElse {
-                then_block,
-                else_block,
-                ..
-            } => {
-                add_statements(then_block, statements)?;
-                add_statements(else_block, statements)?;
-            }
-            Stmt::For { block, .. } => add_statements(block, statements)?,
-            Stmt::Assign { .. } | Stmt::Command { .. } | Stmt::Send { .. } | Stmt::Change { .. } =>
-                {}
-        }
+        add_statement(statement, statements)?;
     }
     Ok(())
+}
+
+#[cycle(statements)]
+fn add_statement<'a>(
+    statement: &'a Stmt,
+    statements: &mut Vec<&'a Stmt>,
+) -> Result<(), AllocError> {
+    statements.push(statement)?;
+    match statement {
+        Stmt::If { then_block, .. } => add_statements(then_block, statements),
+        Stmt::IfElse {
+            then_block,
+            else_block,
+            ..
+        } => {
+            add_statements(then_block, statements)?;
+            add_statements(else_block, statements)
+        }
+        Stmt::For { block, .. } => add_statements(block, statements),
+        Stmt::Assign { .. } | Stmt::Command { .. } | Stmt::Send { .. } | Stmt::Change { .. } => {
+            Ok(())
+        }
+    }
 }
 
 /// Whether a `goto` runs wherever a block runs to its end. A loop may have nothing to run for.

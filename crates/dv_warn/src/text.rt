@@ -1,6 +1,7 @@
 //! Writes warnings as lines.
 
 use crate::find::find_warnings;
+use crate::warning::Found;
 use dv_text::{WriteError, hand_over, hand_over_if_long};
 use dv_tree::Tree;
 use std::alloc::Global;
@@ -28,7 +29,7 @@ impl Spot {
             if *byte == b'\n' {
                 self.line = self.line.saturating_add(1);
                 self.column = 1;
-            } else if !goes_on(*byte) {
+            } else if !is_continuation(*byte) {
                 self.column = self.column.saturating_add(1);
             }
         }
@@ -36,8 +37,8 @@ impl Spot {
     }
 }
 
-// Whether a byte goes on with a character of UTF-8.
-fn goes_on(byte: u8) -> bool {
+// Whether a byte is not the first one of a character of UTF-8.
+fn is_continuation(byte: u8) -> bool {
     byte & 0xc0 == 0x80
 }
 
@@ -58,13 +59,23 @@ pub fn write_warnings<W: Write>(
 ) -> Result<u64, WriteError> {
     let warnings = find_warnings(alloc, tree)?;
     let mut lines = String::new(alloc);
+    write_lines(&mut lines, name, text, &warnings, writer)?;
+    Ok(warnings.len() as u64)
+}
+
+fn write_lines<W: Write>(
+    lines: &mut String,
+    name: &str,
+    text: &[u8],
+    warnings: &[Found<'_>],
+    writer: &mut W,
+) -> Result<(), WriteError> {
     let mut spot = Spot::START;
-    for found in &warnings {
+    for found in warnings {
         spot.advance(text, found.offset as usize);
         let Spot { line, column, .. } = spot;
         writeln!(lines, "{name}:{line}:{column}: warning: {}", found.warning)?;
-        hand_over_if_long(&mut lines, writer)?;
+        hand_over_if_long(lines, writer)?;
     }
-    hand_over(writer, lines.as_bytes())?;
-    Ok(warnings.len() as u64)
+    hand_over(writer, lines.as_bytes())
 }

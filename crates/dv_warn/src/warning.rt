@@ -16,14 +16,26 @@ pub enum StateSort {
     Queue,
 }
 
-impl fmt::Display for StateSort {
-    fn fmt<W: fmt::Write>(&self, f: &mut fmt::Formatter<W>) -> fmt::Result {
-        f.write_str(match self {
-            StateSort::Variable => "variable",
-            StateSort::Flag => "flag",
-            StateSort::Bag => "bag",
-            StateSort::Queue => "queue",
-        })
+impl StateSort {
+    fn noun(self) -> &'static str {
+        match self {
+            StateSort::Variable => "the variable",
+            StateSort::Flag => "the flag",
+            StateSort::Bag => "the bag",
+            StateSort::Queue => "the queue",
+        }
+    }
+
+    // The end of the sentence on a state variable that rules change and do not read.
+    fn is_unread(self) -> &'static str {
+        match self {
+            StateSort::Variable | StateSort::Flag => {
+                " is set but never read: only the trace shows it"
+            }
+            StateSort::Bag | StateSort::Queue => {
+                " is changed but never read: only the trace shows it"
+            }
+        }
     }
 }
 
@@ -36,12 +48,12 @@ pub enum Direction {
     Output,
 }
 
-impl fmt::Display for Direction {
-    fn fmt<W: fmt::Write>(&self, f: &mut fmt::Formatter<W>) -> fmt::Result {
-        f.write_str(match self {
-            Direction::Input => "input",
-            Direction::Output => "output",
-        })
+impl Direction {
+    fn noun(self) -> &'static str {
+        match self {
+            Direction::Input => "the input port",
+            Direction::Output => "the output port",
+        }
     }
 }
 
@@ -168,18 +180,6 @@ pub enum Warning<'a> {
     },
 }
 
-impl fmt::Display for Warning<'_> {
-    fn fmt<W: fmt::Write>(&self, f: &mut fmt::Formatter<W>) -> fmt::Result {
-        match self {
-            Warning::UnreachedModel { model } => {
-                write!(f, "the root does not lead to the model `{model}`")
-            }
-            Warning::UnusedVariable { sort, name } => {
-                write!(f, "the {sort} `{name}` is never used")
-            }
-            Warning::UnreadVariable { sort, name } => write_unread(f, *sort, name),
-            Warning::UnusedPort { direction, port } => {
-                write!(f, "the {direction} port `{port}` is never used")
 impl<'a> Warning<'a> {
     /// That no rule of its atomic model uses a port.
     pub(crate) fn unused_inside(direction: Direction, port: &'a str) -> Self {
@@ -198,14 +198,32 @@ impl<'a> Warning<'a> {
     }
 }
 
+impl fmt::Display for Warning<'_> {
+    fn fmt<W: fmt::Write>(&self, f: &mut fmt::Formatter<W>) -> fmt::Result {
+        match self {
+            Warning::UnreachedModel { model } => {
+                write_named(f, "the root does not lead to the model", model, "")
             }
-            Warning::UnreadInput { port } => write!(f, "no rule reads the input port `{port}`"),
+            Warning::UnusedVariable { sort, name } => {
+                write_named(f, sort.noun(), name, IS_UNUSED)
+            }
+            Warning::UnreadVariable { sort, name } => {
+                write_named(f, sort.noun(), name, sort.is_unread())
+            }
+            Warning::UnusedPort { direction, port } => {
+                write_named(f, direction.noun(), port, IS_UNUSED)
+            }
+            Warning::UnreadInput { port } => {
+                write_named(f, "no rule reads the input port", port, "")
+            }
             Warning::UnsentOutput { port } => {
-                write!(f, "no rule sends from the output port `{port}`")
+                write_named(f, "no rule sends from the output port", port, "")
             }
-            Warning::UnfedInput { port } => write!(f, "no link leads to the input port `{port}`"),
+            Warning::UnfedInput { port } => {
+                write_named(f, "no link leads to the input port", port, "")
+            }
             Warning::UntakenOutput { port } => {
-                write!(f, "no link leads from the output port `{port}`")
+                write_named(f, "no link leads from the output port", port, "")
             }
             Warning::UnlinkedInside {
                 direction,
@@ -213,53 +231,52 @@ impl<'a> Warning<'a> {
                 port,
             } => write_inside(f, *direction, model, port),
             Warning::UnlinkedPart { part } => {
-                write!(f, "no link leads to or from the part `{part}`")
+                write_named(f, "no link leads to or from the part", part, "")
             }
             Warning::UnfedPart { part, port, others } => write_unfed(f, part, port, *others),
             Warning::UnreachedPhase { phase } => {
-                write!(f, "no rules lead from the start to the phase `{phase}`")
+                write_named(f, "no rules lead from the start to the phase", phase, "")
             }
-            Warning::LostValues { phase } => write_lost(f, "arrives in", phase),
+            Warning::LostValues { phase } => {
+                write_named(f, "what arrives in the phase", phase, IS_LOST)
+            }
             Warning::LostOnArrival { phase } => {
-                write_lost(f, "arrives as an internal rule leads to", phase)
+                let arrives = "what arrives as an internal rule leads to the phase";
+                write_named(f, arrives, phase, IS_LOST)
             }
             Warning::IdleRule {
                 sort,
                 phase,
                 reason,
             } => write_idle(f, *sort, phase, *reason),
-            Warning::EndlessPhase { phase } => write_endless(f, phase),
-            Warning::ConstantCondition { value } => write!(f, "this condition is always {value}"),
+            Warning::EndlessPhase { phase } => {
+                write_named(f, "no rule leaves the phase", phase, BEGINS_AGAIN)
+            }
+            Warning::ConstantCondition { value: true } => {
+                f.write_str("this condition is always true")
+            }
+            Warning::ConstantCondition { value: false } => {
+                f.write_str("this condition is always false")
+            }
         }
     }
 }
 
-fn write_unread<W: fmt::Write>(
+const IS_UNUSED: &str = " is never used";
+
+const IS_LOST: &str = " is lost: it has no external rule";
+
+const BEGINS_AGAIN: &str =
+    ", whose hold is 0: it begins again at once, until the fault `microsteps`";
+
+// Writes a sentence with one name in it.
+fn write_named<W: fmt::Write>(
     f: &mut fmt::Formatter<W>,
-    sort: StateSort,
+    before: &str,
     name: &str,
+    after: &str,
 ) -> fmt::Result {
-    let done = done_to(sort);
-    write!(
-        f,
-        "the {sort} `{name}` is {done} but never read: only the trace shows it"
-    )
-}
-
-// What rules do with a state variable that they do not read.
-fn done_to(sort: StateSort) -> &'static str {
-    match sort {
-        StateSort::Variable | StateSort::Flag => "set",
-        StateSort::Bag | StateSort::Queue => "changed",
-    }
-}
-
-// Where a link inside of a coupled model would lead, seen from a port of the model.
-fn preposition(direction: Direction) -> &'static str {
-    match direction {
-        Direction::Input => "from",
-        Direction::Output => "to",
-    }
+    write!(f, "{before} `{name}`{after}")
 }
 
 fn write_inside<W: fmt::Write>(
@@ -268,11 +285,11 @@ fn write_inside<W: fmt::Write>(
     model: &str,
     port: &str,
 ) -> fmt::Result {
-    let preposition = preposition(direction);
-    write!(
-        f,
-        "inside of `{model}` no link leads {preposition} the {direction} port `{port}`"
-    )
+    let end = match direction {
+        Direction::Input => "from the input",
+        Direction::Output => "to the output",
+    };
+    write!(f, "inside of `{model}` no link leads {end} port `{port}`")
 }
 
 fn write_unfed<W: fmt::Write>(
@@ -285,27 +302,11 @@ fn write_unfed<W: fmt::Write>(
         f,
         "no link leads to the input port `{port}` of the part `{part}`"
     )?;
-    write_others(f, others)
-}
-
-fn write_others<W: fmt::Write>(f: &mut fmt::Formatter<W>, others: usize) -> fmt::Result {
     match others {
         0 => Ok(()),
         1 => f.write_str(", nor to another of its inputs"),
         _ => write!(f, ", nor to {others} others of its inputs"),
     }
-}
-
-fn write_lost<W: fmt::Write>(f: &mut fmt::Formatter<W>, when: &str, phase: &str) -> fmt::Result {
-    write!(
-        f,
-        "what {when} the phase `{phase}` is lost: it has no external rule"
-    )
-}
-
-fn write_endless<W: fmt::Write>(f: &mut fmt::Formatter<W>, phase: &str) -> fmt::Result {
-    write!(f, "no rule leaves the phase `{phase}`, whose hold is 0")?;
-    f.write_str(": it begins again at once, until the fault `microsteps`")
 }
 
 fn write_idle<W: fmt::Write>(
@@ -314,31 +315,19 @@ fn write_idle<W: fmt::Write>(
     phase: &str,
     reason: NeverRuns,
 ) -> fmt::Result {
-    write_reason(f, reason, phase)?;
-    write!(f, ", so its {} rule never runs", sort_word(sort))
-}
-
-// Why a rule of a phase never runs.
-fn write_reason<W: fmt::Write>(
-    f: &mut fmt::Formatter<W>,
-    reason: NeverRuns,
-    phase: &str,
-) -> fmt::Result {
-    match reason {
-        NeverRuns::NoInput => {
-            write!(
-                f,
-                "nothing arrives in the phase `{phase}` of a model without input ports"
-            )
-        }
-        NeverRuns::HeldForever => write!(f, "the phase `{phase}` is held forever"),
-        NeverRuns::LeftAtOnce => {
-            write!(
-                f,
-                "nothing arrives in the phase `{phase}` before its hold of 0 ends"
-            )
-        }
-    }
+    let sort = sort_word(sort);
+    let (before, after) = match reason {
+        NeverRuns::NoInput => (
+            "nothing arrives in the phase",
+            " of a model without input ports",
+        ),
+        NeverRuns::HeldForever => ("the phase", " is held forever"),
+        NeverRuns::LeftAtOnce => ("nothing arrives in the phase", " before its hold of 0 ends"),
+    };
+    write!(
+        f,
+        "{before} `{phase}`{after}, so its {sort} rule never runs"
+    )
 }
 
 fn sort_word(sort: RuleSort) -> &'static str {
