@@ -5,28 +5,29 @@ use dv_lex::{Token, TokenKind};
 use std::alloc::{AllocError, Global};
 use std::fmt;
 
-/// What may stand at an offset: parts of which all but the last may be nothing.
+/// What a text may go on with at an offset: parts of which all but the last may be empty.
 #[derive(Drop)]
 pub struct Expectations {
     /// The parts, the nearest first.
     pub parts: Vec<Part>,
-    /// Whether the text knows the words of queues.
+    /// Whether the words of queues are reserved in the text.
     pub knows_queues: bool,
 }
 
-/// What may stand at an offset, where the tokens before it begin a text. `offset` is the number of bytes before it.
+/// What may follow at an offset, in bytes, of a text with these tokens. The tokens before the
+/// offset have to begin a text.
 ///
 /// # Errors
 ///
-/// No memory for what is owed there.
+/// No memory for the list of parts.
 pub fn expectations_at(
     alloc: Global,
     tokens: &[Token],
     offset: usize,
 ) -> Result<Expectations, AllocError> {
-    let owed = owed_at(alloc, tokens, offset)?;
+    let expected = expected_at(alloc, tokens, offset)?;
     let mut parts = Vec::new(alloc);
-    for part in owed.iter().rev() {
+    for part in expected.iter().rev() {
         parts.push(*part)?;
         if !part.is_optional() {
             break;
@@ -38,51 +39,52 @@ pub fn expectations_at(
     })
 }
 
-/// What is owed at an offset, the nearest last.
-fn owed_at(alloc: Global, tokens: &[Token], offset: usize) -> Result<Vec<Part>, AllocError> {
-    let mut owed = Vec::new(alloc);
-    owe(&mut owed, FILE)?;
+/// All parts that are still expected at an offset, the nearest last.
+fn expected_at(alloc: Global, tokens: &[Token], offset: usize) -> Result<Vec<Part>, AllocError> {
+    let mut expected = Vec::new(alloc);
+    expect(&mut expected, FILE)?;
     for token in tokens
         .iter()
         .take_while(|token| (token.offset as usize) < offset)
     {
-        read(&mut owed, &token.kind)?;
+        read(&mut expected, &token.kind)?;
     }
-    Ok(owed)
+    Ok(expected)
 }
 
-/// Adds parts of which the first is the nearest.
-fn owe(owed: &mut Vec<Part>, parts: &[Part]) -> Result<(), AllocError> {
+/// Adds parts, so that the first of them becomes the nearest.
+fn expect(expected: &mut Vec<Part>, parts: &[Part]) -> Result<(), AllocError> {
     for part in parts.iter().rev() {
-        owed.push(*part)?;
+        expected.push(*part)?;
     }
     Ok(())
 }
 
-/// Reads a token, which is the beginning of the nearest part that it does not pass by.
-fn read(owed: &mut Vec<Part>, kind: &TokenKind) -> Result<(), AllocError> {
-    let passed = owed
+/// Reads a token: drops the nearest parts that it skips, and replaces the next one by what follows
+/// the token.
+fn read(expected: &mut Vec<Part>, kind: &TokenKind) -> Result<(), AllocError> {
+    let skipped = expected
         .iter()
         .rev()
-        .take_while(|part| part.is_passed_by(kind))
+        .take_while(|part| part.is_skipped_by(kind))
         .count();
-    owed.truncate(owed.len().saturating_sub(passed));
-    match owed.pop() {
-        Some(part) => owe_behind(owed, part, kind),
+    expected.truncate(expected.len().saturating_sub(skipped));
+    match expected.pop() {
+        Some(part) => begin(expected, part, kind),
         None => Ok(()),
     }
 }
 
-/// Adds what is owed behind a token with which a part begins.
-fn owe_behind(owed: &mut Vec<Part>, part: Part, kind: &TokenKind) -> Result<(), AllocError> {
+/// Adds what is expected after a token that begins a part.
+fn begin(expected: &mut Vec<Part>, part: Part, kind: &TokenKind) -> Result<(), AllocError> {
     if let Some(rest) = part.rest(kind) {
-        owed.push(rest)?;
+        expected.push(rest)?;
     }
-    owe(owed, part.behind(kind).unwrap_or(&[]))
+    expect(expected, part.after(kind).unwrap_or(&[]))
 }
 
 impl Expectations {
-    /// Whether a part may stand there.
+    /// Whether a part may follow there.
     pub fn have(&self, part: Part) -> bool {
         self.parts.iter().any(|expected| *expected == part)
     }

@@ -1,26 +1,27 @@
-//! Words of other languages, found where they stand as names.
+//! Words of other languages, where a text has them as names.
 
 use crate::expectations::Expectations;
 use crate::grammar::{ASSIGN, Part};
 use dv_lex::{Symbol, TokenKind, Tokens};
 
-/// A sentence on the word of another language that stands in the place of a token, or just before it where a statement or a
-/// call begins with it; with a line feed, and empty where there is none. So many tokens come before the token.
+/// A sentence with a line feed on a word of another language, or an empty text. The word is the
+/// token at index `number`, or the one before it if that begins a statement or a call.
 pub fn foreign_at(read: &Tokens, number: usize, expected: &Expectations) -> &'static str {
-    let here = foreign_word(name_at(read, number));
+    let here = sentence_on(name_at(read, number));
     let is_call = symbol_at(read, number) == Some(Symbol::OpenParen);
     if !here.is_empty() && symbol_at(read, number.saturating_add(1)) != Some(Symbol::Assign) {
         here
     } else if expected.have(ASSIGN) || is_call {
-        behind_word(name_at(read, number.saturating_sub(1)), expected, is_call)
+        sentence_on_beginning(name_at(read, number.saturating_sub(1)), expected, is_call)
     } else {
         ""
     }
 }
 
-/// A sentence on a name behind which a statement or a call does not go on.
-fn behind_word(word: &str, expected: &Expectations, is_call: bool) -> &'static str {
-    let before = foreign_word(word);
+/// A sentence on a name that begins neither a statement nor a call; `is_call` says whether an open
+/// parenthesis follows it.
+fn sentence_on_beginning(word: &str, expected: &Expectations, is_call: bool) -> &'static str {
+    let before = sentence_on(word);
     if !before.is_empty() {
         before
     } else if is_call && !word.is_empty() {
@@ -30,7 +31,7 @@ fn behind_word(word: &str, expected: &Expectations, is_call: bool) -> &'static s
     }
 }
 
-/// What is told of parentheses behind a name.
+/// A sentence on parentheses after a name.
 fn unknown_call(expected: &Expectations) -> &'static str {
     let is_in_rule = expected.have(Part::Operators)
         || expected.have(Part::OperatorsOfCompared)
@@ -44,68 +45,69 @@ fn unknown_call(expected: &Expectations) -> &'static str {
     }
 }
 
-/// The text of the token with so many before it, where it is a name.
+/// The text of the token at an index if it is a name, or else an empty text.
 pub fn name_at(read: &Tokens, number: usize) -> &str {
     match read.tokens.get(number) {
         Some(token) => match token.kind {
             TokenKind::Name(name) => read.names.text(name).unwrap_or(""),
-            _ => "",
+            TokenKind::Number(_) | TokenKind::Keyword(_) | TokenKind::Symbol(_) => "",
         },
         None => "",
     }
 }
 
-/// The token with so many before it, where it is a sign.
+/// The sign that the token at an index is, if it is one.
 pub fn symbol_at(read: &Tokens, number: usize) -> Option<Symbol> {
     match read.tokens.get(number)?.kind {
         TokenKind::Symbol(symbol) => Some(symbol),
-        _ => None,
+        TokenKind::Name(_) | TokenKind::Number(_) | TokenKind::Keyword(_) => None,
     }
 }
 
-/// A sentence on a word of another language; empty where nothing is told of it.
-fn foreign_word(word: &str) -> &'static str {
+/// A sentence on a word of another language, or an empty text.
+fn sentence_on(word: &str) -> &'static str {
     match FOREIGN.iter().find(|foreign| foreign.words.contains(&word)) {
-        Some(foreign) => foreign.told,
+        Some(foreign) => foreign.sentence,
         None => "",
     }
 }
 
-/// Words of other languages that mean the same, and the sentence on them.
+/// Words of other languages with one meaning, and the sentence on them, with a line feed.
 struct Foreign {
     words: &'static [&'static str],
-    told: &'static str,
+    sentence: &'static str,
 }
 
-/// Words with which other languages declare something, and then those of their statements and expressions.
+/// Words by which other languages declare something, then those of their statements and
+/// expressions.
 const FOREIGN: &[Foreign] = &[
     Foreign {
         words: &["const", "constant", "let", "define", "param", "parameter"],
-        told: "There are no constants: write the number itself, or `var n: 5..5 = 5;`, which keeps its value.\n",
+        sentence: "There are no constants: write the number itself, or `var n: 5..5 = 5;`, which keeps its value.\n",
     },
     Foreign {
         words: &["import", "include", "use", "require", "using"],
-        told: "There is no import: all models stand in one text, before `root`.\n",
+        sentence: "There is no import: all models stand in one text, before `root`.\n",
     },
     Foreign {
         words: &[
             "int", "integer", "bool", "boolean", "float", "double", "real", "string",
         ],
-        told: "A number is declared as `var n: 0..9 = 0;` with its range, and a truth value as `flag f = false;`.\n",
+        sentence: "A number is declared as `var n: 0..9 = 0;` with its range, and a truth value as `flag f = false;`.\n",
     },
     Foreign {
         words: &["array", "list", "vector"],
-        told: "Several numbers are held by a bag, as `bag b 10;` for at most 10 of them.\n",
+        sentence: "Several numbers are held by a bag, as `bag b 10;` for at most 10 of them.\n",
     },
     Foreign {
         words: &["state", "states", "phase"],
-        told: "The phases are declared by `phases z, w;`, and what else belongs to a state by `var`, `flag` and `bag`.\n",
+        sentence: "The phases are declared by `phases z, w;`, and what else belongs to a state by `var`, `flag` and `bag`.\n",
     },
     Foreign {
         words: &[
             "input", "inputs", "inport", "outputs", "outport", "port", "ports",
         ],
-        told: "Ports are declared by `in x;` and `out y;`.\n",
+        sentence: "Ports are declared by `in x;` and `out y;`.\n",
     },
     Foreign {
         words: &[
@@ -116,7 +118,7 @@ const FOREIGN: &[Foreign] = &[
             "class",
             "submodel",
         ],
-        told: "A model is `atomic NAME { .. }` or `coupled NAME { .. }`, and stands in a coupled one as `part a: NAME;`.\n",
+        sentence: "A model is `atomic NAME { .. }` or `coupled NAME { .. }`, and stands in a coupled one as `part a: NAME;`.\n",
     },
     Foreign {
         words: &[
@@ -127,7 +129,7 @@ const FOREIGN: &[Foreign] = &[
             "wire",
             "links",
         ],
-        told: "Ports are coupled by `link a.y -> b.x;`.\n",
+        sentence: "Ports are coupled by `link a.y -> b.x;`.\n",
     },
     Foreign {
         words: &[
@@ -140,43 +142,43 @@ const FOREIGN: &[Foreign] = &[
             "deltint",
             "deltext",
         ],
-        told: "The time advance is `hold`, the output function `output`, and the transitions are `internal`, `external` and `confluent`.\n",
+        sentence: "The time advance is `hold`, the output function `output`, and the transitions are `internal`, `external` and `confluent`.\n",
     },
     Foreign {
         words: &["function", "fn", "func", "def", "proc", "procedure"],
-        told: "There are no functions: each rule has its statements itself.\n",
+        sentence: "There are no functions: each rule has its statements itself.\n",
     },
     Foreign {
         words: &["while", "loop", "repeat", "until", "do"],
-        told: "There is no `while`: a rule runs once, `for v in b { .. }` goes through a bag, and a phase with `hold z: 0;` comes again at once.\n",
+        sentence: "There is no `while`: a rule runs once, `for v in b { .. }` goes through a bag, and a phase with `hold z: 0;` comes again at once.\n",
     },
     Foreign {
         words: &["switch", "case", "match", "when", "select"],
-        told: "There is no `switch`: write `if n = 1 { .. } else { .. }`.\n",
+        sentence: "There is no `switch`: write `if n = 1 { .. } else { .. }`.\n",
     },
     Foreign {
         words: &["elif", "elsif", "elseif"],
-        told: "Another condition stands in a block: `else { if .. { .. } }`.\n",
+        sentence: "Another condition stands in a block: `else { if .. { .. } }`.\n",
     },
     Foreign {
         words: &["then", "begin", "end", "endif"],
-        told: "A block stands in braces: `if n > 0 { .. }`.\n",
+        sentence: "A block stands in braces: `if n > 0 { .. }`.\n",
     },
     Foreign {
         words: &["return", "break", "continue", "exit"],
-        told: "A rule runs to its end: what is left out stands in an `if`.\n",
+        sentence: "A rule runs to its end: what is left out stands in an `if`.\n",
     },
     Foreign {
         words: &["print", "println", "printf", "log", "echo", "write"],
-        told: "A rule prints nothing: the trace shows each transition with all variables.\n",
+        sentence: "A rule prints nothing: the trace shows each transition with all variables.\n",
     },
     Foreign {
         words: &["max", "min"],
-        told: "There is no `max` or `min` of two numbers: write `if a > b { .. } else { .. }`. Those of a bag are `most(b)` and `least(b)`.\n",
+        sentence: "There is no `max` or `min` of two numbers: write `if a > b { .. } else { .. }`. Those of a bag are `most(b)` and `least(b)`.\n",
     },
     Foreign {
         words: &["abs"],
-        told: "There is no `abs`: write `if n < 0 { n := -n; }`.\n",
+        sentence: "There is no `abs`: write `if n < 0 { n := -n; }`.\n",
     },
     Foreign {
         words: &[
@@ -187,30 +189,30 @@ const FOREIGN: &[Foreign] = &[
             "normal",
             "exponential",
         ],
-        told: "There are no random numbers: let them come as inputs, or compute them, as `n := (n * 75 + 74) % 65537;`.\n",
+        sentence: "There are no random numbers: let them come as inputs, or compute them, as `n := (n * 75 + 74) % 65537;`.\n",
     },
     Foreign {
         words: &["mod", "rem", "modulo"],
-        told: "The remainder of a division is written `%`.\n",
+        sentence: "The remainder of a division is written `%`.\n",
     },
     Foreign {
         words: &["div"],
-        told: "`/` divides, and leaves the remainder out.\n",
+        sentence: "`/` divides, and leaves the remainder out.\n",
     },
     Foreign {
         words: &["xor"],
-        told: "Of two truth values exactly one is true where `f != g`.\n",
+        sentence: "Of two truth values exactly one is true where `f != g`.\n",
     },
     Foreign {
         words: &["set", "emit"],
-        told: "A value is assigned by `n := 1;` and sent by `send y 1;`.\n",
+        sentence: "A value is assigned by `n := 1;` and sent by `send y 1;`.\n",
     },
     Foreign {
         words: &["len", "length", "count"],
-        told: "How many numbers a bag has is `size(b)`.\n",
+        sentence: "How many numbers a bag has is `size(b)`.\n",
     },
     Foreign {
         words: &["next", "transition"],
-        told: "The next phase is chosen by `goto z;`.\n",
+        sentence: "The next phase is chosen by `goto z;`.\n",
     },
 ];

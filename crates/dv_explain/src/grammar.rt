@@ -1,12 +1,12 @@
-//! The grammar of a model text, as what is still owed at an offset of it.
+//! The grammar of a model text, as the parts that are still expected at an offset.
 //!
-//! What is owed is a list of parts. A token begins the first of them that is not passed over, and that part is replaced
-//! by what is owed behind the token.
+//! These parts are a list. A token begins the first part of the list that it does not skip, and
+//! this part is replaced by the parts that have to follow the token.
 
 use dv_lex::{Keyword, Symbol, Token, TokenKind};
 use std::fmt;
 
-/// A part of the grammar that is owed at an offset of a text.
+/// A part of the grammar that is expected at an offset of a text.
 #[derive(Clone, Copy, PartialEq, Eq)]
 pub enum Part {
     /// A sign, with its spelling.
@@ -31,9 +31,9 @@ pub enum Part {
     Statements,
     /// `else` with its block, or nothing.
     Else,
-    /// Names, each behind a comma, or none.
+    /// Names, each after a comma, or none.
     Names,
-    /// A number, perhaps behind a minus sign.
+    /// A number, perhaps after a minus sign.
     Bound,
     /// `true` or `false`.
     Truth,
@@ -41,7 +41,7 @@ pub enum Part {
     Ticks,
     /// An expression.
     Expression,
-    /// What an arithmetic operator or a comparison takes.
+    /// An operand of an arithmetic operator or a comparison.
     Operand,
     /// What may follow an operand that is not compared yet.
     Operators,
@@ -69,15 +69,15 @@ pub const COLON: Part = Part::Sign(Symbol::Colon, ":");
 
 const COMMA: Part = Part::Sign(Symbol::Comma, ",");
 
-/// The dot of a link's end; no other text has one.
+/// The dot of a link's end, the only place for a dot.
 pub const DOT: Part = Part::Sign(Symbol::Dot, ".");
 
 const RANGE: Part = Part::Sign(Symbol::Range, "..");
 
-/// What stands before a start value.
+/// The sign before a start value.
 pub const EQUAL: Part = Part::Sign(Symbol::Equal, "=");
 
-/// What stands between a variable and its value in a statement.
+/// The sign between a variable and its value in a statement.
 pub const ASSIGN: Part = Part::Sign(Symbol::Assign, ":=");
 
 const ARROW: Part = Part::Sign(Symbol::Arrow, "->");
@@ -90,7 +90,7 @@ const TO: Part = Part::Word(Keyword::To, "to");
 
 const FROM: Part = Part::Word(Keyword::From, "from");
 
-/// What a text owes at its beginning.
+/// What is expected at the beginning of a text.
 pub const FILE: &[Part] = &[
     Part::Header,
     Part::Models,
@@ -101,81 +101,249 @@ pub const FILE: &[Part] = &[
 ];
 
 impl Part {
-    /// Whether the part may be nothing.
+    /// Whether the part may be empty.
     pub fn is_optional(&self) -> bool {
-        matches!(
-            self,
+        match self {
             Part::Header
-                | Part::Models
-                | Part::Items
-                | Part::CoupledItems
-                | Part::Statements
-                | Part::Else
-                | Part::Names
-                | Part::Operators
-                | Part::OperatorsOfCompared
-        )
+            | Part::Models
+            | Part::Items
+            | Part::CoupledItems
+            | Part::Statements
+            | Part::Else
+            | Part::Names
+            | Part::Operators
+            | Part::OperatorsOfCompared => true,
+            Part::Sign(..)
+            | Part::Word(..)
+            | Part::Name
+            | Part::Number
+            | Part::Version
+            | Part::Bound
+            | Part::Truth
+            | Part::Ticks
+            | Part::Expression
+            | Part::Operand
+            | Part::LinkEnd
+            | Part::End => false,
+        }
     }
 
-    /// Whether the part is empty before a token of this kind, so that the token comes behind it.
-    pub fn is_passed_by(&self, kind: &TokenKind) -> bool {
-        self.is_optional() && self.behind(kind).is_none()
+    /// Whether the part is empty before a token of this kind, so that the token belongs to a later
+    /// part.
+    pub fn is_skipped_by(&self, kind: &TokenKind) -> bool {
+        self.is_optional() && self.after(kind).is_none()
     }
 
-    /// What is owed behind a token of this kind, where the part begins with it; `rest` is owed behind that.
-    pub fn behind(&self, kind: &TokenKind) -> Option<&'static [Part]> {
+    /// What is expected after a token of this kind, if the part begins with it. After that, `rest`
+    /// is expected.
+    pub fn after(&self, kind: &TokenKind) -> Option<&'static [Part]> {
         match self {
             Part::Sign(sign, _) => nothing_if(*kind == TokenKind::Symbol(*sign)),
             Part::Word(word, _) => nothing_if(*kind == TokenKind::Keyword(*word)),
             Part::Name => nothing_if(matches!(kind, TokenKind::Name(_))),
             Part::Number => nothing_if(matches!(kind, TokenKind::Number(_))),
-            Part::Header => header_behind(kind),
+            Part::Header => after_word(kind, &[Role::Header]),
             Part::Version => nothing_if(is_version(kind)),
-            Part::Models => model_behind(kind),
-            Part::Items => item_behind(kind),
-            Part::CoupledItems => coupled_item_behind(kind),
-            Part::Statements => statement_behind(kind),
-            Part::Else => else_behind(kind),
-            Part::Names => name_behind_comma(kind),
-            Part::Bound => bound_behind(kind),
-            Part::Truth => truth_behind(kind),
-            Part::Ticks => ticks_behind(kind),
-            Part::Expression => expression_behind(kind),
-            Part::Operand => operand_behind(kind),
-            Part::Operators => operator_behind(kind),
-            Part::OperatorsOfCompared => operator_of_compared_behind(kind),
-            Part::LinkEnd => link_end_behind(kind),
+            Part::Models => after_word(kind, &[Role::Model]),
+            Part::Items => after_word(kind, &[Role::Port, Role::Item]),
+            Part::CoupledItems => after_word(kind, &[Role::Port, Role::CoupledItem]),
+            Part::Statements => after_statement(kind),
+            Part::Else => after_word(kind, &[Role::Else]),
+            Part::Names => after_comma(kind),
+            Part::Bound => after_bound(kind),
+            Part::Truth => after_word(kind, &[Role::Truth]),
+            Part::Ticks => after_word(kind, &[Role::Forever]).or(after_expression(kind)),
+            Part::Expression => after_expression(kind),
+            Part::Operand => after_operand(kind),
+            Part::Operators => after_operator(kind),
+            Part::OperatorsOfCompared => after_operator_of_compared(kind),
+            Part::LinkEnd => after_link_end(kind),
             Part::End => None,
         }
     }
 
-    /// What stands in the place of the part once a token of this kind and what is owed behind it are read.
+    /// What replaces the part once a token of this kind and all that `after` answers for it are
+    /// read.
     pub fn rest(&self, kind: &TokenKind) -> Option<Part> {
         match self {
             Part::Models | Part::Items | Part::CoupledItems | Part::Statements | Part::Names => {
                 Some(*self)
             }
             Part::Ticks | Part::Expression => {
-                if operand_behind(kind).is_some() {
+                if after_operand(kind).is_some() {
                     Some(Part::Operators)
                 } else {
                     None
                 }
             }
-            _ => None,
+            Part::Sign(..)
+            | Part::Word(..)
+            | Part::Name
+            | Part::Number
+            | Part::Header
+            | Part::Version
+            | Part::Else
+            | Part::Bound
+            | Part::Truth
+            | Part::Operand
+            | Part::Operators
+            | Part::OperatorsOfCompared
+            | Part::LinkEnd
+            | Part::End => None,
         }
     }
 }
 
-/// An empty list of what is owed, if `is_so`.
+/// An empty list of parts, if `is_so`.
 fn nothing_if(is_so: bool) -> Option<&'static [Part]> {
     if is_so { Some(&[]) } else { None }
 }
 
-fn header_behind(kind: &TokenKind) -> Option<&'static [Part]> {
+/// What a reserved word begins.
+#[derive(Clone, Copy, PartialEq, Eq)]
+enum Role {
+    /// A header.
+    Header,
+    /// A model.
+    Model,
+    /// The declaration of a port, in a model of either kind.
+    Port,
+    /// An item that only atomic models have.
+    Item,
+    /// An item that only coupled models have.
+    CoupledItem,
+    /// A statement.
+    Statement,
+    /// The second block of an `if`.
+    Else,
+    /// A truth value, alone or as an operand.
+    Truth,
+    /// The ticks of a hold without an end.
+    Forever,
+    /// A negated expression.
+    Not,
+    /// An operand other than a truth value.
+    Operand,
+    /// The second of two expressions that the word joins.
+    Join,
+    /// An end of a link at the model itself.
+    Itself,
+    /// Nothing by itself: it continues an item, a statement or a text.
+    Inner,
+}
+
+/// What a reserved word begins, and what is expected after the word.
+fn role_of(word: Keyword) -> (Role, &'static [Part]) {
+    match word {
+        Keyword::Version => (Role::Header, &[Part::Version, SEMICOLON]),
+        Keyword::Atomic => (
+            Role::Model,
+            &[Part::Name, OPEN_BRACE, Part::Items, CLOSE_BRACE],
+        ),
+        Keyword::Coupled => {
+            (
+                Role::Model,
+                &[Part::Name, OPEN_BRACE, Part::CoupledItems, CLOSE_BRACE],
+            )
+        }
+        Keyword::In | Keyword::Out => (Role::Port, &[Part::Name, SEMICOLON]),
+        Keyword::Start => (Role::Item, &[Part::Name, SEMICOLON]),
+        Keyword::Var => (Role::Item, VARIABLE),
+        Keyword::Flag => (Role::Item, &[Part::Name, EQUAL, Part::Truth, SEMICOLON]),
+        Keyword::Bag | Keyword::Queue => (Role::Item, &[Part::Name, Part::Number, SEMICOLON]),
+        Keyword::Phases => (Role::Item, &[Part::Name, Part::Names, SEMICOLON]),
+        Keyword::Hold => (Role::Item, &[Part::Name, COLON, Part::Ticks, SEMICOLON]),
+        Keyword::Output | Keyword::Internal | Keyword::External | Keyword::Confluent => {
+            (
+                Role::Item,
+                &[Part::Name, OPEN_BRACE, Part::Statements, CLOSE_BRACE],
+            )
+        }
+        Keyword::Part => (
+            Role::CoupledItem,
+            &[Part::Name, COLON, Part::Name, SEMICOLON],
+        ),
+        Keyword::Link => (
+            Role::CoupledItem,
+            &[Part::LinkEnd, ARROW, Part::LinkEnd, SEMICOLON],
+        ),
+        Keyword::Goto | Keyword::Pop => (Role::Statement, &[Part::Name, SEMICOLON]),
+        Keyword::Send => (Role::Statement, &[Part::Name, Part::Expression, SEMICOLON]),
+        Keyword::Add | Keyword::Push => {
+            (
+                Role::Statement,
+                &[Part::Expression, TO, Part::Name, SEMICOLON],
+            )
+        }
+        Keyword::Drop => (
+            Role::Statement,
+            &[Part::Expression, FROM, Part::Name, SEMICOLON],
+        ),
+        Keyword::If => (Role::Statement, CONDITIONAL),
+        Keyword::For => (Role::Statement, LOOP),
+        Keyword::Else => (Role::Else, &[OPEN_BRACE, Part::Statements, CLOSE_BRACE]),
+        Keyword::True | Keyword::False => (Role::Truth, &[]),
+        Keyword::Forever => (Role::Forever, &[]),
+        Keyword::Not => (Role::Not, &[Part::Expression]),
+        Keyword::Elapsed => (Role::Operand, &[]),
+        Keyword::Size | Keyword::Sum | Keyword::Least | Keyword::Most | Keyword::Front => {
+            (Role::Operand, &[OPEN_PAREN, Part::Name, CLOSE_PAREN])
+        }
+        Keyword::Times => {
+            (
+                Role::Operand,
+                &[OPEN_PAREN, Part::Expression, COMMA, Part::Name, CLOSE_PAREN],
+            )
+        }
+        Keyword::And | Keyword::Or => (Role::Join, &[Part::Expression]),
+        Keyword::Itself => (Role::Itself, &[DOT, Part::Name]),
+        Keyword::Root | Keyword::To | Keyword::From => (Role::Inner, &[]),
+    }
+}
+
+/// What is expected after `var`.
+const VARIABLE: &[Part] = &[
+    Part::Name,
+    COLON,
+    Part::Bound,
+    RANGE,
+    Part::Bound,
+    EQUAL,
+    Part::Bound,
+    SEMICOLON,
+];
+
+/// What is expected after `if`.
+const CONDITIONAL: &[Part] = &[
+    Part::Expression,
+    OPEN_BRACE,
+    Part::Statements,
+    CLOSE_BRACE,
+    Part::Else,
+];
+
+/// What is expected after `for`.
+const LOOP: &[Part] = &[
+    Part::Name,
+    IN,
+    Part::Name,
+    OPEN_BRACE,
+    Part::Statements,
+    CLOSE_BRACE,
+];
+
+/// What is expected after a token that is a reserved word with one of these roles.
+fn after_word(kind: &TokenKind, roles: &[Role]) -> Option<&'static [Part]> {
     match kind {
-        TokenKind::Keyword(Keyword::Version) => Some(&[Part::Version, SEMICOLON]),
-        _ => None,
+        TokenKind::Keyword(word) => {
+            let (role, parts) = role_of(*word);
+            if roles.contains(&role) {
+                Some(parts)
+            } else {
+                None
+            }
+        }
+        TokenKind::Name(_) | TokenKind::Number(_) | TokenKind::Symbol(_) => None,
     }
 }
 
@@ -188,11 +356,12 @@ fn is_version(kind: &TokenKind) -> bool {
 fn is_number(kind: &TokenKind, value: i64) -> bool {
     match kind {
         TokenKind::Number(number) => number.value() == value,
-        _ => false,
+        TokenKind::Name(_) | TokenKind::Keyword(_) | TokenKind::Symbol(_) => false,
     }
 }
 
-/// Whether a text of these tokens knows the words of queues: it has a header of version 2.
+/// Whether the words of queues are reserved in a text of these tokens: whether its header says
+/// version 2.
 pub fn knows_queues(tokens: &[Token]) -> bool {
     match tokens {
         [first, second, ..] => {
@@ -202,206 +371,129 @@ pub fn knows_queues(tokens: &[Token]) -> bool {
     }
 }
 
-fn model_behind(kind: &TokenKind) -> Option<&'static [Part]> {
-    match kind {
-        TokenKind::Keyword(Keyword::Atomic) => {
-            Some(&[Part::Name, OPEN_BRACE, Part::Items, CLOSE_BRACE])
-        }
-        TokenKind::Keyword(Keyword::Coupled) => {
-            Some(&[Part::Name, OPEN_BRACE, Part::CoupledItems, CLOSE_BRACE])
-        }
-        _ => None,
-    }
-}
-
-fn item_behind(kind: &TokenKind) -> Option<&'static [Part]> {
-    match kind {
-        TokenKind::Keyword(Keyword::In | Keyword::Out | Keyword::Start) => {
-            Some(&[Part::Name, SEMICOLON])
-        }
-        TokenKind::Keyword(Keyword::Var) => Some(&[
-            Part::Name,
-            COLON,
-            Part::Bound,
-            RANGE,
-            Part::Bound,
-            EQUAL,
-            Part::Bound,
-            SEMICOLON,
-        ]),
-        TokenKind::Keyword(Keyword::Flag) => Some(&[Part::Name, EQUAL, Part::Truth, SEMICOLON]),
-        TokenKind::Keyword(Keyword::Bag | Keyword::Queue) => {
-            Some(&[Part::Name, Part::Number, SEMICOLON])
-        }
-        TokenKind::Keyword(Keyword::Phases) => Some(&[Part::Name, Part::Names, SEMICOLON]),
-        TokenKind::Keyword(Keyword::Hold) => Some(&[Part::Name, COLON, Part::Ticks, SEMICOLON]),
-        TokenKind::Keyword(
-            Keyword::Output | Keyword::Internal | Keyword::External | Keyword::Confluent,
-        ) => Some(&[Part::Name, OPEN_BRACE, Part::Statements, CLOSE_BRACE]),
-        _ => None,
-    }
-}
-
-fn coupled_item_behind(kind: &TokenKind) -> Option<&'static [Part]> {
-    match kind {
-        TokenKind::Keyword(Keyword::In | Keyword::Out) => Some(&[Part::Name, SEMICOLON]),
-        TokenKind::Keyword(Keyword::Part) => Some(&[Part::Name, COLON, Part::Name, SEMICOLON]),
-        TokenKind::Keyword(Keyword::Link) => {
-            Some(&[Part::LinkEnd, ARROW, Part::LinkEnd, SEMICOLON])
-        }
-        _ => None,
-    }
-}
-
-fn statement_behind(kind: &TokenKind) -> Option<&'static [Part]> {
+fn after_statement(kind: &TokenKind) -> Option<&'static [Part]> {
     match kind {
         TokenKind::Name(_) => Some(&[ASSIGN, Part::Expression, SEMICOLON]),
-        TokenKind::Keyword(Keyword::Goto | Keyword::Pop) => Some(&[Part::Name, SEMICOLON]),
-        TokenKind::Keyword(Keyword::Send) => Some(&[Part::Name, Part::Expression, SEMICOLON]),
-        TokenKind::Keyword(Keyword::Add | Keyword::Push) => {
-            Some(&[Part::Expression, TO, Part::Name, SEMICOLON])
-        }
-        TokenKind::Keyword(Keyword::Drop) => {
-            Some(&[Part::Expression, FROM, Part::Name, SEMICOLON])
-        }
-        TokenKind::Keyword(Keyword::If) => Some(&[
-            Part::Expression,
-            OPEN_BRACE,
-            Part::Statements,
-            CLOSE_BRACE,
-            Part::Else,
-        ]),
-        TokenKind::Keyword(Keyword::For) => Some(&[
-            Part::Name,
-            IN,
-            Part::Name,
-            OPEN_BRACE,
-            Part::Statements,
-            CLOSE_BRACE,
-        ]),
-        _ => None,
+        TokenKind::Keyword(_) => after_word(kind, &[Role::Statement]),
+        TokenKind::Number(_) | TokenKind::Symbol(_) => None,
     }
 }
 
-fn else_behind(kind: &TokenKind) -> Option<&'static [Part]> {
-    match kind {
-        TokenKind::Keyword(Keyword::Else) => Some(&[OPEN_BRACE, Part::Statements, CLOSE_BRACE]),
-        _ => None,
+fn after_comma(kind: &TokenKind) -> Option<&'static [Part]> {
+    if *kind == TokenKind::Symbol(Symbol::Comma) {
+        Some(&[Part::Name])
+    } else {
+        None
     }
 }
 
-fn name_behind_comma(kind: &TokenKind) -> Option<&'static [Part]> {
-    match kind {
-        TokenKind::Symbol(Symbol::Comma) => Some(&[Part::Name]),
-        _ => None,
-    }
-}
-
-fn bound_behind(kind: &TokenKind) -> Option<&'static [Part]> {
+fn after_bound(kind: &TokenKind) -> Option<&'static [Part]> {
     match kind {
         TokenKind::Number(_) => Some(&[]),
         TokenKind::Symbol(Symbol::Minus) => Some(&[Part::Number]),
-        _ => None,
+        TokenKind::Symbol(_) | TokenKind::Name(_) | TokenKind::Keyword(_) => None,
     }
 }
 
-fn truth_behind(kind: &TokenKind) -> Option<&'static [Part]> {
-    match kind {
-        TokenKind::Keyword(Keyword::True | Keyword::False) => Some(&[]),
-        _ => None,
-    }
+fn after_expression(kind: &TokenKind) -> Option<&'static [Part]> {
+    after_word(kind, &[Role::Not]).or(after_operand(kind))
 }
 
-fn ticks_behind(kind: &TokenKind) -> Option<&'static [Part]> {
-    match kind {
-        TokenKind::Keyword(Keyword::Forever) => Some(&[]),
-        _ => expression_behind(kind),
-    }
-}
-
-fn expression_behind(kind: &TokenKind) -> Option<&'static [Part]> {
-    match kind {
-        TokenKind::Keyword(Keyword::Not) => Some(&[Part::Expression]),
-        _ => operand_behind(kind),
-    }
-}
-
-fn operand_behind(kind: &TokenKind) -> Option<&'static [Part]> {
+fn after_operand(kind: &TokenKind) -> Option<&'static [Part]> {
     match kind {
         TokenKind::Name(_) | TokenKind::Number(_) => Some(&[]),
-        TokenKind::Keyword(Keyword::True | Keyword::False | Keyword::Elapsed) => Some(&[]),
-        TokenKind::Keyword(
-            Keyword::Size | Keyword::Sum | Keyword::Least | Keyword::Most | Keyword::Front,
-        ) => Some(&[OPEN_PAREN, Part::Name, CLOSE_PAREN]),
-        TokenKind::Keyword(Keyword::Times) => Some(&[
-            OPEN_PAREN,
-            Part::Expression,
-            COMMA,
-            Part::Name,
-            CLOSE_PAREN,
-        ]),
-        TokenKind::Symbol(Symbol::OpenParen) => Some(&[Part::Expression, CLOSE_PAREN]),
-        TokenKind::Symbol(Symbol::Minus) => Some(&[Part::Operand]),
-        _ => None,
+        TokenKind::Keyword(_) => after_word(kind, &[Role::Truth, Role::Operand]),
+        TokenKind::Symbol(symbol) => match use_of(*symbol) {
+            SignUse::OpenParen => Some(&[Part::Expression, CLOSE_PAREN]),
+            SignUse::Minus => Some(&[Part::Operand]),
+            SignUse::Arithmetic | SignUse::Comparison | SignUse::Other => None,
+        },
     }
 }
 
-fn operator_behind(kind: &TokenKind) -> Option<&'static [Part]> {
+fn after_operator(kind: &TokenKind) -> Option<&'static [Part]> {
     match kind {
-        TokenKind::Symbol(symbol) if is_arithmetic(*symbol) => {
-            Some(&[Part::Operand, Part::Operators])
-        }
-        TokenKind::Symbol(symbol) if is_comparison(*symbol) => {
-            Some(&[Part::Operand, Part::OperatorsOfCompared])
-        }
-        TokenKind::Keyword(Keyword::And | Keyword::Or) => Some(&[Part::Expression]),
-        _ => None,
+        TokenKind::Symbol(symbol) => match use_of(*symbol) {
+            SignUse::Minus | SignUse::Arithmetic => Some(&[Part::Operand, Part::Operators]),
+            SignUse::Comparison => Some(&[Part::Operand, Part::OperatorsOfCompared]),
+            SignUse::OpenParen | SignUse::Other => None,
+        },
+        TokenKind::Keyword(_) => after_word(kind, &[Role::Join]),
+        TokenKind::Name(_) | TokenKind::Number(_) => None,
     }
 }
 
-fn operator_of_compared_behind(kind: &TokenKind) -> Option<&'static [Part]> {
+fn after_operator_of_compared(kind: &TokenKind) -> Option<&'static [Part]> {
     match kind {
-        TokenKind::Symbol(symbol) if is_arithmetic(*symbol) => {
-            Some(&[Part::Operand, Part::OperatorsOfCompared])
-        }
-        TokenKind::Keyword(Keyword::And | Keyword::Or) => Some(&[Part::Expression]),
-        _ => None,
+        TokenKind::Symbol(symbol) => match use_of(*symbol) {
+            SignUse::Minus | SignUse::Arithmetic => {
+                Some(&[Part::Operand, Part::OperatorsOfCompared])
+            }
+            SignUse::Comparison | SignUse::OpenParen | SignUse::Other => None,
+        },
+        TokenKind::Keyword(_) => after_word(kind, &[Role::Join]),
+        TokenKind::Name(_) | TokenKind::Number(_) => None,
     }
 }
 
-fn link_end_behind(kind: &TokenKind) -> Option<&'static [Part]> {
+fn after_link_end(kind: &TokenKind) -> Option<&'static [Part]> {
     match kind {
-        TokenKind::Name(_) | TokenKind::Keyword(Keyword::Itself) => Some(&[DOT, Part::Name]),
-        _ => None,
+        TokenKind::Name(_) => Some(&[DOT, Part::Name]),
+        TokenKind::Keyword(_) => after_word(kind, &[Role::Itself]),
+        TokenKind::Number(_) | TokenKind::Symbol(_) => None,
     }
 }
 
-fn is_arithmetic(symbol: Symbol) -> bool {
-    matches!(
-        symbol,
-        Symbol::Plus | Symbol::Minus | Symbol::Star | Symbol::Slash | Symbol::Percent
-    )
+/// What a sign does in an expression.
+#[derive(Clone, Copy)]
+enum SignUse {
+    /// It opens parentheses.
+    OpenParen,
+    /// It negates an operand, or subtracts.
+    Minus,
+    /// It computes a number of two operands.
+    Arithmetic,
+    /// It compares two operands.
+    Comparison,
+    /// It neither begins an operand nor stands between two.
+    Other,
+}
+
+fn use_of(symbol: Symbol) -> SignUse {
+    match symbol {
+        Symbol::OpenParen => SignUse::OpenParen,
+        Symbol::Minus => SignUse::Minus,
+        Symbol::Plus | Symbol::Star | Symbol::Slash | Symbol::Percent => SignUse::Arithmetic,
+        Symbol::Equal
+        | Symbol::Unequal
+        | Symbol::Less
+        | Symbol::AtMost
+        | Symbol::Greater
+        | Symbol::AtLeast => SignUse::Comparison,
+        Symbol::Assign
+        | Symbol::Arrow
+        | Symbol::Range
+        | Symbol::OpenBrace
+        | Symbol::CloseBrace
+        | Symbol::CloseParen
+        | Symbol::Semicolon
+        | Symbol::Colon
+        | Symbol::Comma
+        | Symbol::Dot => SignUse::Other,
+    }
 }
 
 /// Whether a sign compares two values.
 pub fn is_comparison(symbol: Symbol) -> bool {
-    matches!(
-        symbol,
-        Symbol::Equal
-            | Symbol::Unequal
-            | Symbol::Less
-            | Symbol::AtMost
-            | Symbol::Greater
-            | Symbol::AtLeast
-    )
+    matches!(use_of(symbol), SignUse::Comparison)
 }
 
-/// A part as it is called in a text that knows the words of queues, or in one that does not.
+/// A part, displayed in words for the author of a text.
 #[derive(Clone, Copy)]
 pub struct Called<'a> {
     /// The part.
     pub part: &'a Part,
-    /// Whether the text knows the words of queues.
+    /// Whether the words of queues are reserved in the text.
     pub knows_queues: bool,
 }
 
@@ -416,15 +508,15 @@ impl fmt::Display for Called<'_> {
     }
 }
 
-/// What items of an atomic model are called in a text that knows the words of queues.
+/// The words for `Part::Items` if the words of queues are reserved.
 const ITEMS_WITH_QUEUES: &str =
     "an item of an atomic model (`in`, `out`, `var`, `flag`, `bag`, `queue`, `phases`, `start`, `hold`, `output`, `internal`, `external`, `confluent`)";
 
-/// What statements are called in a text that knows the words of queues.
+/// The words for `Part::Statements` if the words of queues are reserved.
 const STATEMENTS_WITH_QUEUES: &str =
     "a statement (`NAME :=`, `goto`, `send`, `if`, `for`, `add`, `drop`, `push`, `pop`)";
 
-/// What a part is called, where it is not one sign or word, in a text that does not know the words of queues.
+/// The words for a part that is not one sign or word, if the words of queues are not reserved.
 fn words_of(part: &Part) -> &'static str {
     match part {
         Part::Sign(..) | Part::Word(..) => "",

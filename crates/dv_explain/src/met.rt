@@ -1,10 +1,10 @@
-//! What stands at an offset of a text.
+//! The token at an offset, in words.
 
 use crate::quoted::Quoted;
 use dv_lex::{Names, Symbol, Token, TokenKind};
 use std::fmt;
 
-/// What stands at an offset of a text.
+/// What was met at an offset of a text.
 #[derive(Clone, Copy, PartialEq, Eq)]
 pub enum Met<'a> {
     /// A name, with its text.
@@ -17,7 +17,7 @@ pub enum Met<'a> {
     End,
 }
 
-/// What stands at a token's offset, or at the end of the text.
+/// What a token is, or that there is none. `text` is the whole text of the token.
 pub fn met_at<'a>(text: &'a str, names: &'a Names, token: Option<&Token>) -> Met<'a> {
     let Some(token) = token else {
         return Met::End;
@@ -31,7 +31,7 @@ pub fn met_at<'a>(text: &'a str, names: &'a Names, token: Option<&Token>) -> Met
     }
 }
 
-/// The letters from the front on.
+/// The letters at the beginning of a text.
 fn letters_of(text: &str) -> &str {
     match text.find(|character: char| !character.is_ascii_alphabetic()) {
         Some(end) => text.get(..end).unwrap_or(text),
@@ -48,7 +48,22 @@ fn length_of(symbol: Symbol) -> usize {
         | Symbol::Unequal
         | Symbol::AtMost
         | Symbol::AtLeast => 2,
-        _ => 1,
+        Symbol::OpenBrace
+        | Symbol::CloseBrace
+        | Symbol::OpenParen
+        | Symbol::CloseParen
+        | Symbol::Semicolon
+        | Symbol::Colon
+        | Symbol::Comma
+        | Symbol::Dot
+        | Symbol::Equal
+        | Symbol::Less
+        | Symbol::Greater
+        | Symbol::Plus
+        | Symbol::Minus
+        | Symbol::Star
+        | Symbol::Slash
+        | Symbol::Percent => 1,
     }
 }
 

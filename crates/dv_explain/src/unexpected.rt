@@ -1,4 +1,5 @@
-//! A token that can't stand where it stands: what may stand there, what was met, and what seems to be meant.
+//! A token that the grammar does not allow where it is: what may be there instead, and what is
+//! probably meant.
 
 use crate::cause::Cause;
 use crate::expectations::{Expectations, expectations_at};
@@ -10,8 +11,8 @@ use crate::slips::{begins_line, slip_at};
 use dv_lex::{Keyword, Symbol, Token, TokenKind, Tokens, tokens};
 use std::alloc::{AllocError, Global};
 
-/// The first token with which no text goes on: what may stand at its offset and what was met, and what seems to be meant,
-/// where that is known. `offset` is the number of bytes before the token. Nothing is said where the text has no tokens.
+/// The cause of E4 at an offset, in bytes: what may be there and what was met; and what is probably
+/// meant, if that is known. Both texts are empty if the text can't be cut into tokens.
 ///
 /// # Errors
 ///
@@ -23,7 +24,7 @@ pub fn unexpected_at(alloc: Global, text: &[u8], offset: usize) -> Result<Cause,
     }
 }
 
-/// What is told of the first token at an offset or behind it.
+/// The cause at the first token that is not before an offset.
 fn cause_at(alloc: Global, text: &[u8], offset: usize, read: &Tokens) -> Result<Cause, AllocError> {
     let expected = expectations_at(alloc, &read.tokens, offset)?;
     let number = tokens_before(&read.tokens, offset);
@@ -41,7 +42,7 @@ fn tokens_before(tokens: &[Token], offset: usize) -> usize {
         .count()
 }
 
-/// What may stand where the token with so many before it stands, and what was met.
+/// What may be in the place of the token at index `number`, and what was met.
 fn summary_at(
     alloc: Global,
     text: &[u8],
@@ -54,7 +55,8 @@ fn summary_at(
     format!(in alloc; "expected {expected}, but met {met}")
 }
 
-/// A sentence on what seems to be meant, with a line feed, or nothing. So many tokens come before the one that is met.
+/// A sentence with a line feed on what is probably meant by the token at index `number`, or an
+/// empty text.
 fn meant_at(
     alloc: Global,
     text: &[u8],
@@ -69,10 +71,7 @@ fn meant_at(
     } else if lacks_version(expected, read, number) {
         String::from_str(alloc, WITHOUT_QUEUES)
     } else if expected.have(SEMICOLON) && begins_line(text, offset) {
-        String::from_str(
-            alloc,
-            "It begins a line: the line before may lack its `;`.\n",
-        )
+        String::from_str(alloc, "It begins a line: the line before may lack its `;`.\n")
     } else if expected.have(DOT) {
         end_of_link(alloc, name_at(read, number.saturating_sub(1)))
     } else {
@@ -80,7 +79,7 @@ fn meant_at(
     }
 }
 
-/// A sentence on an end of a link that has no dot behind its first name.
+/// A sentence on an end of a link that has no dot after its first name.
 fn end_of_link(alloc: Global, name: &str) -> Result<String, AllocError> {
     if name.is_empty() {
         String::from_str(alloc, "An end of a link is `PART.PORT` or `self.PORT`.\n")
@@ -92,12 +91,12 @@ fn end_of_link(alloc: Global, name: &str) -> Result<String, AllocError> {
     }
 }
 
-/// What is told of a word of queues in a text that does not know it.
+/// On a word of queues in a text where it is not reserved.
 const WITHOUT_QUEUES: &str =
     "Queues are known in a text that begins with `version 2;`: in others `queue`, `push`, `pop` and `front` are names.\n";
 
-/// Whether a name that stands at the offset, or just before it, seems to be meant as a word of queues. So many tokens come
-/// before the offset.
+/// Whether the token at index `number`, or the one before it, is a name that is probably meant as a
+/// word of queues.
 fn lacks_version(expected: &Expectations, read: &Tokens, number: usize) -> bool {
     let before = name_at(read, number.saturating_sub(1));
     if expected.have(Part::Items) {
@@ -109,7 +108,8 @@ fn lacks_version(expected: &Expectations, read: &Tokens, number: usize) -> bool 
     }
 }
 
-/// A sentence on what seems to be meant by the token with so many before it, with a line feed, or nothing.
+/// A sentence with a line feed on what is probably meant by the token at index `number`, or an
+/// empty text.
 fn hint_at(read: &Tokens, number: usize, expected: &Expectations) -> &'static str {
     let foreign = foreign_at(read, number, expected);
     if !foreign.is_empty() {
@@ -122,7 +122,7 @@ fn hint_at(read: &Tokens, number: usize, expected: &Expectations) -> &'static st
     }
 }
 
-/// What the end of a text may lack.
+/// A sentence on what may be missing at the end of a text.
 fn hint_on_end(expected: &Expectations) -> &'static str {
     if expected.have(Part::Models) {
         "Behind the models stands `root` with the name of a coupled model.\n"
@@ -136,7 +136,7 @@ fn hint_on_end(expected: &Expectations) -> &'static str {
     }
 }
 
-/// What seems to be meant by a token that is not expected. `is_assigned` says whether `:=` stands behind it.
+/// A sentence on a token that is not expected. `is_assigned` says whether `:=` follows it.
 fn hint_on(expected: &Expectations, kind: TokenKind, is_assigned: bool) -> &'static str {
     match kind {
         TokenKind::Keyword(word) => hint_on_word(expected, word, is_assigned),
@@ -146,11 +146,11 @@ fn hint_on(expected: &Expectations, kind: TokenKind, is_assigned: bool) -> &'sta
     }
 }
 
-/// What is told of a statement among items.
+/// On a statement among items.
 const OUTSIDE: &str =
     "A statement stands in a rule, as in `internal PHASE { .. }`; a `}` before it may be one too many.\n";
 
-/// What is told of a word where a name is expected.
+/// On a reserved word where a name is expected.
 const RESERVED: &str = "It is a reserved word, and can't be a name.\n";
 
 fn hint_on_word(expected: &Expectations, word: Keyword, is_assigned: bool) -> &'static str {
@@ -159,7 +159,7 @@ fn hint_on_word(expected: &Expectations, word: Keyword, is_assigned: bool) -> &'
     } else if expects_name(expected) || is_assigned {
         RESERVED
     } else if expected.have(Part::End) {
-        hint_behind_root(word)
+        hint_after_root(word)
     } else if begins_model(word) && expects_brace(expected) {
         "A `}` may be missing before it.\n"
     } else if begins_statement(word) && expected.have(Part::Items) {
@@ -171,7 +171,7 @@ fn hint_on_word(expected: &Expectations, word: Keyword, is_assigned: bool) -> &'
     }
 }
 
-/// What is told of a word with which an item begins that can't stand there.
+/// A sentence on a word that begins an item, where it is not expected.
 fn hint_on_item(expected: &Expectations) -> &'static str {
     if expected.have(Part::Statements) {
         "An item begins here: a `}` may be missing before it.\n"
@@ -186,7 +186,7 @@ fn hint_on_item(expected: &Expectations) -> &'static str {
     }
 }
 
-fn hint_behind_root(word: Keyword) -> &'static str {
+fn hint_after_root(word: Keyword) -> &'static str {
     match word {
         Keyword::Root => "A text has one root.\n",
         Keyword::Atomic | Keyword::Coupled => "Models stand before `root`.\n",
@@ -222,7 +222,7 @@ fn hint_on_comma(expected: &Expectations) -> &'static str {
     }
 }
 
-/// Whether a name may stand there, alone or in an expression.
+/// Whether a name is expected, alone or in an expression.
 fn expects_name(expected: &Expectations) -> bool {
     expected.have(Part::Name)
         || expected.have(Part::LinkEnd)
@@ -231,7 +231,7 @@ fn expects_name(expected: &Expectations) -> bool {
         || expected.have(Part::Operand)
 }
 
-/// Whether a brace that closes a model or a block may stand there.
+/// Whether a brace is expected that closes a model or a block.
 fn expects_brace(expected: &Expectations) -> bool {
     expected.have(Part::Items)
         || expected.have(Part::CoupledItems)
@@ -244,9 +244,9 @@ fn begins_model(word: Keyword) -> bool {
 
 fn begins_item(word: Keyword) -> bool {
     let kind = TokenKind::Keyword(word);
-    Part::Items.behind(&kind).is_some() || Part::CoupledItems.behind(&kind).is_some()
+    Part::Items.after(&kind).is_some() || Part::CoupledItems.after(&kind).is_some()
 }
 
 fn begins_statement(word: Keyword) -> bool {
-    Part::Statements.behind(&TokenKind::Keyword(word)).is_some()
+    Part::Statements.after(&TokenKind::Keyword(word)).is_some()
 }
