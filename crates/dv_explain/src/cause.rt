@@ -1,18 +1,19 @@
-//! What is told of a refusal beside its offset.
+//! The cause of one refusal, in words.
 
 use std::alloc::{AllocError, Global};
 
-/// Which case of its number a refusal is, and what helps.
+/// Why a text is refused at one place, and what helps.
 #[derive(Drop)]
 pub struct Cause {
-    /// The case in a few words, without a full stop.
+    /// What is wrong in a few words, without a full stop; empty if no more is known than the code
+    /// says.
     pub summary: String,
-    /// Sentences on it, each with a line feed.
+    /// Sentences that help, each with a line feed at its end; possibly empty.
     pub sentences: String,
 }
 
 impl Cause {
-    /// A cause in these words.
+    /// A cause with copies of these words.
     ///
     /// # Errors
     ///

@@ -6,18 +6,19 @@ ghost use Rattle.dv_explain.specs.Codes.{code_found, explained_code, explained_i
 use crate::words::{faults, input_refusals, partition_refusals, refusals};
 use std::alloc::{AllocError, Global};
 
-/// What a refusal or a fault means, and its cure.
+/// What a refusal or a fault means, and how to avoid it.
 #[derive(Clone, Copy)]
 pub struct Explanation {
-    /// The number of a refusal, as `E7`, `I2` or `Q3`, or the name of a fault, as `overflow`.
+    /// The code of a refusal, such as `E7`, `I2` or `Q3`, or the name of a fault, such as
+    /// `overflow`.
     pub code: &'static str,
     /// What is wrong, which token is named, and what helps.
     pub words: &'static str,
-    /// A small model that has it, where there is one.
+    /// A small model that has it, if one can show it.
     pub example: Option<Example>,
 }
 
-/// A model with its inputs, and what comes of it.
+/// A model with its inputs, and the answer to it.
 #[derive(Clone, Copy)]
 pub struct Example {
     /// The text of the model.
@@ -28,11 +29,11 @@ pub struct Example {
     pub horizon: u64,
     /// The greatest microstep of a tick in its run.
     pub limit: u32,
-    /// The answer to a refused text, as `E7 line 1`, else the lines of the trace.
+    /// The answer to a refused text, such as `E7 line 1`, or else the lines of the trace.
     pub answer: &'static str,
 }
 
-/// The explanation of a code: of a refusal's number or a fault's name, as they are printed.
+/// The explanation of a code, written as in `Explanation::code`; `None` if there is no such code.
 pub fn explanation_of(code: &str) -> Option<&'static Explanation>
     ensures { code_found result ≡ explained_code code.now }
 {
@@ -42,7 +43,7 @@ pub fn explanation_of(code: &str) -> Option<&'static Explanation>
         .or(find(faults(), code))
 }
 
-/// The explanation of a code that may be written in small letters, as `e7`.
+/// As `explanation_of`, for a code that may also be written in small letters, such as `e7`.
 ///
 /// # Errors
 ///

@@ -1,43 +1,45 @@
-//! What each refusal and each fault means, and how it is pointed at.
+//! The words that explain refusals and faults, and the line of a text with a mark below it.
 //!
-//! An `Explanation` has for a code (E7, I2, Q1, a fault) what it means, a cure and a small model that has it.
-//! `explanation_of` finds one by its code: every code has one, which is proved. `pointed` prints the line of a text
-//! with a mark and a `Cause`. For E4 `unexpected_at` says what stands at a token and what may stand there, by a
-//! grammar of its own that knows what is still owed.
+//! An `Explanation` says what a code (such as E7, I2, Q1 or `overflow`) means, how to avoid it, and
+//! has a small model as an example. `explanation_of` finds one by its code; it is proved that every
+//! code has one. `pointed` prints the line of a text with a mark and a `Cause`. For E4,
+//! `unexpected_at` says which token was met and what may be there instead, by a grammar of its own
+//! that keeps what is still expected.
 //!
-//! `dv_command` and the program print explanations for `pdevs explain`, and `dv_hints`, `dv_cause` and `dv_fault` use
-//! the words for `--explain`. What is wrong in one text beyond its tokens is found in `dv_hints`.
+//! `dv_command` and the program print explanations for `pdevs explain`; `dv_hints`, `dv_cause` and
+//! `dv_fault` use them for `--explain`. Causes that need more than the tokens of a text are found
+//! in `dv_hints`.
 #![tactic(auto)]
 
-/// What is told of a refusal beside its offset.
+/// The cause of one refusal, in words.
 pub mod cause;
-/// What may stand at an offset of a text.
+/// What a text may go on with at an offset.
 pub mod expectations;
 /// Explanations, found by their codes.
 pub mod explanation;
 /// Words of other languages.
 mod foreign;
-/// The grammar, as what is still owed at an offset of a text.
+/// The grammar, as the parts that are still expected at an offset.
 pub mod grammar;
-/// What stands at an offset of a text.
+/// The token at an offset, in words.
 pub mod met;
-/// What is nested too deeply.
+/// Which limit on nesting is exceeded.
 pub mod nesting;
-/// The offset that a refusal points at, with its line and its cause.
+/// The line of a text with a mark under an offset, and the cause.
 pub mod pointing;
 /// Lines and columns.
 pub mod position;
-/// Names as they are shown.
+/// Names as they are displayed.
 pub mod quoted;
-/// Slips of those who write other languages too.
+/// Signs and habits of other languages.
 pub mod slips;
 /// Characters with which no token begins.
 pub mod stray;
 /// The text of an explanation.
 pub mod text;
-/// Tokens that can't stand where they stand.
+/// Tokens that the grammar does not allow where they are.
 pub mod unexpected;
-/// Characters that can't be seen, and their names.
+/// Invisible characters and their names.
 pub mod unseen;
 /// The words of the explanations.
 pub mod words;

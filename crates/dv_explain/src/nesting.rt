@@ -1,6 +1,7 @@
-//! What is nested too deeply.
+//! Which limit on nesting is exceeded.
 
-/// Which limit a token passes that is nested too deeply. `offset` is the number of bytes before the token.
+/// A sentence without a full stop on the limit that the token at an offset, in bytes, exceeds by
+/// its nesting.
 pub fn nesting_at(text: &[u8], offset: usize) -> &'static str {
     let (_, token) = text.split_at(offset.min(text.len()));
     if begins_with_word(token, b"if") {
@@ -12,7 +13,7 @@ pub fn nesting_at(text: &[u8], offset: usize) -> &'static str {
     }
 }
 
-/// Whether a word stands in front, and nothing that continues it.
+/// Whether a text begins with this whole word.
 fn begins_with_word(text: &[u8], word: &[u8]) -> bool {
     match text.strip_prefix(word) {
         Some([next, ..]) => !next.is_ascii_alphanumeric() && *next != b'_',

@@ -1,4 +1,4 @@
-//! The line of a text that a refusal points at, with a mark under the token.
+//! The line of a text with a mark under an offset.
 
 use crate::cause::Cause;
 use crate::explanation::explanation_of;
@@ -9,10 +9,10 @@ use std::alloc::{AllocError, Global};
 /// The most characters that are shown on each side of the mark.
 const SHOWN: usize = 60;
 
-/// Stands where a line is cut.
+/// Replaces what is cut off a long line.
 const CUT: char = '…';
 
-/// An offset of a file: the name and the bytes of the file, the number of the line, and how many bytes come before the offset.
+/// An offset of a file.
 #[derive(Clone, Copy)]
 pub struct Spot<'a> {
     /// The name of the file.
@@ -21,14 +21,15 @@ pub struct Spot<'a> {
     pub text: &'a [u8],
     /// The number of the line, counted from 1.
     pub line: u64,
-    /// How many bytes of the text come before it.
+    /// The offset, in bytes of the text.
     pub offset: usize,
 }
 
-/// Where a refusal is and its case, as `FILE:LINE:COLUMN: CODE: SUMMARY`; then the line of the text around the offset, a mark
-/// below it, and the sentences of the cause. Columns count characters from 1. A cause without a summary has the first sentence
-/// of what the code means. Of a long line the 60 characters before the offset and the 60 behind it are shown, with a `…` on a
-/// side where it is cut, and no bytes that are not UTF-8.
+/// The line `FILE:LINE:COLUMN: CODE: SUMMARY`, then the line of the text with a mark below the
+/// offset, then the sentences of the cause. Columns count characters from 1. If the cause has no
+/// summary, the first sentence of the code's explanation takes its place. A long line is cut to 60
+/// characters on each side of the offset, with a `…` for what is left out. A side of the line that
+/// is not UTF-8 is left out.
 ///
 /// # Errors
 ///
@@ -40,14 +41,15 @@ pub fn pointed(
     cause: &Cause,
 ) -> Result<String, AllocError> {
     let (before, after) = spot.around();
-    let mut told = heading(alloc, spot, before, code, cause)?;
-    push_marked(&mut told, spot.line, before, after)?;
-    told.push_str(cause.sentences.as_str())?;
-    Ok(told)
+    let mut lines = heading(alloc, spot, before, code, cause)?;
+    push_marked(&mut lines, spot.line, before, after)?;
+    lines.push_str(cause.sentences.as_str())?;
+    Ok(lines)
 }
 
 impl<'a> Spot<'a> {
-    /// What stands on the line before the offset, and what stands there from it on.
+    /// The line of the offset, cut into what is before the offset and the rest. A side that is not
+    /// UTF-8 is empty.
     fn around(&self) -> (&'a str, &'a str) {
         let (before, after) = self.text.split_at(self.offset.min(self.text.len()));
         (
@@ -57,7 +59,7 @@ impl<'a> Spot<'a> {
     }
 }
 
-/// The first line that is told: the file, the line and the column, the code and the case.
+/// The first line: the file, the line and the column, the code and the summary.
 fn heading(
     alloc: Global,
     spot: &Spot<'_>,
@@ -75,7 +77,7 @@ fn heading(
     format!(in alloc; "{name}:{line}:{column}: {code}: {summary}\n")
 }
 
-/// The first sentence of what a code means, without its full stop.
+/// The first sentence of a code's explanation, without its full stop.
 fn first_sentence(code: &str) -> &'static str {
     match explanation_of(code) {
         Some(explanation) => match explanation.words.split_once(". ") {
@@ -86,7 +88,7 @@ fn first_sentence(code: &str) -> &'static str {
     }
 }
 
-/// What stands before the first line feed.
+/// The bytes before the first line feed.
 fn first_line(bytes: &[u8]) -> &[u8] {
     let end = bytes
         .iter()
@@ -95,19 +97,19 @@ fn first_line(bytes: &[u8]) -> &[u8] {
     bytes.get(..end).unwrap_or(bytes)
 }
 
-/// The line with its number and the mark below it, out of what stands on the line before the offset and from it on.
+/// Adds the line with its number, and the mark below it.
 fn push_marked(text: &mut String, line: u64, before: &str, after: &str) -> Result<(), AllocError> {
     let hidden = before.chars().count().saturating_sub(SHOWN);
-    let told = text.len();
+    let start = text.len();
     write!(text, "{line} ")?;
-    let margin = text.len().saturating_sub(told);
+    let margin = text.len().saturating_sub(start);
     text.push_str("| ")?;
     push_before(text, before, hidden)?;
     push_after(text, after)?;
     push_mark(text, margin, before, hidden)
 }
 
-/// What is shown of a line before the offset, behind so many hidden characters.
+/// Adds what is shown of a line before the offset, without so many hidden characters.
 fn push_before(text: &mut String, before: &str, hidden: usize) -> Result<(), AllocError> {
     if hidden > 0 {
         text.push(CUT)?;
@@ -115,7 +117,7 @@ fn push_before(text: &mut String, before: &str, hidden: usize) -> Result<(), All
     push_shown(text, before, hidden)
 }
 
-/// What is shown of a line from the offset on.
+/// Adds what is shown of a line from the offset on.
 fn push_after(text: &mut String, after: &str) -> Result<(), AllocError> {
     push_shown(text, after, 0)?;
     if after.chars().count() > SHOWN {
@@ -124,7 +126,7 @@ fn push_after(text: &mut String, after: &str) -> Result<(), AllocError> {
     Ok(())
 }
 
-/// The characters that are shown of a line, behind so many hidden ones.
+/// Adds at most `SHOWN` characters of a text, after so many hidden ones.
 fn push_shown(text: &mut String, line: &str, hidden: usize) -> Result<(), AllocError> {
     for character in line.chars().skip(hidden).take(SHOWN) {
         text.push(visible(character))?;
@@ -132,7 +134,7 @@ fn push_shown(text: &mut String, line: &str, hidden: usize) -> Result<(), AllocE
     Ok(())
 }
 
-/// The last line: the mark behind the margin and what is shown before the offset.
+/// Adds the mark, below the first character from the offset on.
 fn push_mark(
     text: &mut String,
     margin: usize,
@@ -149,7 +151,7 @@ fn push_mark(
     text.push_str("^\n")
 }
 
-/// What is as wide as a character.
+/// A blank or a tab, as wide as a character.
 fn blank(character: char) -> char {
     if character == '\t' { '\t' } else { ' ' }
 }

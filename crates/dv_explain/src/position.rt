@@ -2,7 +2,7 @@
 
 use std::fmt;
 
-/// Where a token stands: its line, and in characters its column; both count from 1.
+/// A place in a text, as its line and column.
 #[derive(Clone, Copy, PartialEq, Eq)]
 pub struct Position {
     /// The number of the line, counted from 1.
@@ -12,7 +12,8 @@ pub struct Position {
 }
 
 impl Position {
-    /// The position behind so many bytes of a text.
+    /// The position of an offset, in bytes, of a text. If the line is not UTF-8 before the offset,
+    /// the column is 1.
     pub fn of(text: &[u8], offset: usize) -> Self {
         let (before, _) = text.split_at(offset.min(text.len()));
         let feeds = before.iter().filter(|byte| **byte == b'\n').count();
@@ -27,7 +28,7 @@ impl Position {
     }
 }
 
-/// What stands behind the last line feed.
+/// The bytes after the last line feed.
 pub fn last_line(bytes: &[u8]) -> &[u8] {
     let mut start = 0;
     for (offset, byte) in bytes.iter().enumerate() {

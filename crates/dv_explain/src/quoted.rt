@@ -1,4 +1,4 @@
-//! Names as they are shown.
+//! Names as they are displayed.
 
 use crate::unseen::visible;
 use std::fmt;
@@ -6,7 +6,8 @@ use std::fmt;
 /// The most characters that are shown of a name.
 const SHOWN: usize = 60;
 
-/// A name in backquotes, of which a long rest is left out. It may be any text that stands where a name is expected.
+/// A name in backquotes, cut with a `…` after 60 characters. It may be any text in the place of a
+/// name; characters that can't be seen are displayed as blanks.
 #[derive(Clone, Copy)]
 pub struct Quoted<'a>(pub &'a str);
 

@@ -1,14 +1,14 @@
-//! Slips of those who write other languages too, found at the offset of a refusal.
+//! Signs and habits of other languages, recognized at the offset of a refusal.
 
-/// A slip: what stands before a token and from it on, and the sentence on it.
+/// A slip: how the text before the offset ends, how the text from it on begins, and a sentence.
 struct Slip {
     before: &'static str,
     after: &'static str,
     words: &'static str,
 }
 
-/// A sentence on what seems to be meant at an offset of a text at which no token begins or none can stand, with a line feed;
-/// nothing where that is not known. `offset` is the number of bytes before the token.
+/// A sentence with a line feed on what is probably meant at an offset, in bytes, at which E2 or E4
+/// refuses a text; an empty text if that is not known.
 pub fn slip_at(text: &[u8], offset: usize) -> &'static str {
     let (before, after) = text.split_at(offset.min(text.len()));
     if is_decimal(before, after) {
@@ -48,12 +48,12 @@ fn is_blank(byte: &u8) -> bool {
     matches!(byte, b' ' | b'\t' | b'\r' | b'\n')
 }
 
-/// Whether a slip is at an offset: what stands before it, and what stands from it on.
+/// Whether a slip is between these two parts of a text.
 fn is_at(slip: &Slip, before: &[u8], after: &[u8]) -> bool {
     before.ends_with(slip.before.as_bytes()) && after.starts_with(slip.after.as_bytes())
 }
 
-/// The slips that are told by the characters around the offset.
+/// The slips that the characters around the offset show. The first one that fits is taken.
 fn slips() -> &'static [Slip] {
     &[
         Slip {
@@ -189,7 +189,7 @@ fn slips() -> &'static [Slip] {
     ]
 }
 
-/// Whether a point stands between two digits.
+/// Whether there is a point between two digits.
 fn is_decimal(before: &[u8], after: &[u8]) -> bool {
     match (before.last(), after) {
         (Some(left), [b'.', right, ..]) => left.is_ascii_digit() && right.is_ascii_digit(),
@@ -197,7 +197,7 @@ fn is_decimal(before: &[u8], after: &[u8]) -> bool {
     }
 }
 
-/// Whether letters that no decimal number has continue a number, as in `0xff`, `1e3` and `1_000`.
+/// Whether a number goes on in a form that is not decimal, as in `0xff`, `1e3` and `1_000`.
 fn is_decimal_alone(before: &[u8], after: &[u8]) -> bool {
     match (before.last(), after) {
         (Some(b'0'), [b'x' | b'X' | b'b' | b'o', ..]) => true,
@@ -207,7 +207,7 @@ fn is_decimal_alone(before: &[u8], after: &[u8]) -> bool {
     }
 }
 
-/// Whether a name continues a number, as in `5s`.
+/// Whether a letter follows a digit, as in `5s`.
 fn is_unit(before: &[u8], after: &[u8]) -> bool {
     match (before.last(), after.first()) {
         (Some(left), Some(right)) => left.is_ascii_digit() && right.is_ascii_alphabetic(),
@@ -215,7 +215,7 @@ fn is_unit(before: &[u8], after: &[u8]) -> bool {
     }
 }
 
-/// Whether digits stand before a letter, as in `2nd`, where no number is continued.
+/// Whether a word begins with digits, as `2nd`.
 fn begins_with_digit(before: &[u8], after: &[u8]) -> bool {
     let digits = after
         .iter()
@@ -229,7 +229,7 @@ fn begins_with_digit(before: &[u8], after: &[u8]) -> bool {
     }
 }
 
-/// Whether a hyphen stands between two letters.
+/// Whether there is a hyphen between two letters.
 fn is_hyphen(before: &[u8], after: &[u8]) -> bool {
     match (before.last(), after) {
         (Some(left), [b'-', right, ..]) => left.is_ascii_alphabetic()
@@ -238,12 +238,12 @@ fn is_hyphen(before: &[u8], after: &[u8]) -> bool {
     }
 }
 
-/// Whether an `if` stands behind an `else`.
+/// Whether an `if` follows an `else`.
 fn is_else_if(before: &[u8], after: &[u8]) -> bool {
     without_blanks(before).ends_with(b"else") && after.starts_with(b"if")
 }
 
-/// Whether only blanks stand before an offset on its line, and a line before that.
+/// Whether an offset is the first on its line but for blanks, and the line is not the first one.
 pub fn begins_line(text: &[u8], offset: usize) -> bool {
     let (before, _) = text.split_at(offset.min(text.len()));
     let blanks = before

@@ -5,8 +5,8 @@ use crate::slips::slip_at;
 use crate::unseen::unseen_name;
 use std::alloc::{AllocError, Global};
 
-/// Which character it is with which no token begins, and what seems to be meant, where that is known. `offset` is the number
-/// of bytes before it.
+/// The cause of E2 at an offset, in bytes: which character is there, and what is probably meant, if
+/// that is known.
 ///
 /// # Errors
 ///
@@ -22,7 +22,7 @@ pub fn stray_at(alloc: Global, text: &[u8], offset: usize) -> Result<Cause, Allo
     })
 }
 
-/// That no token begins with a character: with its name, where it can't be seen.
+/// Says that no token begins with a character; one that can't be seen has its number and name.
 fn summary_of(alloc: Global, character: char) -> Result<String, AllocError> {
     match unseen_name(character) {
         Some(name) => format!(in alloc;
@@ -33,7 +33,7 @@ fn summary_of(alloc: Global, character: char) -> Result<String, AllocError> {
     }
 }
 
-/// The first character of bytes, where they begin with a whole one.
+/// The first character of bytes, if they begin with a whole one.
 fn first_character(bytes: &[u8]) -> Option<char> {
     for length in 1..=4 {
         if let Ok(text) = str::from_utf8(bytes.get(..length)?) {

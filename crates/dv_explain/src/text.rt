@@ -3,7 +3,7 @@
 use crate::explanation::{Example, Explanation};
 use std::alloc::{AllocError, Global};
 
-/// The code and the words of an explanation, and its example where there is one.
+/// The code and the words of an explanation, and its example if it has one.
 ///
 /// # Errors
 ///
@@ -16,7 +16,7 @@ pub fn explanation_text(alloc: Global, explanation: &Explanation) -> Result<Stri
     }
 }
 
-/// An example behind other words: the model with its inputs, and what comes of it.
+/// These words with an example after them: the model with its inputs, and the answer.
 fn example_text(alloc: Global, words: &str, example: &Example) -> Result<String, AllocError> {
     let mut text = format!(in alloc; "{words}\n")?;
     push_indented(&mut text, example.model)?;
@@ -29,7 +29,7 @@ fn example_text(alloc: Global, words: &str, example: &Example) -> Result<String,
     Ok(text)
 }
 
-/// Lines, each four blanks further to the right.
+/// Adds lines, each indented by four blanks.
 fn push_indented(text: &mut String, lines: &str) -> Result<(), AllocError> {
     for line in lines.lines() {
         write!(text, "    {line}\n")?;

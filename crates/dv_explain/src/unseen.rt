@@ -1,13 +1,13 @@
-//! Characters that can't be seen, their names, and what is shown instead.
+//! Invisible characters, their names, and what is displayed in their place.
 
-/// Characters from a first to a last one that can't be seen, and what one of them is called.
+/// A range of invisible characters, both ends included, and what one of them is called.
 struct Unseen {
     first: char,
     last: char,
     name: &'static str,
 }
 
-/// The characters that can't be seen. Where two entries have a character, the first one names it.
+/// The invisible characters. If several entries have a character, the first one names it.
 const UNSEEN: &[Unseen] = &[
     Unseen {
         first: '\u{0}',
@@ -121,7 +121,7 @@ const UNSEEN: &[Unseen] = &[
     },
 ];
 
-/// The name of a character that can't be seen; `None` for one that can be seen.
+/// The name of an invisible character, with its article; `None` for a visible one.
 pub fn unseen_name(character: char) -> Option<&'static str> {
     match UNSEEN.iter().find(|unseen| unseen.first <= character && character <= unseen.last) {
         Some(unseen) => Some(unseen.name),
@@ -129,7 +129,8 @@ pub fn unseen_name(character: char) -> Option<&'static str> {
     }
 }
 
-/// A character as it is shown: a blank for one that can't be seen, but a tab. So no text that is shown can steer a terminal.
+/// A character as it is displayed: a blank for an invisible one other than a tab. So no displayed
+/// text can control a terminal.
 pub fn visible(character: char) -> char {
     if character != '\t' && (character < ' ' || unseen_name(character).is_some()) {
         ' '

@@ -1,5 +1,5 @@
-//! What each refusal and each fault means, its cure, and a small text that has it, where there is one. The page of
-//! errors has the same words.
+//! What each refusal and each fault means, how to avoid it, and an example. `docs/ERRORS.md` has
+//! the same words.
 
 ghost use Rattle.std.specs.Prelude.{◌≡◌};
 ghost use Rattle.dv_explain.specs.Codes.{codes_of, fault_codes, input_codes, partition_codes, refusal_codes};
