@@ -87,7 +87,7 @@ const FOREIGN: &[Foreign] = &[
     },
     Foreign {
         words: &["import", "include", "use", "require", "using"],
-        sentence: "There is no import: all models stand in one text, before `root`.\n",
+        sentence: "There is no import: all models are in one text, before `root`.\n",
     },
     Foreign {
         words: &[
@@ -97,11 +97,11 @@ const FOREIGN: &[Foreign] = &[
     },
     Foreign {
         words: &["array", "list", "vector"],
-        sentence: "Several numbers are held by a bag, as `bag b 10;` for at most 10 of them.\n",
+        sentence: "A bag holds several numbers, as `bag b 10;` for at most 10 of them.\n",
     },
     Foreign {
         words: &["state", "states", "phase"],
-        sentence: "The phases are declared by `phases z, w;`, and what else belongs to a state by `var`, `flag` and `bag`.\n",
+        sentence: "The phases are declared by `phases z, w;`, and the rest of the state by `var`, `flag` and `bag`.\n",
     },
     Foreign {
         words: &[
@@ -118,7 +118,7 @@ const FOREIGN: &[Foreign] = &[
             "class",
             "submodel",
         ],
-        sentence: "A model is `atomic NAME { .. }` or `coupled NAME { .. }`, and stands in a coupled one as `part a: NAME;`.\n",
+        sentence: "A model is `atomic NAME { .. }` or `coupled NAME { .. }`, and becomes part of a coupled one by `part a: NAME;`.\n",
     },
     Foreign {
         words: &[
@@ -146,11 +146,11 @@ const FOREIGN: &[Foreign] = &[
     },
     Foreign {
         words: &["function", "fn", "func", "def", "proc", "procedure"],
-        sentence: "There are no functions: each rule has its statements itself.\n",
+        sentence: "There are no functions: write the statements in each rule.\n",
     },
     Foreign {
         words: &["while", "loop", "repeat", "until", "do"],
-        sentence: "There is no `while`: a rule runs once, `for v in b { .. }` goes through a bag, and a phase with `hold z: 0;` comes again at once.\n",
+        sentence: "There is no `while`: a rule runs once, `for v in b { .. }` goes through a bag, and a phase with `hold z: 0;` repeats at once.\n",
     },
     Foreign {
         words: &["switch", "case", "match", "when", "select"],
@@ -158,15 +158,15 @@ const FOREIGN: &[Foreign] = &[
     },
     Foreign {
         words: &["elif", "elsif", "elseif"],
-        sentence: "Another condition stands in a block: `else { if .. { .. } }`.\n",
+        sentence: "Another condition needs a block: `else { if .. { .. } }`.\n",
     },
     Foreign {
         words: &["then", "begin", "end", "endif"],
-        sentence: "A block stands in braces: `if n > 0 { .. }`.\n",
+        sentence: "A block is written in braces: `if n > 0 { .. }`.\n",
     },
     Foreign {
         words: &["return", "break", "continue", "exit"],
-        sentence: "A rule runs to its end: what is left out stands in an `if`.\n",
+        sentence: "A rule runs to its end: put what may be skipped into an `if`.\n",
     },
     Foreign {
         words: &["print", "println", "printf", "log", "echo", "write"],
@@ -189,7 +189,7 @@ const FOREIGN: &[Foreign] = &[
             "normal",
             "exponential",
         ],
-        sentence: "There are no random numbers: let them come as inputs, or compute them, as `n := (n * 75 + 74) % 65537;`.\n",
+        sentence: "There are no random numbers: supply them as inputs, or compute them, as `n := (n * 75 + 74) % 65537;`.\n",
     },
     Foreign {
         words: &["mod", "rem", "modulo"],
@@ -197,11 +197,11 @@ const FOREIGN: &[Foreign] = &[
     },
     Foreign {
         words: &["div"],
-        sentence: "`/` divides, and leaves the remainder out.\n",
+        sentence: "`/` divides and drops the remainder.\n",
     },
     Foreign {
         words: &["xor"],
-        sentence: "Of two truth values exactly one is true where `f != g`.\n",
+        sentence: "`f != g` is true if exactly one of the two is true.\n",
     },
     Foreign {
         words: &["set", "emit"],
@@ -209,7 +209,7 @@ const FOREIGN: &[Foreign] = &[
     },
     Foreign {
         words: &["len", "length", "count"],
-        sentence: "How many numbers a bag has is `size(b)`.\n",
+        sentence: "`size(b)` is the number of values in a bag.\n",
     },
     Foreign {
         words: &["next", "transition"],

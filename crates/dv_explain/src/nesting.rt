@@ -5,9 +5,9 @@
 pub fn nesting_at(text: &[u8], offset: usize) -> &'static str {
     let (_, token) = text.split_at(offset.min(text.len()));
     if begins_with_word(token, b"if") {
-        "blocks nest at most 16 deep, that of the rule counted"
+        "blocks nest at most 16 deep, including that of the rule"
     } else if begins_with_word(token, b"for") {
-        "loops nest at most 3 deep, and blocks at most 16, that of the rule counted"
+        "loops nest at most 3 deep, and blocks at most 16, including that of the rule"
     } else {
         "an expression nests at most 64 deep"
     }

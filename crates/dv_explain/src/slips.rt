@@ -12,10 +12,10 @@ struct Slip {
 pub fn slip_at(text: &[u8], offset: usize) -> &'static str {
     let (before, after) = text.split_at(offset.min(text.len()));
     if is_decimal(before, after) {
-        return "There are no decimals: numbers are whole, so count in smaller units.\n";
+        return "There are no fractions: numbers are whole, so count in smaller units.\n";
     }
     if is_decimal_alone(before, after) {
-        return "Numbers are written in decimal digits alone.\n";
+        return "Numbers are written in decimal digits only.\n";
     }
     if is_unit(before, after) {
         return "Times are whole numbers of ticks, and numbers have no unit.\n";
@@ -24,7 +24,7 @@ pub fn slip_at(text: &[u8], offset: usize) -> &'static str {
         return "A name begins with a letter or `_`.\n";
     }
     if is_hyphen(before, after) {
-        return "A name has letters, digits and `_`, and no `-`.\n";
+        return "A name consists of letters, digits and `_`, without `-`.\n";
     }
     if is_else_if(before, after) {
         return "After `else` comes a block: `else { if .. { .. } }`.\n";
@@ -59,7 +59,7 @@ fn slips() -> &'static [Slip] {
         Slip {
             before: "",
             after: "[",
-            words: "There are no lists and no indices: several numbers are held by a bag, as `bag b 10;`.\n",
+            words: "There are no lists and no indices: a bag holds several numbers, as `bag b 10;`.\n",
         },
         Slip {
             before: "",
@@ -99,7 +99,7 @@ fn slips() -> &'static [Slip] {
         Slip {
             before: "",
             after: "||",
-            words: "Of two conditions one is enough with `or`.\n",
+            words: "Alternative conditions are joined by `or`.\n",
         },
         Slip {
             before: "",
@@ -109,7 +109,7 @@ fn slips() -> &'static [Slip] {
         Slip {
             before: "",
             after: "!",
-            words: "A condition is turned by `not`.\n",
+            words: "A condition is negated by `not`.\n",
         },
         Slip {
             before: "/",
@@ -144,7 +144,7 @@ fn slips() -> &'static [Slip] {
         Slip {
             before: "",
             after: "=",
-            words: "`:=` assigns, `=` compares, and `:` stands before the model of a part, as `part a: A;`, and before a range, as `var n: 0..9 = 0;`.\n",
+            words: "`:=` assigns, `=` compares, and `:` is written before the model of a part, as `part a: A;`, and before a range, as `var n: 0..9 = 0;`.\n",
         },
         Slip {
             before: "",

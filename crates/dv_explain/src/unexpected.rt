@@ -71,7 +71,7 @@ fn meant_at(
     } else if lacks_version(expected, read, number) {
         String::from_str(alloc, WITHOUT_QUEUES)
     } else if expected.have(SEMICOLON) && begins_line(text, offset) {
-        String::from_str(alloc, "It begins a line: the line before may lack its `;`.\n")
+        String::from_str(alloc, "The line before may lack its `;`.\n")
     } else if expected.have(DOT) {
         end_of_link(alloc, name_at(read, number.saturating_sub(1)))
     } else {
@@ -93,7 +93,7 @@ fn end_of_link(alloc: Global, name: &str) -> Result<String, AllocError> {
 
 /// On a word of queues in a text where it is not reserved.
 const WITHOUT_QUEUES: &str =
-    "Queues are known in a text that begins with `version 2;`: in others `queue`, `push`, `pop` and `front` are names.\n";
+    "Queues need a text that begins with `version 2;`: in others `queue`, `push`, `pop` and `front` are names.\n";
 
 /// Whether the token at index `number`, or the one before it, is a name that is probably meant as a
 /// word of queues.
@@ -125,7 +125,7 @@ fn hint_at(read: &Tokens, number: usize, expected: &Expectations) -> &'static st
 /// A sentence on what may be missing at the end of a text.
 fn hint_on_end(expected: &Expectations) -> &'static str {
     if expected.have(Part::Models) {
-        "Behind the models stands `root` with the name of a coupled model.\n"
+        "After the models comes `root` with the name of a coupled model.\n"
     } else if expected.have(Part::Items)
         || expected.have(Part::CoupledItems)
         || expected.have(Part::Statements)
@@ -148,14 +148,14 @@ fn hint_on(expected: &Expectations, kind: TokenKind, is_assigned: bool) -> &'sta
 
 /// On a statement among items.
 const OUTSIDE: &str =
-    "A statement stands in a rule, as in `internal PHASE { .. }`; a `}` before it may be one too many.\n";
+    "A statement belongs in a rule, such as `internal PHASE { .. }`; there may be a `}` too many before it.\n";
 
 /// On a reserved word where a name is expected.
 const RESERVED: &str = "It is a reserved word, and can't be a name.\n";
 
 fn hint_on_word(expected: &Expectations, word: Keyword, is_assigned: bool) -> &'static str {
     if expected.have(Part::Operand) && word == Keyword::Not {
-        "Put `not` and what it turns in parentheses.\n"
+        "Put `not` and its operand in parentheses.\n"
     } else if expects_name(expected) || is_assigned {
         RESERVED
     } else if expected.have(Part::End) {
@@ -176,11 +176,11 @@ fn hint_on_item(expected: &Expectations) -> &'static str {
     if expected.have(Part::Statements) {
         "An item begins here: a `}` may be missing before it.\n"
     } else if expected.have(Part::Models) {
-        "An item stands in a model: a `}` before it may be one too many.\n"
+        "An item belongs in a model: there may be a `}` too many before it.\n"
     } else if expected.have(Part::Items) {
-        "Such an item stands in a coupled model.\n"
+        "This item belongs in a coupled model.\n"
     } else if expected.have(Part::CoupledItems) {
-        "Such an item stands in an atomic model.\n"
+        "This item belongs in an atomic model.\n"
     } else {
         ""
     }
@@ -189,26 +189,26 @@ fn hint_on_item(expected: &Expectations) -> &'static str {
 fn hint_after_root(word: Keyword) -> &'static str {
     match word {
         Keyword::Root => "A text has one root.\n",
-        Keyword::Atomic | Keyword::Coupled => "Models stand before `root`.\n",
+        Keyword::Atomic | Keyword::Coupled => "Models come before `root`.\n",
         _ => "",
     }
 }
 
 fn hint_on_sign(expected: &Expectations, symbol: Symbol) -> &'static str {
     if expected.have(Part::OperatorsOfCompared) && is_comparison(symbol) {
-        "A comparison can't be compared: join two comparisons with `and`.\n"
+        "The result of a comparison can't be compared: join two comparisons with `and`.\n"
     } else if expected.have(Part::Models) && symbol == Symbol::CloseBrace {
-        "It may be one `}` too many.\n"
+        "There may be a `}` too many.\n"
     } else if symbol == Symbol::Assign {
         "`:=` assigns in a statement; conditions and start values are written with `=`.\n"
     } else if symbol == Symbol::Star && expected.have(Part::Name) {
-        "`*` stands for no names: write a rule for each phase, and a link for each port.\n"
+        "`*` is not a wildcard: write a rule for each phase, and a link for each port.\n"
     } else if symbol == Symbol::Comma && !expected.have(Part::Operators) {
         hint_on_comma(expected)
     } else if symbol == Symbol::Semicolon && expected.have(ASSIGN) {
         "The next phase is chosen by `goto z;`.\n"
     } else if symbol == Symbol::Semicolon && expects_brace(expected) {
-        "No `;` stands after `}` or after another `;`.\n"
+        "There is no `;` after `}` or after another `;`.\n"
     } else {
         ""
     }
@@ -216,7 +216,7 @@ fn hint_on_sign(expected: &Expectations, symbol: Symbol) -> &'static str {
 
 fn hint_on_comma(expected: &Expectations) -> &'static str {
     if expected.have(SEMICOLON) || expected.have(COLON) || expected.have(EQUAL) {
-        "Each name has an item of its own, as `in x; in z;`.\n"
+        "Each name needs an item of its own, as `in x; in z;`.\n"
     } else {
         ""
     }

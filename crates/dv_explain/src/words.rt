@@ -38,12 +38,12 @@ pub fn faults() -> &'static [Explanation]
 const REFUSALS: &[Explanation] = &[
     Explanation {
         code: "E1",
-        words: "The text is not UTF-8. The first byte that belongs to no whole character is named; comments are looked at too. Save the file as UTF-8. A single `é` in an older encoding is enough.",
+        words: "The text is not UTF-8. The first byte that is not part of a valid character is named; comments are checked, too. Save the file as UTF-8. A single `é` in an older encoding is enough for this refusal.",
         example: None,
     },
     Explanation {
         code: "E2",
-        words: "No token begins with this character. Outside of comments a text has names, numbers, words and the signs of the language; a byte order mark and a no-break space are none of these. Take the character out.",
+        words: "No token begins with this character. Outside of comments a text consists of names, numbers, reserved words and signs; a byte order mark or a no-break space is none of these. Remove the character.",
         example: Some(Example {
             model: "root $;\n",
             inputs: "",
@@ -54,7 +54,7 @@ const REFUSALS: &[Explanation] = &[
     },
     Explanation {
         code: "E3",
-        words: "A number is above 9223372036854775807. Write a smaller one. The sign is no part of a number, so -2^63 can't be written either: compute it, as `-9223372036854775807 - 1`.",
+        words: "A number is above 9223372036854775807. Write a smaller one. A minus sign is not part of a number, so -2^63 can't be written either: compute it, as `-9223372036854775807 - 1`.",
         example: Some(Example {
             model: "root 9223372036854775808;\n",
             inputs: "",
@@ -65,7 +65,7 @@ const REFUSALS: &[Explanation] = &[
     },
     Explanation {
         code: "E4",
-        words: "This token can't stand here. It is the first one with which no text goes on; where a text ends too early, its end is named. Look just before it, too: a missing `;`, `:` or `}` is found at the token after it. A reserved word can't be a name; `queue`, `push`, `pop` and `front` are reserved in a text that begins with `version 2;`, and names in all others. A text may begin with `version 1;` or `version 2;`, and no other version is known. The grammar is in `docs/REFERENCE.md`.",
+        words: "This token is not allowed here. It is the first one that does not fit the grammar; if the text ends too early, its end is named. Look just before it, too: a missing `;`, `:` or `}` is found at the token after it. A reserved word can't be a name; `queue`, `push`, `pop` and `front` are reserved in a text that begins with `version 2;`, and are names in all others. A text may begin with `version 1;` or `version 2;`, and no other version is known. The grammar is in `docs/REFERENCE.md`.",
         example: Some(Example {
             model: "coupled T { part a A; }\nroot T;\n",
             inputs: "",
@@ -76,7 +76,7 @@ const REFUSALS: &[Explanation] = &[
     },
     Explanation {
         code: "E5",
-        words: "An expression, a block or a loop is nested too deeply. The first token is named that leaves no room for what it owes, as an opening parenthesis, an operator, `times`, `if` or `for`. Expressions nest 64 deep, blocks 16 and loops 3. Compute a part of the expression into a variable first, or join conditions with `and`.",
+        words: "An expression, a block or a loop is nested too deeply. The first token that nests one level too deep is named, such as an opening parenthesis, an operator, `times`, `if` or `for`. Expressions nest at most 64 deep, blocks 16 and loops 3. Compute a part of the expression into a variable first, or join conditions with `and`.",
         example: Some(Example {
             model: "atomic A { bag b 1; phases z; start z; hold z: 1; internal z {\nfor p in b { for q in b { for r in b {\nfor s in b { } } } } } }\nroot A;\n",
             inputs: "",
@@ -87,7 +87,7 @@ const REFUSALS: &[Explanation] = &[
     },
     Explanation {
         code: "E6",
-        words: "A name is declared twice. The second one is named. Ports, variables, flags, bags and queues of an atomic model share their names, and a loop has another name than these and than the loops around it; so do models, the phases of a model, its parts, and the ports of a coupled model; and a phase has one rule of each sort. Give one of the two another name.",
+        words: "A name is declared twice. The second one is named. The ports, variables, flags, bags and queues of an atomic model all have different names, and the variable of a loop differs from these and from the variables of the loops around it. Models have different names, and so do the phases of a model, its parts, and the ports of a coupled model. A phase has at most one rule of each kind. Rename one of the two.",
         example: Some(Example {
             model: "atomic A { out y; var y: 0..1 = 0; phases z; start z; hold z: 1; }\nroot A;\n",
             inputs: "",
@@ -98,7 +98,7 @@ const REFUSALS: &[Explanation] = &[
     },
     Explanation {
         code: "E7",
-        words: "This name is unknown. Declare the model, part, port, variable, flag, bag, queue or phase, or mend its spelling; the variable of a loop is known in its block alone.",
+        words: "This name is unknown. Declare the model, part, port, variable, flag, bag, queue or phase, or correct its spelling; the variable of a loop is known only in the block of the loop.",
         example: Some(Example {
             model: "coupled T { part a: A; }\nroot T;\n",
             inputs: "",
@@ -109,7 +109,7 @@ const REFUSALS: &[Explanation] = &[
     },
     Explanation {
         code: "E8",
-        words: "The type is wrong. The first token of the expression is named, or a name of another sort than its place wants. Numbers are wanted by arithmetic, by `<` and its like, by `send`, `add`, `drop`, `push`, `times` and by holds; truth values by conditions, `not`, `and` and `or`; `=` and `!=` want two of one type; a variable takes a number and a flag a truth value; a bag stands in `for`, `add`, `drop` and in all calls but `front`, a queue in `for`, `push`, `pop`, `size` and `front`, and neither elsewhere.",
+        words: "The type is wrong. The first token of the expression is named, or a name that can't be used in this place, such as a port where a variable is needed. Arithmetic, `<`, `<=`, `>`, `>=`, `send`, `add`, `drop`, `push`, `times` and holds take numbers; conditions, `not`, `and` and `or` take truth values; `=` and `!=` take two values of one type. A variable takes a number, and a flag a truth value. A bag can be used in `for`, `add`, `drop` and all calls but `front`; a queue in `for`, `push`, `pop`, `size` and `front`; neither can be used elsewhere.",
         example: Some(Example {
             model: "atomic A { phases z; start z; hold z: true; }\nroot A;\n",
             inputs: "",
@@ -120,7 +120,7 @@ const REFUSALS: &[Explanation] = &[
     },
     Explanation {
         code: "E9",
-        words: "This is not allowed in a rule of this sort. The first token of the statement is named. Send in an output rule; assign, `goto`, `add`, `drop`, `push` and `pop` in the others. `elapsed` is known in external rules, and what came to an input port in external and confluent ones; there the word or the port is named. Nothing is assigned to the variable of a loop: declare a variable for what has to stay.",
+        words: "This is not allowed in a rule of this kind. The first token of the statement is named. `send` is for output rules; assignments, `goto`, `add`, `drop`, `push` and `pop` are for the others. `elapsed` can be read in external rules, and an input port in external and confluent rules; elsewhere `elapsed` or the port is named. The variable of a loop can't be assigned: declare a variable for a value that has to be kept.",
         example: Some(Example {
             model: "atomic A { out y; phases z; start z; hold z: 1; internal z { send y 1; } }\nroot A;\n",
             inputs: "",
@@ -131,7 +131,7 @@ const REFUSALS: &[Explanation] = &[
     },
     Explanation {
         code: "E10",
-        words: "The item `phases`, `start` or the `hold` of a phase is missing, or stands twice. The model's name is named where one is missing, the second word where one stands twice. Each atomic model has one `phases`, one `start`, and one `hold` for each phase.",
+        words: "The item `phases`, `start` or the `hold` of a phase is missing, or is written twice. If it is missing, the name of the model is named; if it is written twice, the first word of the second one. Each atomic model has one `phases`, one `start`, and one `hold` for each phase.",
         example: Some(Example {
             model: "atomic A { phases z; start z; }\nroot A;\n",
             inputs: "",
@@ -142,7 +142,7 @@ const REFUSALS: &[Explanation] = &[
     },
     Explanation {
         code: "E11",
-        words: "A range is empty, a start value is outside of it, or the hold of the start phase faults. The variable's name is named, or the phase after `start`. Let the range run from its low end to its high end, with the start value in it; let the hold of the start phase have a value on the start values.",
+        words: "A range is empty, a start value is outside of its range, or the hold of the start phase has a fault. The name of the variable is named, or the phase after `start`. Write the low end of a range before its high end, and a start value between them; choose the start values so that the hold of the start phase has no fault.",
         example: Some(Example {
             model: "atomic A { var v: 3..2 = 2; phases z; start z; hold z: 1; }\nroot A;\n",
             inputs: "",
@@ -175,7 +175,7 @@ const REFUSALS: &[Explanation] = &[
     },
     Explanation {
         code: "E14",
-        words: "A link stands twice. The second `link` is named. Take one of them out. To send a value twice, send it twice.",
+        words: "A link is written twice. The second `link` is named. Remove one of them. To send a value twice, send it twice.",
         example: Some(Example {
             model: "atomic A { out y; phases z; start z; hold z: 1; }\ncoupled T { out o; part a: A; link a.y -> self.o; link a.y -> self.o; }\nroot T;\n",
             inputs: "",
@@ -186,7 +186,7 @@ const REFUSALS: &[Explanation] = &[
     },
     Explanation {
         code: "E15",
-        words: "A model contains itself, as its part or as a part of its parts. The part's model name is named, at each part that lies on the way round. Let a part of another model stand there: to repeat a model, give it several parts.",
+        words: "A model contains itself, as a part or further inside. The name of the model is named in the part that leads back to it. Use another model for that part; to repeat a model, declare several parts of it.",
         example: Some(Example {
             model: "coupled T { part t: T; }\nroot T;\n",
             inputs: "",
@@ -197,7 +197,7 @@ const REFUSALS: &[Explanation] = &[
     },
     Explanation {
         code: "E16",
-        words: "The root is atomic. Its name after `root` is named. Put the model into a coupled one, as `coupled Top { part a: A; }`, and let that be the root.",
+        words: "The root is atomic. Its name after `root` is named. Put the model into a coupled one, as `coupled Top { part a: A; }`, and make that the root.",
         example: Some(Example {
             model: "atomic A { phases z; start z; hold z: 1; }\nroot A;\n",
             inputs: "",
@@ -208,7 +208,7 @@ const REFUSALS: &[Explanation] = &[
     },
     Explanation {
         code: "E17",
-        words: "A limit on size is passed. The name that is too many is named, or the capacity of a bag or a queue; line 1 where the text is too long. The root's name is named where the tree of its parts passes a limit: it has 1 to 4,096 components, at most 8,192 atomic and coupled models, each counted as often as it is a part and the root once, and coupled models lie at most 16 deep in one another, the root counted; and where nothing else is refused, with more than 65,536 links: ways from an output of a component or an input of the root to an input of a component or an output of the root, through the models between. An atomic model has at most 4,096 ports, 4,096 variables, flags, bags and queues together, and 4,096 phases, and a bag or a queue holds 1 to 4,096 numbers; a coupled model has at most 4,096 ports and 4,096 parts; a text 16,777,216 bytes.",
+        words: "A limit on size is exceeded. The first name beyond the limit is named, or the capacity of a bag or a queue; line 1 if the text is too long. The name of the root is named if the tree of its parts exceeds a limit: it has 1 to 4,096 components; at most 8,192 atomic and coupled models, each counted as often as it is a part, and the root once; and coupled models nest at most 16 deep, the root included. The root is also named, if nothing else is refused, for more than 65,536 links: ways from an output of a component or an input of the root to an input of a component or an output of the root, through the models between. An atomic model has at most 4,096 ports, 4,096 variables, flags, bags and queues together, and 4,096 phases, and a bag or a queue holds 1 to 4,096 numbers; a coupled model has at most 4,096 ports and 4,096 parts; a text 16,777,216 bytes.",
         example: Some(Example {
             model: "coupled T { }\nroot T;\n",
             inputs: "",
@@ -219,7 +219,7 @@ const REFUSALS: &[Explanation] = &[
     },
     Explanation {
         code: "E18",
-        words: "Memory ran out. This is no refusal: no place is named, and of a trace or a listing a beginning may have been printed. Run it where there is more memory, or run a smaller model. A run lets go of what it has printed.",
+        words: "Memory ran out. This is not a refusal: no place is named, and the beginning of a trace or a listing may have been printed. Run it with more memory, or run a smaller model. A run frees what it has printed.",
         example: None,
     },
 ];
@@ -228,7 +228,7 @@ const REFUSALS: &[Explanation] = &[
 const INPUT_REFUSALS: &[Explanation] = &[
     Explanation {
         code: "I1",
-        words: "The line of an input has not three fields, or its time is no `TICK` or `TICK.MICRO` in decimal digits, with a tick up to 10^15 and a microstep up to 1,000, or it is not UTF-8. Write `TICK PORT VALUE` or `TICK.MICRO PORT VALUE`, with blanks or tabs between them; a comment begins with `#` at the start of its line.",
+        words: "The line of an input does not have three fields, or its time is not `TICK` or `TICK.MICRO` in decimal digits, with a tick up to 10^15 and a microstep up to 1,000, or it is not UTF-8. Write `TICK PORT VALUE` or `TICK.MICRO PORT VALUE`, with blanks or tabs between them; a comment begins with `#` at the start of its line.",
         example: Some(Example {
             model: RELAY,
             inputs: "5 x\n",
@@ -239,7 +239,7 @@ const INPUT_REFUSALS: &[Explanation] = &[
     },
     Explanation {
         code: "I2",
-        words: "The root has no input port of this name. Inputs come to the ports that the root declares with `in`; mend the name, or declare the port.",
+        words: "The root has no input port of this name. Inputs come to the ports that the root declares with `in`; correct the name, or declare the port.",
         example: Some(Example {
             model: RELAY,
             inputs: "5 z 1\n",
@@ -250,7 +250,7 @@ const INPUT_REFUSALS: &[Explanation] = &[
     },
     Explanation {
         code: "I3",
-        words: "The time is before that of the input before. Put the lines in the order of their times, where a tick without a microstep is its start; inputs of one time come together, in any order.",
+        words: "The time is before that of the previous input. Put the lines in the order of their times; a tick without a microstep is microstep 0. Inputs of one time arrive together, and their order does not matter.",
         example: Some(Example {
             model: RELAY,
             inputs: "5 x 1\n4 x 1\n",
@@ -261,7 +261,7 @@ const INPUT_REFUSALS: &[Explanation] = &[
     },
     Explanation {
         code: "I4",
-        words: "The value is no number from -9223372036854775808 to 9223372036854775807 in decimal digits, with `-` before them where it is below 0. A `+` is not written.",
+        words: "The value is not a number from -9223372036854775808 to 9223372036854775807 in decimal digits, with `-` before a negative one. A `+` is not allowed.",
         example: Some(Example {
             model: RELAY,
             inputs: "5 x 9223372036854775808\n",
@@ -272,7 +272,7 @@ const INPUT_REFUSALS: &[Explanation] = &[
     },
     Explanation {
         code: "I5",
-        words: "The microstep of the input is above the limit of the run. A time is no decimal fraction: `5.21` is microstep 21 of tick 5. Raise the limit by `--microsteps`, or take a lower microstep or a later tick.",
+        words: "The microstep of the input is above the limit of the run. A time is not a decimal fraction: `5.21` is microstep 21 of tick 5. Raise the limit by `--microsteps`, or take a lower microstep or a later tick.",
         example: Some(Example {
             model: RELAY,
             inputs: "5.21 x 1\n",
@@ -297,7 +297,7 @@ const PARTITION_REFUSALS: &[Explanation] = &[
     },
     Explanation {
         code: "Q3",
-        words: "A component of the model is in no process of the partition, or in two, or stands twice in one. Name each component once; `plan` without a partition prints them all.",
+        words: "A component of the model is in no process of the partition, in two processes, or twice in one. Name each component once; `plan` without a partition prints them all.",
         example: None,
     },
     Explanation {
@@ -326,7 +326,7 @@ const FAULTS: &[Explanation] = &[
     },
     Explanation {
         code: "divide",
-        words: "A division by 0, or what it leaves. Ask before: `if v != 0 and 9 / v > 2` does not divide where `v` is 0.",
+        words: "A division or a remainder by 0. Check first: `if v != 0 and 9 / v > 2` does not divide if `v` is 0.",
         example: Some(Example {
             model: "atomic A { out y; var v: 0..9 = 0; phases z; start z; hold z: 1; output z { send y 1 / v; } }\ncoupled T { part a: A; }\nroot T;\n",
             inputs: "",
@@ -348,7 +348,7 @@ const FAULTS: &[Explanation] = &[
     },
     Explanation {
         code: "empty",
-        words: "`least` or `most` of an empty bag, or `front` or `pop` of an empty queue. Ask before: `if size(b) > 0 and least(b) = 1` is false where `b` is empty.",
+        words: "`least` or `most` of an empty bag, or `front` or `pop` of an empty queue. Check first: `if size(b) > 0 and least(b) = 1` is false if `b` is empty.",
         example: Some(Example {
             model: "atomic A { out y; bag b 1; phases z; start z; hold z: 1; output z { send y least(b); } }\ncoupled T { part a: A; }\nroot T;\n",
             inputs: "",
@@ -359,7 +359,7 @@ const FAULTS: &[Explanation] = &[
     },
     Explanation {
         code: "full",
-        words: "An `add` to a bag, or a `push` to a queue, that holds its capacity. Declare a greater one, or ask for its `size` before.",
+        words: "An `add` to a bag, or a `push` to a queue, that is full. Declare a greater capacity, or check its `size` first.",
         example: Some(Example {
             model: "atomic A { bag b 1; phases z; start z; hold z: 1; internal z { add 7 to b; } }\ncoupled T { part a: A; }\nroot T;\n",
             inputs: "",
@@ -370,7 +370,7 @@ const FAULTS: &[Explanation] = &[
     },
     Explanation {
         code: "negative",
-        words: "A hold is below 0. Let the hold be 0 or more.",
+        words: "A hold is below 0. Make the hold 0 or more.",
         example: Some(Example {
             model: "atomic A { var v: -1..1 = 1; phases z; start z; hold z: v; internal z { v := -1; } }\ncoupled T { part a: A; }\nroot T;\n",
             inputs: "",
@@ -381,7 +381,7 @@ const FAULTS: &[Explanation] = &[
     },
     Explanation {
         code: "microsteps",
-        words: "A hold of 0 at the last microstep of a tick. Let some hold of the loop be above 0, or give the run more microsteps.",
+        words: "A hold of 0 at the last microstep of a tick. Make some hold of the loop greater than 0, or give the run more microsteps.",
         example: Some(Example {
             model: "atomic A { phases z; start z; hold z: 0; }\ncoupled T { part a: A; }\nroot T;\n",
             inputs: "",
@@ -392,7 +392,7 @@ const FAULTS: &[Explanation] = &[
     },
     Explanation {
         code: "flood",
-        words: "The 4,097th `send` of one output rule, or more than 4,096 values that come to one input port at one instant, each copy counted. Send less at one instant.",
+        words: "The 4,097th `send` of one output rule, or more than 4,096 values that arrive at one input port at one instant, each copy counted. Send fewer values at one instant.",
         example: None,
     },
 ];
