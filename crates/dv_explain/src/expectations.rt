@@ -1,4 +1,4 @@
-//! What may stand at an offset of a text.
+//! What a text may go on with at an offset.
 
 use crate::grammar::{Called, FILE, Part, knows_queues};
 use dv_lex::{Token, TokenKind};

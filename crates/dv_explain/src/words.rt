@@ -186,7 +186,7 @@ const REFUSALS: &[Explanation] = &[
     },
     Explanation {
         code: "E15",
-        words: "A model contains itself, as a part or further inside. The name of the model is named in the part that leads back to it. Use another model for that part; to repeat a model, declare several parts of it.",
+        words: "A model contains itself, as a part or further inside. The model name of a part on this cycle is named. Use another model for that part; to repeat a model, declare several parts of it.",
         example: Some(Example {
             model: "coupled T { part t: T; }\nroot T;\n",
             inputs: "",
