@@ -1,21 +1,21 @@
-//! Where a statement or an expression stands.
+//! The rule or hold, and the loops, that enclose a statement or an expression.
 
 use dv_syntax::{Name, RuleSort};
 
-/// Where a statement or an expression of an atomic model stands: the sort of the rule and its phase, or the hold of a phase;
-/// and the variables of the loops around, the outermost first.
+/// What encloses a statement or an expression of an atomic model: a rule or the hold of a phase,
+/// and loops.
 #[derive(Clone, Copy)]
 pub struct Around {
-    /// The sort of the rule; none in a hold.
+    /// The kind of the rule; `None` in a hold.
     pub rule: Option<RuleSort>,
     /// The phase of the rule or the hold.
     pub phase: Name,
-    /// The variables of the loops around, the outermost first.
+    /// The variables of the enclosing loops, the outermost first.
     pub loops: [Option<Name>; 3],
 }
 
 impl Around {
-    /// In a rule of a phase, or where there is no sort in its hold, outside of all loops.
+    /// Directly in a rule of a phase, or without `rule` in its hold.
     pub fn of(rule: Option<RuleSort>, phase: Name) -> Self {
         Around {
             rule,
@@ -24,7 +24,7 @@ impl Around {
         }
     }
 
-    /// In the block of a loop there.
+    /// In the block of a loop with this variable that is itself enclosed by `self`.
     pub fn inside(&self, variable: Name) -> Self {
         let loops = match self.loops {
             [None, ..] => [Some(variable), None, None],
@@ -34,7 +34,7 @@ impl Around {
         Around { loops, ..*self }
     }
 
-    /// The variable of the innermost loop that has this name.
+    /// The variable with this name of the innermost enclosing loop that has it.
     pub fn loop_variable(&self, number: u32) -> Option<Name> {
         for variable in self.loops.iter().rev() {
             if let Some(name) = variable
@@ -46,7 +46,7 @@ impl Around {
         None
     }
 
-    /// Whether what came to input ports can be read.
+    /// Whether input ports can be read.
     pub fn sees_inputs(&self) -> bool {
         matches!(self.rule, Some(RuleSort::External | RuleSort::Confluent))
     }

@@ -1,14 +1,14 @@
 //! Ends of links.
 
+use crate::causes::{cause, empty_cause};
 use crate::lists::{Choice, WantedSentence};
 use crate::models::{
     link_at, model_around, model_named, name_of as name_of_model, part_named, part_of_model_at,
-    port_sort,
+    port_direction,
 };
-use crate::near::told_unknown;
+use crate::near::cause_of_unknown;
 use crate::reading::ReadText;
-use crate::sorts::{NameSort, name_of, sort_of};
-use crate::told::{nothing_told, told};
+use crate::sorts::{Direction, name_of, sort_of};
 use dv_explain::{Cause, Quoted};
 use dv_syntax::{Atomic, Coupled, End, Link, Model, Name};
 use std::alloc::{AllocError, Global};
@@ -37,7 +37,7 @@ impl Side {
         }
     }
 
-    /// What a link does there.
+    /// The verb for what a link does at this end.
     fn verb(self) -> &'static str {
         match self {
             Side::From => "begin",
@@ -45,7 +45,7 @@ impl Side {
         }
     }
 
-    /// A sentence with a line feed on the ports that may stand there.
+    /// A sentence with a line feed on the ports that this end may have.
     fn rule(self) -> &'static str {
         match self {
             Side::From => {
@@ -70,21 +70,21 @@ impl LocatedEnd {
         }
     }
 
-    /// What the port of the end has to be.
-    fn wanted(&self) -> NameSort {
+    /// The direction that the port of the end has to have.
+    fn wanted(&self) -> Direction {
         match (self.side, self.end.part) {
-            (Side::From, Some(_)) | (Side::To, None) => NameSort::Output,
-            (Side::From, None) | (Side::To, Some(_)) => NameSort::Input,
+            (Side::From, Some(_)) | (Side::To, None) => Direction::Output,
+            (Side::From, None) | (Side::To, Some(_)) => Direction::Input,
         }
     }
 
-    /// The end on the other side.
+    /// The other end of the link.
     fn other(&self) -> Self {
         LocatedEnd::of(&self.link, self.side.other())
     }
 }
 
-/// The end of a link whose part or port stands at an offset.
+/// The end of a link whose part or port is at an offset.
 fn end_at(model: &Coupled, offset: u32) -> Option<LocatedEnd> {
     for link in &model.links {
         if is_at(&link.from, offset) {
@@ -99,12 +99,13 @@ fn end_at(model: &Coupled, offset: u32) -> Option<LocatedEnd> {
 
 fn is_at(end: &End, offset: u32) -> bool {
     match end.part {
-        Some(part) if part.offset == offset => true,
-        _ => end.port.offset == offset,
+        Some(part) => part.offset == offset || end.port.offset == offset,
+        None => end.port.offset == offset,
     }
 }
 
-/// The words on an unknown name in a coupled model: the model of a part, or the part or the port of an end of a link.
+/// The cause of E7 at an offset in a coupled model: the model of a part, or the part or the port of
+/// an end of a link.
 ///
 /// # Errors
 ///
@@ -119,7 +120,7 @@ pub fn unknown_in(
         return unknown_model(alloc, read, part.model);
     }
     let Some(located) = end_at(model, offset) else {
-        return nothing_told(alloc);
+        return empty_cause(alloc);
     };
     match located.end.part {
         Some(part) if part.offset == offset => {
@@ -129,7 +130,7 @@ pub fn unknown_in(
     }
 }
 
-/// The words on an unknown name where one of these is wanted.
+/// The cause of E7 for a name, in a place that takes `wanted`, of which the text has `names`.
 ///
 /// # Errors
 ///
@@ -147,10 +148,10 @@ pub fn unknown(
         owner,
         names,
     };
-    told_unknown(alloc, read.name(name.number), names, sentence)
+    cause_of_unknown(alloc, read.name(name.number), names, sentence)
 }
 
-/// The words on an unknown model of a part.
+/// The cause of E7 for the model of a part.
 fn unknown_model(alloc: Global, read: &ReadText, name: Name) -> Result<Cause, AllocError> {
     let mut names = Vec::new(alloc);
     for model in &read.file.models {
@@ -159,7 +160,7 @@ fn unknown_model(alloc: Global, read: &ReadText, name: Name) -> Result<Cause, Al
     unknown(alloc, read, name, "a model", &names)
 }
 
-/// The words on an unknown part, before this port.
+/// The cause of E7 for a part at an end of a link, whose port is also given.
 fn unknown_part(
     alloc: Global,
     read: &ReadText,
@@ -180,17 +181,17 @@ fn unknown_part(
     let port = read.name(port.number);
     if part.number == model.name.number {
         let own = format_args!("{sentence}A port of the model itself is written `self.{port}`.\n");
-        told_unknown(alloc, text, &names, own)
+        cause_of_unknown(alloc, text, &names, own)
     } else if model_named(&read.file, part.number).is_some() {
         let quoted = Quoted(text);
         let other = format_args!("{sentence}{quoted} is a model: a link names a part of it.\n");
-        told_unknown(alloc, text, &names, other)
+        cause_of_unknown(alloc, text, &names, other)
     } else {
-        told_unknown(alloc, text, &names, sentence)
+        cause_of_unknown(alloc, text, &names, sentence)
     }
 }
 
-/// The words on an unknown port of a link's end.
+/// The cause of E7 for the port at an end of a link.
 fn unknown_port(
     alloc: Global,
     read: &ReadText,
@@ -199,13 +200,13 @@ fn unknown_port(
 ) -> Result<Cause, AllocError> {
     let ports = ports_of(alloc, read, model, located)?;
     let sentence = ports_sentence(read, model, located, &ports);
-    told_unknown(alloc, read.name(located.end.port.number), &ports, sentence)
+    cause_of_unknown(alloc, read.name(located.end.port.number), &ports, sentence)
 }
 
-/// A sentence with a line feed on the ports that an end may name.
+/// A sentence with a line feed on the ports that an end may have.
 #[derive(Clone, Copy)]
 struct PortsSentence<'a> {
-    wanted: NameSort,
+    wanted: Direction,
     owner: Owner<'a>,
     ports: &'a [&'a str],
 }
@@ -234,14 +235,18 @@ impl fmt::Display for PortsSentence<'_> {
             ports,
         } = self;
         if ports.is_empty() {
-            write!(f, "Wanted is {wanted}, and {owner} has none.\n")
+            write!(f, "Wanted is {wanted}, but {owner} has none.\n")
         } else {
-            write!(f, "Wanted is {wanted} of {owner}: {}.\n", Choice(ports))
+            write!(
+                f,
+                "Wanted is {wanted} of {owner}: {}.\n",
+                Choice(ports)
+            )
         }
     }
 }
 
-/// The model that has the port of an end, by its name, where it is known.
+/// The name of the model that has the port of an end, if it is known.
 #[derive(Clone, Copy)]
 struct Owner<'a>(Option<&'a str>);
 
@@ -262,7 +267,7 @@ fn face<'a>(read: &'a ReadText, model: &Coupled, located: &LocatedEnd) -> Option
     }
 }
 
-/// The ports that an end may name instead of its own.
+/// The ports that an end may have instead of its own.
 fn ports_of<'a>(
     alloc: Global,
     read: &'a ReadText,
@@ -273,23 +278,23 @@ fn ports_of<'a>(
     match face(read, model, located) {
         Some(Model::Atomic(atomic)) => ports_of_atomic(alloc, read, atomic, wanted),
         Some(Model::Coupled(coupled)) => match wanted {
-            NameSort::Input => texts_of(alloc, read, &coupled.inputs),
-            _ => texts_of(alloc, read, &coupled.outputs),
+            Direction::Input => texts_of(alloc, read, &coupled.inputs),
+            Direction::Output => texts_of(alloc, read, &coupled.outputs),
         },
         None => Ok(Vec::new(alloc)),
     }
 }
 
-/// The ports of an atomic model that are of a sort.
+/// The ports of an atomic model with a direction.
 fn ports_of_atomic<'a>(
     alloc: Global,
     read: &'a ReadText,
     model: &Atomic,
-    wanted: NameSort,
+    wanted: Direction,
 ) -> Result<Vec<&'a str>, AllocError> {
     let mut ports = Vec::new(alloc);
     for declaration in &model.declarations {
-        if sort_of(declaration) == wanted {
+        if sort_of(declaration).direction() == Some(wanted) {
             ports.push(read.name(name_of(declaration).number))?;
         }
     }
@@ -309,8 +314,8 @@ fn texts_of<'a>(
     Ok(texts)
 }
 
-/// The words on an end of a link that leads the wrong way, whose port is at an offset: the other way round the link may stand, or
-/// another port.
+/// The cause of E12 for the port at an offset, with what to write instead: the link in the other
+/// direction if that is allowed, or else another port.
 ///
 /// # Errors
 ///
@@ -322,7 +327,7 @@ pub fn wrong_way_in(
     offset: u32,
 ) -> Result<Cause, AllocError> {
     let Some(located) = end_at(model, offset) else {
-        return nothing_told(alloc);
+        return empty_cause(alloc);
     };
     if is_turned(read, model, &located.other()) {
         let turned = ends_text(read, &located.link.to, &located.link.from);
@@ -335,34 +340,31 @@ pub fn wrong_way_in(
     }
 }
 
-/// The words on an end that leads the wrong way, with a sentence on what may stand in its place.
+/// The cause of E12 at an end of a link, with a sentence on what to write instead.
 fn wrong_way<D: fmt::Display + Drop>(
     alloc: Global,
     read: &ReadText,
     located: &LocatedEnd,
     instead: D,
 ) -> Result<Cause, AllocError> {
-    let found = match located.wanted() {
-        NameSort::Input => NameSort::Output,
-        _ => NameSort::Input,
-    };
+    let found = located.wanted().opposite();
     let verb = located.side.verb();
     let part = part_name(read, &located.end);
     let port = read.name(located.end.port.number);
-    told(
+    cause(
         alloc,
         format_args!("a link can't {verb} at `{part}.{port}`, which is {found}"),
         format_args!("{}{instead}", located.side.rule()),
     )
 }
 
-/// Whether the port of an end has the direction that is not wanted there.
+/// Whether the port of an end has the wrong direction.
 fn is_turned(read: &ReadText, model: &Coupled, located: &LocatedEnd) -> bool {
     let Some(face) = face(read, model, located) else {
         return false;
     };
-    match port_sort(face, located.end.port.number) {
-        Some(sort) => sort != located.wanted(),
+    match port_direction(face, located.end.port.number) {
+        Some(direction) => direction != located.wanted(),
         None => false,
     }
 }
@@ -375,7 +377,7 @@ fn part_name<'a>(read: &'a ReadText, end: &End) -> &'a str {
     }
 }
 
-/// A link as it is written: the names of the parts and the ports of its ends.
+/// A link, displayed as in a text: the names of the parts and the ports of its ends.
 #[derive(Clone, Copy)]
 pub struct LinkText<'a> {
     from: (&'a str, &'a str),
@@ -390,7 +392,7 @@ impl fmt::Display for LinkText<'_> {
     }
 }
 
-/// A link as it is written.
+/// A link, to be displayed as in a text.
 pub fn link_text<'a>(read: &'a ReadText, link: &Link) -> LinkText<'a> {
     ends_text(read, &link.from, &link.to)
 }
@@ -402,7 +404,8 @@ fn ends_text<'a>(read: &'a ReadText, from: &End, to: &End) -> LinkText<'a> {
     }
 }
 
-/// The words on a link that leads from a part to itself, or from an input port of the model to an output port of it.
+/// The cause of E13 for the link at an offset: from a part to itself, or from an input port of the
+/// model to an output port of it.
 ///
 /// # Errors
 ///
@@ -414,7 +417,7 @@ pub fn leads_back(
     offset: u32,
 ) -> Result<Cause, AllocError> {
     let Some(link) = link_at(model, offset) else {
-        return nothing_told(alloc);
+        return empty_cause(alloc);
     };
     let LinkText {
         from: (from, out),
@@ -424,14 +427,14 @@ pub fn leads_back(
         "`link {from}.{out} -> PART.IN;` and `link PART.OUT -> {to}.{back};`"
     );
     match link.from.part {
-        Some(_) => told(
+        Some(_) => cause(
             alloc,
             format_args!("the part {} is coupled to itself", Quoted(from)),
             format_args!(
                 "Keep in its variables what it has to know of itself, or put a part between: {between}.\n"
             ),
         ),
-        None => told(
+        None => cause(
             alloc,
             format_args!(
                 "the input port {} of the model is coupled to its output port {}",

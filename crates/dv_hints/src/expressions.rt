@@ -1,4 +1,4 @@
-//! The expressions of rules and holds.
+//! The search for what is wrong in the expressions of rules and holds.
 
 use crate::around::Around;
 use crate::known::Known;
@@ -10,14 +10,14 @@ use dv_bag::ValueType;
 use dv_lex::RefusalNumber;
 use dv_syntax::{Expr, Name, Operator, RuleSort};
 
-/// The type of an expression, where it has one, and the offset of its first token.
+/// The type of an expression, if it has one, and the offset of its first token.
 #[derive(Clone, Copy)]
 struct Typed {
     value_type: Option<ValueType>,
     offset: u32,
 }
 
-/// Looks through an expression whose value is taken.
+/// Searches an expression, and checks that its value has the type that `taker` takes.
 pub fn look_through_taken(
     known: &Known,
     around: &Around,
@@ -29,7 +29,8 @@ pub fn look_through_taken(
     take(taker, given, search);
 }
 
-/// Looks through an expression whose value goes to a name that stands for this.
+/// Searches an expression, and checks that its value has the type of the name to which it is
+/// assigned.
 pub fn look_through_assigned(
     known: &Known,
     around: &Around,
@@ -41,7 +42,9 @@ pub fn look_through_assigned(
     let taker = match known.sort(around, variable.number) {
         Some(NameSort::Flag) => Taker::Flag(variable),
         Some(NameSort::Variable | NameSort::LoopVariable) => Taker::Variable(variable),
-        _ => return,
+        Some(NameSort::Input | NameSort::Output | NameSort::Held(_) | NameSort::Phase) | None => {
+            return;
+        }
     };
     take(taker, given, search);
 }
@@ -96,7 +99,7 @@ fn of_type(value_type: Option<ValueType>, offset: u32) -> Typed {
     Typed { value_type, offset }
 }
 
-/// Looks at a name where a value is wanted, and answers the type of it.
+/// Checks a name that is read as a value, and answers its type.
 fn look_at_value(
     known: &Known,
     around: &Around,
@@ -108,11 +111,11 @@ fn look_at_value(
     match sort? {
         NameSort::Variable | NameSort::LoopVariable => Some(ValueType::Number),
         NameSort::Flag => Some(ValueType::Truth),
-        _ => None,
+        NameSort::Input | NameSort::Output | NameSort::Held(_) | NameSort::Phase => None,
     }
 }
 
-/// Looks at a name where a collection is read.
+/// Checks a name that is read as a collection.
 pub fn look_at_held(
     known: &Known,
     around: &Around,
@@ -127,34 +130,45 @@ pub fn look_at_held(
     }
 }
 
-/// Looks at what an operator takes, and answers the type of what it gives, where it has both.
+/// Checks the operands of an operator, and answers the type of its result; `None` if an operand is
+/// wrong.
 fn operate(operator: Operator, a: Typed, b: Typed, search: &mut Search) -> Option<ValueType> {
     match Taker::by(operator) {
         Some(taker) => {
             let a = take(taker, a, search);
             let b = take(taker, b, search);
             if a.is_some() && b.is_some() {
-                Some(given_by(taker))
+                Some(result_type(operator))
             } else {
                 None
             }
         }
         None => {
             take(Taker::Equality(a.value_type?), b, search)?;
-            Some(ValueType::Truth)
+            Some(result_type(operator))
         }
     }
 }
 
-/// The type of what comes of two operands.
-fn given_by(taker: Taker) -> ValueType {
-    match taker {
-        Taker::Arithmetic => ValueType::Number,
-        _ => ValueType::Truth,
+fn result_type(operator: Operator) -> ValueType {
+    match operator {
+        Operator::Add
+        | Operator::Subtract
+        | Operator::Multiply
+        | Operator::Divide
+        | Operator::Remainder => ValueType::Number,
+        Operator::Or
+        | Operator::And
+        | Operator::Equal
+        | Operator::Unequal
+        | Operator::Less
+        | Operator::AtMost
+        | Operator::Greater
+        | Operator::AtLeast => ValueType::Truth,
     }
 }
 
-/// Looks at what is taken, and answers its type where that is the right one.
+/// Checks the type of a value that is taken, and answers it if it is right.
 fn take(taker: Taker, given: Typed, search: &mut Search) -> Option<ValueType> {
     let found = given.value_type?;
     if found == taker.takes() {

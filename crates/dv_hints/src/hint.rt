@@ -1,5 +1,6 @@
 //! From a refusal to its cause.
 
+use crate::causes::empty_cause;
 use crate::ends::{leads_back, unknown_in, wrong_way_in};
 use crate::known::Known;
 use crate::missing::item_at;
@@ -10,14 +11,14 @@ use crate::repeats::{repeat_at, repeated_link};
 use crate::roots::{atomic_root, limit_at, own_part, too_long, unknown_root};
 use crate::starts::start_at;
 use crate::statements::look_through_model;
-use crate::told::nothing_told;
 use crate::words::cause_of;
 use dv_explain::{Cause, nesting_at, stray_at, unexpected_at};
 use dv_lex::{GREATEST_LENGTH, RefusalNumber, TextError};
 use dv_syntax::{Atomic, Coupled, Model};
 use std::alloc::{AllocError, Global};
 
-/// The cause of the refusal of a text. Its summary is empty where no more is known than the number says.
+/// The cause of the refusal of a text. Its summary is empty if no more is known than the number
+/// says.
 ///
 /// # Errors
 ///
@@ -31,9 +32,20 @@ pub fn hint_on(alloc: Global, text: &[u8], refusal: &TextError) -> Result<Cause,
         RefusalNumber::E4 => unexpected_at(alloc, text, offset),
         RefusalNumber::E5 => Cause::of(alloc, nesting_at(text, offset), ""),
         RefusalNumber::E17 if text.len() > GREATEST_LENGTH => too_long(alloc, text.len()),
-        _ => match read(alloc, text)? {
+        RefusalNumber::E6
+        | RefusalNumber::E7
+        | RefusalNumber::E8
+        | RefusalNumber::E9
+        | RefusalNumber::E10
+        | RefusalNumber::E11
+        | RefusalNumber::E12
+        | RefusalNumber::E13
+        | RefusalNumber::E14
+        | RefusalNumber::E15
+        | RefusalNumber::E16
+        | RefusalNumber::E17 => match read(alloc, text)? {
             Some(read) => hint_in_tree(alloc, text, &read, refusal),
-            None => nothing_told(alloc),
+            None => empty_cause(alloc),
         },
     }
 }
@@ -62,7 +74,7 @@ fn hint_in_tree(
     match model_around(&read.file, offset) {
         Some(Model::Atomic(atomic)) => hint_in_atomic(alloc, text, read, atomic, refusal),
         Some(Model::Coupled(coupled)) => hint_in_coupled(alloc, text, read, coupled, refusal),
-        None => nothing_told(alloc),
+        None => empty_cause(alloc),
     }
 }
 
@@ -74,7 +86,8 @@ fn hint_on_root(
     match number {
         RefusalNumber::E7 => unknown_root(alloc, read),
         RefusalNumber::E16 => atomic_root(alloc, read),
-        _ => limit_at(alloc, read, read.file.root.offset),
+        RefusalNumber::E17 => limit_at(alloc, read, read.file.root.offset),
+        _ => empty_cause(alloc),
     }
 }
 
@@ -88,15 +101,16 @@ fn hint_in_atomic(
     match refusal.number {
         RefusalNumber::E10 => item_at(alloc, text, read, model, refusal.offset),
         RefusalNumber::E11 => start_at(alloc, model, refusal.offset),
-        _ => {
+        RefusalNumber::E6 | RefusalNumber::E7 | RefusalNumber::E8 | RefusalNumber::E9 => {
             let known = Known::of(alloc, model)?;
             let mut search = Search::new(refusal.number, refusal.offset);
             look_through_model(&known, model, &mut search);
             match search.found {
                 Some(reason) => cause_of(alloc, text, read, model, &known, &reason),
-                None => nothing_told(alloc),
+                None => empty_cause(alloc),
             }
         }
+        _ => empty_cause(alloc),
     }
 }
 
@@ -112,6 +126,6 @@ fn hint_in_coupled(
         RefusalNumber::E12 => wrong_way_in(alloc, read, model, refusal.offset),
         RefusalNumber::E13 => leads_back(alloc, read, model, refusal.offset),
         RefusalNumber::E14 => repeated_link(alloc, text, read, model, refusal.offset),
-        _ => nothing_told(alloc),
+        _ => empty_cause(alloc),
     }
 }

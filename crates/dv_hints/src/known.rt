@@ -1,4 +1,4 @@
-//! What the names of an atomic model stand for.
+//! The names that an atomic model declares.
 
 use crate::around::Around;
 use crate::sorts::{NameSort, name_of, sort_of};
@@ -6,16 +6,16 @@ use dv_syntax::Atomic;
 use std::alloc::{AllocError, Global};
 use std::collections::{HashMap, HashSet};
 
-/// A name as it is declared first: what it stands for, and its offset.
+/// The first declaration of a name.
 #[derive(Clone, Copy)]
 pub struct Declared {
-    /// What the name stands for.
+    /// The kind of the name.
     pub sort: NameSort,
-    /// The offset of its first declaration, in bytes of the text.
+    /// The offset of the name there, in bytes of the text.
     pub offset: u32,
 }
 
-/// What the names of an atomic model stand for.
+/// The names that an atomic model declares; phases are apart from all others.
 #[derive(Drop)]
 pub struct Known {
     declared: HashMap<u32, Declared>,
@@ -46,12 +46,12 @@ impl Known {
         })
     }
 
-    /// The declaration of a name that is no phase.
+    /// The first declaration of a name that is not a phase.
     pub fn declared(&self, number: u32) -> Option<Declared> {
         self.declared.get(&number).copied()
     }
 
-    /// What a name that is no phase stands for at an offset.
+    /// The kind of a name that is not a phase, in a place that may be enclosed by loops.
     pub fn sort(&self, around: &Around, number: u32) -> Option<NameSort> {
         match around.loop_variable(number) {
             Some(_) => Some(NameSort::LoopVariable),
@@ -59,7 +59,7 @@ impl Known {
         }
     }
 
-    /// Whether a phase is known.
+    /// Whether the model declares a phase with this name.
     pub fn has_phase(&self, number: u32) -> bool {
         self.phases.contains(&number)
     }

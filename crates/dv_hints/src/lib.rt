@@ -1,72 +1,73 @@
-//! Of a refused model: which case of its number the refusal is, and what to write instead.
+//! Hints on a refused model: why exactly it is refused, and what to write instead.
 //!
-//! A refusal is a number and an offset in the text. `hint_on` looks there once more, in the tokens or the tree of the
-//! text, with the names that are in reach, and gives a `Cause` of `dv_explain`: a summary in one line, and sentences
-//! that help. `unknown_name` lists names that are near one that is not known.
+//! A refusal is a number and an offset in the text. `hint_on` looks at that offset again, in the
+//! tokens or the syntax tree and with the names that are declared there, and returns a `Cause` of
+//! `dv_explain`: a summary in one line, and sentences that help. `unknown_name` finds the names
+//! that are similar to an unknown one.
 //!
-//! `dv_cause` prints these causes for `--explain`, and `dv_views` looks near names up. That a text is refused, and by
-//! which number, is decided in `dv_check` and below. Nothing is claimed of hints but that they are made without a
-//! fault of the program.
+//! `dv_cause` prints these causes for `--explain`, and `dv_views` uses `unknown_name`. Whether a
+//! text is refused, and with which number, is decided in `dv_check` and the crates below it.
+//! Nothing is proved about hints except that making them never panics.
 #![tactic(auto)]
 
-/// From a refusal to its cause: the door of the crate.
+/// From a refusal to its cause: the main function of the crate.
 pub mod hint;
 
-/// Where a statement or an expression stands: its rule and the loops around.
+/// The rule or hold, and the loops, that enclose a statement or an expression.
 mod around;
 
-/// Ends of links.
+/// Causes from what can be displayed.
+mod causes;
+
+/// Causes at the ends of links.
 mod ends;
 
-/// The expressions of rules and holds.
+/// The search in the expressions of rules and holds.
 mod expressions;
 
-/// What the names of an atomic model stand for.
+/// The names that an atomic model declares.
 mod known;
 
-/// Lists of names, as words.
+/// Lists of names, in words.
 mod lists;
 
-/// Items that are missing, or stand twice.
+/// Items that are missing or written twice.
 mod missing;
 
 /// The models of a text.
 mod models;
 
-/// Near names, which other refusals of names tell too.
+/// Names that are similar to an unknown one.
 pub mod near;
 
 /// What is wrong at an offset of an atomic model.
 mod reason;
 
-/// Texts that have a tree.
+/// Texts with their syntax trees.
 mod reading;
 
-/// Names and links that stand twice.
+/// Names and links that are written twice.
 mod repeats;
 
 /// The root, and limits on size.
 mod roots;
 
-/// What names stand for.
+/// The kinds of names and rules, in words.
 mod sorts;
 
 /// Ranges and start values, and the hold of the start phase.
 mod starts;
 
-/// The statements of rules.
+/// The search in the statements of rules.
 mod statements;
 
-/// What takes the value of an expression.
+/// What uses the value of an expression.
 mod taker;
 
-/// Causes out of what is displayed.
-mod told;
-
-/// What a name has to stand for.
+/// The kinds of names that a place takes.
 mod wanted;
 
-/// Sentences on what is wrong at an offset of an atomic model.
+/// The causes at an offset of an atomic model, in words.
 mod words;
 
 pub use hint::hint_on;

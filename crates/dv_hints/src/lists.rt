@@ -1,17 +1,17 @@
-//! Lists of names, as words.
+//! Lists of names, in words.
 
 use dv_explain::Quoted;
 use std::fmt;
 
-/// The most names that are told one after the other.
-const MOST_TOLD: usize = 8;
+/// The most names that are listed.
+const MOST_LISTED: usize = 8;
 
-/// Names with commas between them, but what stands before the last one.
+/// Names in backquotes with commas between them, except before the last one.
 #[derive(Clone, Copy)]
 pub struct Listed<'a> {
     /// The names.
     pub names: &'a [&'a str],
-    /// What stands between the last two names.
+    /// What is displayed between the last two names.
     pub before_last: &'static str,
 }
 
@@ -32,14 +32,15 @@ impl fmt::Display for Listed<'_> {
     }
 }
 
-/// Names that may be chosen: "`a`, `b` or `c`", where there are many the first eight and how many more.
+/// Alternatives, such as "`a`, `b` or `c`". Of more than eight, the first eight and the number of
+/// the others.
 #[derive(Clone, Copy)]
 pub struct Choice<'a>(pub &'a [&'a str]);
 
 impl fmt::Display for Choice<'_> {
     fn fmt<W: fmt::Write>(&self, f: &mut fmt::Formatter<W>) -> fmt::Result {
-        let names = self.0.get(..MOST_TOLD).unwrap_or(self.0);
-        match self.0.len().saturating_sub(MOST_TOLD) {
+        let names = self.0.get(..MOST_LISTED).unwrap_or(self.0);
+        match self.0.len().saturating_sub(MOST_LISTED) {
             0 => {
                 let before_last = " or ";
                 write!(f, "{}", Listed { names, before_last })
@@ -52,14 +53,14 @@ impl fmt::Display for Choice<'_> {
     }
 }
 
-/// A sentence with a line feed on what is wanted at an offset, and the names that may stand there.
+/// A sentence with a line feed on what a place takes, and the names that fit.
 #[derive(Clone, Copy)]
 pub struct WantedSentence<'a, D> {
-    /// What is wanted.
+    /// What the place takes, with its article.
     pub wanted: D,
-    /// What may have such names.
+    /// What declares such names.
     pub owner: &'a str,
-    /// The names that may stand there.
+    /// The names that fit.
     pub names: &'a [&'a str],
 }
 
@@ -68,11 +69,16 @@ impl<D: fmt::Display> fmt::Display for WantedSentence<'_, D> {
         if self.names.is_empty() {
             write!(
                 f,
-                "Wanted is {}, and {} has none.\n",
+                "Wanted is {}, but {} has none.\n",
                 self.wanted, self.owner
             )
         } else {
-            write!(f, "Wanted is {}: {}.\n", self.wanted, Choice(self.names))
+            write!(
+                f,
+                "Wanted is {}: {}.\n",
+                self.wanted,
+                Choice(self.names)
+            )
         }
     }
 }

@@ -1,17 +1,18 @@
-//! Items of an atomic model that are missing, or stand twice.
+//! Items of an atomic model that are missing or written twice.
 
+use crate::causes::{cause, empty_cause};
 use crate::reading::{ReadText, position};
-use crate::told::{nothing_told, told};
 use dv_explain::{Cause, Quoted};
 use dv_syntax::{Atomic, Name};
 use std::alloc::{AllocError, Global};
 use std::collections::HashSet;
 use std::fmt;
 
-/// The most items that are told to be missing.
-const MOST_TOLD: usize = 8;
+/// The most missing items that are listed.
+const MOST_LISTED: usize = 8;
 
-/// The words on an item that the model lacks whose name is at an offset, or on the word at an offset that stands there twice.
+/// The cause of E10 at an offset: of the model's name if an item is missing, or else of the first
+/// word of the second item.
 ///
 /// # Errors
 ///
@@ -30,7 +31,7 @@ pub fn item_at(
     }
 }
 
-/// An item of a model, a hold with the name of its phase.
+/// An item of which a model has exactly one; a hold with the name of its phase.
 #[derive(Clone, Copy)]
 enum Item<'a> {
     Phases,
@@ -48,7 +49,7 @@ impl fmt::Display for Item<'_> {
     }
 }
 
-/// The words on the items that a model lacks.
+/// The cause of E10 for items that a model lacks.
 fn missing(alloc: Global, read: &ReadText, model: &Atomic) -> Result<Cause, AllocError> {
     let items = lacking_items(alloc, read, model)?;
     let summary = Lacking {
@@ -69,12 +70,12 @@ fn missing(alloc: Global, read: &ReadText, model: &Atomic) -> Result<Cause, Allo
         Some(Item::Hold(_)) => {
             "Each phase has a hold: `hold z: 5;`, or `hold z: forever;` until something comes.\n"
         }
-        _ => "",
+        Some(Item::Phases | Item::Start) | None => "",
     };
-    told(alloc, summary, format_args!("{phases}{start}{hold}"))
+    cause(alloc, summary, format_args!("{phases}{start}{hold}"))
 }
 
-/// That a model lacks items.
+/// Displayed as the summary that a model lacks items.
 #[derive(Clone, Copy)]
 struct Lacking<'a> {
     model: &'a str,
@@ -84,11 +85,11 @@ struct Lacking<'a> {
 impl fmt::Display for Lacking<'_> {
     fn fmt<W: fmt::Write>(&self, f: &mut fmt::Formatter<W>) -> fmt::Result {
         write!(f, "{} lacks", Quoted(self.model))?;
-        for (index, item) in self.items.iter().take(MOST_TOLD).enumerate() {
+        for (index, item) in self.items.iter().take(MOST_LISTED).enumerate() {
             let separator = if index == 0 { " " } else { ", " };
             write!(f, "{separator}{item}")?;
         }
-        match self.items.len().saturating_sub(MOST_TOLD) {
+        match self.items.len().saturating_sub(MOST_LISTED) {
             0 => Ok(()),
             more => write!(f, " and {more} more"),
         }
@@ -115,7 +116,7 @@ fn lacking_items<'a>(
     Ok(items)
 }
 
-/// Adds the holds of these phases, but of those that have one.
+/// Adds the holds of those of these phases that have none.
 fn push_unheld<'a>(
     items: &mut Vec<Item<'a>>,
     read: &'a ReadText,
@@ -139,7 +140,7 @@ fn held_phases(alloc: Global, model: &Atomic) -> Result<HashSet<u32>, AllocError
     Ok(held)
 }
 
-/// The words on the item whose word is at an offset, which stands there twice.
+/// The cause of E10 for the second of two items, whose first word is at an offset.
 fn twice(
     alloc: Global,
     text: &[u8],
@@ -148,21 +149,21 @@ fn twice(
     offset: u32,
 ) -> Result<Cause, AllocError> {
     let Some((item, first)) = item_and_first(read, model, offset) else {
-        return nothing_told(alloc);
+        return empty_cause(alloc);
     };
     let sentence = match item {
         Item::Phases => "`phases z, w;` names all phases.\n",
         Item::Start | Item::Hold(_) => "",
     };
     let first = position(text, first);
-    told(
+    cause(
         alloc,
         format_args!("{item} stands twice, first at {first}"),
         sentence,
     )
 }
 
-/// The item whose word is at an offset, and the offset of the first one like it.
+/// The item whose first word is at an offset, and the offset of the first item of that kind.
 fn item_and_first<'a>(read: &'a ReadText, model: &Atomic, offset: u32) -> Option<(Item<'a>, u32)> {
     for phases in &model.phases {
         if phases.offset == offset {

@@ -1,6 +1,6 @@
 //! The models of a text.
 
-use crate::sorts::{NameSort, name_of as name_of_declaration, sort_of};
+use crate::sorts::{Direction, name_of as name_of_declaration, sort_of};
 use dv_syntax::{Coupled, File, Link, Model, Name, Part};
 
 /// The name of a model.
@@ -11,7 +11,7 @@ pub fn name_of(model: &Model) -> Name {
     }
 }
 
-/// The model around an offset. Behind the models it is the last one.
+/// The model that encloses an offset, in bytes. After the models it is the last one.
 pub fn model_around(file: &File, offset: u32) -> Option<&Model> {
     for model in file.models.iter().rev() {
         if name_of(model).offset <= offset {
@@ -21,7 +21,7 @@ pub fn model_around(file: &File, offset: u32) -> Option<&Model> {
     None
 }
 
-/// The first model of a name.
+/// The first model with the name of this number.
 pub fn model_named(file: &File, number: u32) -> Option<&Model> {
     for model in &file.models {
         if name_of(model).number == number {
@@ -41,7 +41,7 @@ pub fn part_of_model_at(model: &Coupled, offset: u32) -> Option<&Part> {
     None
 }
 
-/// The first part of a name.
+/// The first part with the name of this number.
 pub fn part_named(model: &Coupled, number: u32) -> Option<&Part> {
     for part in &model.parts {
         if part.name.number == number {
@@ -61,13 +61,13 @@ pub fn link_at(model: &Coupled, offset: u32) -> Option<&Link> {
     None
 }
 
-/// What a port of a model is: an input port or an output port, of two of one name the first.
-pub fn port_sort(model: &Model, number: u32) -> Option<NameSort> {
+/// The direction of the first port with the name of this number.
+pub fn port_direction(model: &Model, number: u32) -> Option<Direction> {
     match model {
         Model::Atomic(atomic) => {
             for declaration in &atomic.declarations {
                 if name_of_declaration(declaration).number == number {
-                    return if_port(sort_of(declaration));
+                    return sort_of(declaration).direction();
                 }
             }
             None
@@ -77,27 +77,19 @@ pub fn port_sort(model: &Model, number: u32) -> Option<NameSort> {
             let output = offset_of(&coupled.outputs, number);
             match (input, output) {
                 (None, None) => None,
-                (Some(_), None) => Some(NameSort::Input),
-                (None, Some(_)) => Some(NameSort::Output),
+                (Some(_), None) => Some(Direction::Input),
+                (None, Some(_)) => Some(Direction::Output),
                 (Some(input), Some(output)) => Some(if input < output {
-                    NameSort::Input
+                    Direction::Input
                 } else {
-                    NameSort::Output
+                    Direction::Output
                 }),
             }
         }
     }
 }
 
-/// A sort, where it is that of a port.
-fn if_port(sort: NameSort) -> Option<NameSort> {
-    match sort {
-        NameSort::Input | NameSort::Output => Some(sort),
-        _ => None,
-    }
-}
-
-/// Where a name stands first.
+/// The offset of the first name of this number.
 fn offset_of(names: &[Name], number: u32) -> Option<u32> {
     for name in names {
         if name.number == number {

@@ -1,7 +1,7 @@
-//! Near names.
+//! Names that are similar to an unknown one.
 
+use crate::causes::cause;
 use crate::lists::Listed;
-use crate::told::told;
 use dv_explain::{Cause, Quoted};
 use std::alloc::{AllocError, Global};
 use std::fmt;
@@ -10,10 +10,11 @@ use strsim::osa_distance;
 /// The most characters of a name that is compared with others.
 const GREATEST_LENGTH: usize = 60;
 
-/// The most near names that are told.
-const MOST_TOLD: usize = 3;
+/// The most near names that are listed.
+const MOST_LISTED: usize = 3;
 
-/// That a name is unknown, and which of these are near: "unknown name `m`; `n` is near".
+/// Says that a name is unknown and which of these names are near, such as "unknown name `m`; `n` is
+/// near".
 ///
 /// # Errors
 ///
@@ -24,22 +25,22 @@ pub fn unknown_name(alloc: Global, text: &str, names: &[&str]) -> Result<String,
     format!(in alloc; "{unknown}")
 }
 
-/// The cause where a name is unknown, with these sentences.
+/// The cause of an unknown name, with the near ones of these names and with these sentences.
 ///
 /// # Errors
 ///
 /// No memory for the comparisons or the words.
-pub fn told_unknown<D: fmt::Display + Drop>(
+pub fn cause_of_unknown<D: fmt::Display + Drop>(
     alloc: Global,
     text: &str,
     names: &[&str],
     sentences: D,
 ) -> Result<Cause, AllocError> {
     let near = near_names(alloc, text, names)?;
-    told(alloc, UnknownName { text, near: &near }, sentences)
+    cause(alloc, UnknownName { text, near: &near }, sentences)
 }
 
-/// That a name is unknown, and that others are near.
+/// Displayed as the summary that a name is unknown and others are near.
 #[derive(Clone, Copy)]
 struct UnknownName<'t, 'n> {
     text: &'t str,
@@ -50,7 +51,7 @@ impl fmt::Display for UnknownName<'_, '_> {
     fn fmt<W: fmt::Write>(&self, f: &mut fmt::Formatter<W>) -> fmt::Result {
         let text = Quoted(self.text);
         let near = Listed {
-            names: self.near.get(..MOST_TOLD).unwrap_or(self.near),
+            names: self.near.get(..MOST_LISTED).unwrap_or(self.near),
             before_last: " and ",
         };
         match self.near.len() {
@@ -61,7 +62,7 @@ impl fmt::Display for UnknownName<'_, '_> {
     }
 }
 
-/// The names that are nearest to one, where they are near.
+/// Those of these names that are nearest to a text, if they are near it.
 fn near_names<'a>(
     alloc: Global,
     text: &str,
@@ -74,17 +75,18 @@ fn near_names<'a>(
     Ok(near.names)
 }
 
-/// The names that are nearest to one so far.
+/// The names that are nearest to a text, of those compared so far.
 #[derive(Drop)]
 struct Near<'a> {
     names: Vec<&'a str>,
-    /// How many edits lead there.
+    /// How many edits it takes to get there; at the beginning, how many a near name may take.
     distance: usize,
 }
 
 impl<'a> Near<'a> {
-    /// No near names yet. A name is near where the edits that lead there are at most a third of the characters, or one: a letter
-    /// more, less, or another, or two neighbours exchanged. Capitals and small letters of ASCII are the same.
+    /// No near names yet. A name is near if at most one edit, or one for each three characters of
+    /// the text, turns one into the other. An edit inserts, deletes or replaces a character, or
+    /// swaps two neighbours. ASCII case does not count.
     fn to(alloc: Global, text: &str) -> Self {
         let edits = text.chars().count() / 3;
         Near {
@@ -110,7 +112,7 @@ impl<'a> Near<'a> {
     }
 }
 
-/// How many edits lead from one text to another, where capitals are small letters.
+/// How many edits turn one text into the other, without regard to ASCII case.
 fn distance_of(alloc: Global, one: &str, other: &str) -> Result<usize, AllocError> {
     let one = one.to_ascii_lowercase(alloc)?;
     let other = other.to_ascii_lowercase(alloc)?;

@@ -1,4 +1,4 @@
-//! Texts that have a tree.
+//! Texts with their syntax trees.
 
 use dv_explain::Position;
 use dv_explain::grammar::knows_queues;
@@ -7,25 +7,25 @@ use dv_parser::parse;
 use dv_syntax::File;
 use std::alloc::{AllocError, Global};
 
-/// A text that has a tree.
+/// A text that could be parsed.
 #[derive(Drop)]
 pub struct ReadText {
-    /// The tree of the text.
+    /// The syntax tree.
     pub file: File,
-    /// The texts of the names.
+    /// The table of names.
     pub names: Names,
-    /// Whether the text knows the words of queues.
+    /// Whether the words of queues are reserved in the text.
     pub knows_queues: bool,
 }
 
 impl ReadText {
-    /// The text of a name.
+    /// The text of the name of this number.
     pub fn name(&self, number: u32) -> &str {
         self.names.text(number).unwrap_or("")
     }
 }
 
-/// The tree of a text, where it has one.
+/// Parses a text; `None` if it can't be parsed.
 ///
 /// # Errors
 ///
@@ -53,7 +53,7 @@ fn parsed(alloc: Global, text: &[u8]) -> Result<ReadText, LoadError> {
     })
 }
 
-/// The position of an offset of a text.
+/// The position of an offset, in bytes, of a text.
 pub fn position(text: &[u8], offset: u32) -> Position {
     Position::of(text, offset as usize)
 }

@@ -1,4 +1,4 @@
-//! What is wrong at an offset of an atomic model.
+//! What is wrong at an offset of an atomic model, and the search for it.
 
 use crate::around::Around;
 use crate::sorts::NameSort;
@@ -8,12 +8,12 @@ use dv_bag::ValueType;
 use dv_lex::RefusalNumber;
 use dv_syntax::Name;
 
-/// What stands in a rule of a sort in which it is not allowed, or in a hold.
+/// What is not allowed in the rule or hold where it is written.
 #[derive(Clone, Copy)]
 pub enum Misplaced {
-    /// What changes the state, with its word or its sign, in an output rule.
+    /// A change of the state in an output rule, by its word or sign.
     Change(&'static str),
-    /// A send by a port outside of output rules.
+    /// A `send` to a port, outside of output rules.
     Send(Name),
     /// An assignment to the variable of a loop.
     LoopVariable(Name),
@@ -26,32 +26,32 @@ pub enum Misplaced {
 /// What is wrong at an offset of an atomic model.
 #[derive(Clone, Copy)]
 pub enum Reason {
-    /// A name that is unknown, or stands for something else than is wanted.
+    /// A name that is unknown, or of another kind than its place takes.
     Name {
         /// The name.
         name: Name,
-        /// What it stands for; none where it is unknown.
+        /// The kind of the name; `None` if it is unknown.
         sort: Option<NameSort>,
-        /// What it should stand for.
+        /// What its place takes.
         wanted: Wanted,
-        /// Where it stands.
+        /// What encloses it.
         around: Around,
     },
-    /// An expression whose value is of another type than is taken.
+    /// An expression of a wrong type.
     Type {
         /// The type of the value.
         found: ValueType,
-        /// What takes it.
+        /// What uses the value.
         taker: Taker,
     },
-    /// What may not stand in this rule, or in a hold.
+    /// Something that is not allowed in this rule or hold.
     Misplaced {
-        /// What stands there.
+        /// What is not allowed.
         what: Misplaced,
-        /// Where it stands.
+        /// What encloses it.
         around: Around,
     },
-    /// The variable of a loop and another name, which are the same.
+    /// The variable of a loop with the same name as something else.
     LoopVariable {
         /// The variable of the loop.
         variable: Name,
@@ -60,19 +60,20 @@ pub enum Reason {
     },
 }
 
-/// What is looked for: what is wrong by one number at one offset, and what was found of it first.
+/// The search for the reason of one refusal: its number and its offset, and the reason once it is
+/// found.
 #[derive(Clone, Copy)]
 pub struct Search {
     /// The number of the refusal.
     pub number: RefusalNumber,
     /// The offset that the refusal names, in bytes of the text.
     pub offset: u32,
-    /// What was found there first.
+    /// The first reason that was found; `None` before.
     pub found: Option<Reason>,
 }
 
 impl Search {
-    /// Nothing is found yet.
+    /// A search that has found nothing yet.
     pub fn new(number: RefusalNumber, offset: u32) -> Self {
         Search {
             number,
@@ -81,14 +82,15 @@ impl Search {
         }
     }
 
-    /// Notes what is wrong by a number at an offset, if it is looked for.
+    /// Keeps a reason for a refusal, if this is the refusal that is searched for, and if none was
+    /// kept before.
     pub fn note(&mut self, number: RefusalNumber, offset: u32, reason: Reason) {
         if self.found.is_none() && number == self.number && offset == self.offset {
             self.found = Some(reason);
         }
     }
 
-    /// Notes a name that does not stand for what is wanted, where it is so.
+    /// Notes a name if it is unknown (E7) or of a kind that its place does not take (E8).
     pub fn note_name(
         &mut self,
         name: Name,
@@ -110,7 +112,7 @@ impl Search {
         self.note(number, name.offset, reason);
     }
 
-    /// Notes what stands where it is not allowed.
+    /// Notes something that is not allowed where it is (E9).
     pub fn note_misplaced(&mut self, offset: u32, what: Misplaced, around: &Around) {
         let reason = Reason::Misplaced {
             what,

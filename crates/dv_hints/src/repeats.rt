@@ -1,29 +1,29 @@
-//! Names and links that stand twice.
+//! Names and links that are written twice.
 
+use crate::causes::{cause, empty_cause};
 use crate::ends::link_text;
 use crate::models::{link_at, model_around, name_of};
 use crate::reading::{ReadText, position};
 use crate::sorts::{Rule, name_of as name_of_declaration, sort_of};
-use crate::told::{nothing_told, told};
 use dv_explain::{Cause, Quoted};
 use dv_syntax::{Atomic, Coupled, End, Model, Name, RuleSort};
 use std::alloc::{AllocError, Global};
 
-/// Which names may not be the same.
+/// Names that all have to be different. There is one such space for each case.
 #[derive(Clone, Copy, PartialEq, Eq)]
 enum Space {
     Models,
     /// Ports, variables, flags, bags and queues of an atomic model.
     Declarations,
     Phases,
-    /// The phases of the rules of a sort.
+    /// The phases of the rules of one kind.
     Rules(RuleSort),
     /// Ports of a coupled model.
     Ports,
     Parts,
 }
 
-/// A name, with what it is among, and as what it is declared.
+/// A declared name, with the space in which it has to differ from others, and its kind in words.
 #[derive(Clone, Copy)]
 struct Located {
     name: Name,
@@ -31,7 +31,8 @@ struct Located {
     kind: &'static str,
 }
 
-/// The words on a name at an offset that stands there for the second time, but for the variables of loops.
+/// The cause of E6 for the name at an offset, if it is declared a second time there. Variables of
+/// loops are not looked at.
 ///
 /// # Errors
 ///
@@ -44,12 +45,12 @@ pub fn repeat_at(
 ) -> Result<Option<Cause>, AllocError> {
     let names = names_around(alloc, read, offset)?;
     match first_of(&names, offset) {
-        Some(first) => Ok(Some(told_twice(alloc, text, read, first)?)),
+        Some(first) => Ok(Some(cause_of_repeat(alloc, text, read, first)?)),
         None => Ok(None),
     }
 }
 
-/// The name that stands at an offset for the second time, as it stands first.
+/// The first declaration of the name at an offset, if it is an earlier one.
 fn first_of(names: &[Located], offset: u32) -> Option<&Located> {
     let second = located_at(names, offset)?;
     let mut first = second;
@@ -78,8 +79,8 @@ fn is_same(one: &Located, other: &Located) -> bool {
     one.space == other.space && one.name.number == other.name.number
 }
 
-/// The words on a name that stands first as this one.
-fn told_twice(
+/// The cause of E6 for a name with this first declaration.
+fn cause_of_repeat(
     alloc: Global,
     text: &[u8],
     read: &ReadText,
@@ -89,12 +90,12 @@ fn told_twice(
     let position = position(text, first.name.offset);
     let kind = first.kind;
     match first.space {
-        Space::Rules(_) => told(
+        Space::Rules(_) => cause(
             alloc,
             format_args!("the phase {name} has {kind} twice, first at {position}"),
             "Put the statements of both into one rule.\n",
         ),
-        _ => told(
+        Space::Models | Space::Declarations | Space::Phases | Space::Ports | Space::Parts => cause(
             alloc,
             format_args!("{name} is declared twice, first as {kind} at {position}"),
             "",
@@ -102,7 +103,7 @@ fn told_twice(
     }
 }
 
-/// The names of the models, and those that the model around an offset declares.
+/// The names of the models, and those that the model at an offset declares.
 fn names_around(alloc: Global, read: &ReadText, offset: u32) -> Result<Vec<Located>, AllocError> {
     let mut names = Vec::new(alloc);
     for model in &read.file.models {
@@ -170,7 +171,7 @@ fn push_all(
     Ok(())
 }
 
-/// The words on a link whose word `link` is at an offset, and that stands there for the second time.
+/// The cause of E14 for the link whose word `link` is at an offset.
 ///
 /// # Errors
 ///
@@ -183,7 +184,7 @@ pub fn repeated_link(
     offset: u32,
 ) -> Result<Cause, AllocError> {
     let Some(second) = link_at(model, offset) else {
-        return nothing_told(alloc);
+        return empty_cause(alloc);
     };
     for first in &model.links {
         if first.offset < offset
@@ -193,10 +194,10 @@ pub fn repeated_link(
             let written = link_text(read, second);
             let position = position(text, first.offset);
             let summary = format_args!("`{written}` stands twice, first at {position}");
-            return told(alloc, summary, "");
+            return cause(alloc, summary, "");
         }
     }
-    nothing_told(alloc)
+    empty_cause(alloc)
 }
 
 fn is_same_end(one: &End, other: &End) -> bool {

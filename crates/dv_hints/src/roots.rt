@@ -1,17 +1,17 @@
 //! The root, models that contain themselves, and limits on size.
 
+use crate::causes::{cause, empty_cause};
 use crate::ends::unknown;
 use crate::lists::Choice;
 use crate::models::{model_around, model_named, part_of_model_at};
 use crate::reading::ReadText;
-use crate::sorts::{NameSort, name_of as name_of_declaration, sort_of};
-use crate::told::{nothing_told, told};
+use crate::sorts::{Direction, name_of as name_of_declaration, sort_of};
 use dv_explain::{Cause, Quoted};
 use dv_lex::GREATEST_LENGTH;
 use dv_syntax::{Atomic, Declaration, Model, StateCollection};
 use std::alloc::{AllocError, Global};
 
-/// The words on a root that is unknown.
+/// The cause of E7 for the root.
 ///
 /// # Errors
 ///
@@ -32,7 +32,8 @@ fn coupled_names<'a>(alloc: Global, read: &'a ReadText) -> Result<Vec<&'a str>, 
     Ok(names)
 }
 
-/// The words on a root that is atomic: the coupled models that there are, or else one to write around it.
+/// The cause of E16: with the coupled models of the text, or else one to write around the atomic
+/// model.
 ///
 /// # Errors
 ///
@@ -44,15 +45,16 @@ pub fn atomic_root(alloc: Global, read: &ReadText) -> Result<Cause, AllocError> 
     if !names.is_empty() {
         let choice = Choice(&names);
         let sentence = format_args!("The root is a coupled model: {choice}.\n");
-        return told(alloc, summary, sentence);
+        return cause(alloc, summary, sentence);
     }
     match model_named(&read.file, root.number) {
-        Some(Model::Atomic(atomic)) => told(alloc, summary, wrapping(alloc, read, atomic)?),
-        _ => told(alloc, summary, ""),
+        Some(Model::Atomic(atomic)) => cause(alloc, summary, wrapping(alloc, read, atomic)?),
+        Some(Model::Coupled(_)) | None => cause(alloc, summary, ""),
     }
 }
 
-/// A sentence with a coupled model that has an atomic one as its part, and its ports.
+/// A sentence with a line feed that shows a coupled model with an atomic one as its part, and with
+/// its ports.
 fn wrapping(alloc: Global, read: &ReadText, model: &Atomic) -> Result<String, AllocError> {
     let name = read.name(model.name.number);
     let top = if name == "Top" { "Whole" } else { "Top" };
@@ -60,10 +62,10 @@ fn wrapping(alloc: Global, read: &ReadText, model: &Atomic) -> Result<String, Al
     let mut links = String::new(alloc);
     for declaration in &model.declarations {
         let port = read.name(name_of_declaration(declaration).number);
-        let (word, from, to) = match sort_of(declaration) {
-            NameSort::Input => ("in", "self", "a"),
-            NameSort::Output => ("out", "a", "self"),
-            _ => continue,
+        let (word, from, to) = match sort_of(declaration).direction() {
+            Some(Direction::Input) => ("in", "self", "a"),
+            Some(Direction::Output) => ("out", "a", "self"),
+            None => continue,
         };
         write!(ports, "{word} {port}; ")?;
         write!(links, "link {from}.{port} -> {to}.{port}; ")?;
@@ -71,29 +73,30 @@ fn wrapping(alloc: Global, read: &ReadText, model: &Atomic) -> Result<String, Al
     format!(in alloc; "Write `coupled {top} {{ {ports}part a: {name}; {links}}} root {top};`.\n")
 }
 
-/// The words on a part whose model, which is named at an offset, leads back to the one that has the part.
+/// The cause of E15 for the part whose model is named at an offset.
 ///
 /// # Errors
 ///
 /// No memory for the words.
 pub fn own_part(alloc: Global, read: &ReadText, offset: u32) -> Result<Cause, AllocError> {
     let Some(Model::Coupled(coupled)) = model_around(&read.file, offset) else {
-        return nothing_told(alloc);
+        return empty_cause(alloc);
     };
     let Some(part) = part_of_model_at(coupled, offset) else {
-        return nothing_told(alloc);
+        return empty_cause(alloc);
     };
     let own = Quoted(read.name(coupled.name.number));
     let model = Quoted(read.name(part.model.number));
     if part.model.number == coupled.name.number {
-        told(alloc, format_args!("{own} is a part of itself"), "")
+        cause(alloc, format_args!("{own} is a part of itself"), "")
     } else {
         let summary = format_args!("{model} has {own} among its parts, directly or further in");
-        told(alloc, summary, "")
+        cause(alloc, summary, "")
     }
 }
 
-/// The words on a limit on size that is passed at an offset: of a capacity, of a list of names, or of the tree of the root.
+/// The cause of E17 at an offset: the limit on a capacity, on the names of one kind, or on the tree
+/// of the root.
 ///
 /// # Errors
 ///
@@ -105,7 +108,7 @@ pub fn limit_at(alloc: Global, read: &ReadText, offset: u32) -> Result<Cause, Al
     match collection_at(read, offset) {
         Some(collection) => {
             let capacity = collection.capacity.value.value();
-            told(
+            cause(
                 alloc,
                 format_args!("the capacity {capacity} is outside of 1..4096"),
                 "",
@@ -115,29 +118,29 @@ pub fn limit_at(alloc: Global, read: &ReadText, offset: u32) -> Result<Cause, Al
     }
 }
 
-/// The cause where a text has so many bytes, which are too many.
+/// The cause of E17 for a text of so many bytes.
 ///
 /// # Errors
 ///
 /// No memory for the words.
 pub fn too_long(alloc: Global, length: usize) -> Result<Cause, AllocError> {
     let summary = format_args!("the text has {length} bytes, more than {GREATEST_LENGTH}");
-    told(alloc, summary, "")
+    cause(alloc, summary, "")
 }
 
 fn too_large(alloc: Global, read: &ReadText) -> Result<Cause, AllocError> {
     let root = Quoted(read.name(read.file.root.number));
     if is_without_parts(read) {
-        return told(alloc, format_args!("{root} has no part"), "");
+        return cause(alloc, format_args!("{root} has no part"), "");
     }
     let limits = "has no component, or too many components, instances, levels or links";
-    told(alloc, format_args!("the tree of {root} {limits}"), "")
+    cause(alloc, format_args!("the tree of {root} {limits}"), "")
 }
 
 fn is_without_parts(read: &ReadText) -> bool {
     match model_named(&read.file, read.file.root.number) {
         Some(Model::Coupled(coupled)) => coupled.parts.is_empty(),
-        _ => false,
+        Some(Model::Atomic(_)) | None => false,
     }
 }
 

@@ -1,17 +1,17 @@
-//! What names stand for.
+//! The kinds of names and rules, in words.
 
 use dv_bag::Discipline;
 use dv_syntax::{Declaration, Name, RuleSort};
 use std::fmt;
 
-/// What a name of an atomic model stands for.
+/// The kind of a name of an atomic model.
 #[derive(Clone, Copy, PartialEq, Eq)]
 pub enum NameSort {
     /// An input port.
     Input,
     /// An output port.
     Output,
-    /// A variable of the state, which holds a number.
+    /// A variable of the state, which has a number.
     Variable,
     /// A flag of the state.
     Flag,
@@ -23,7 +23,7 @@ pub enum NameSort {
     Phase,
 }
 
-/// What a declaration declares its name as.
+/// The kind of name that a declaration declares.
 pub fn sort_of(declaration: &Declaration) -> NameSort {
     match declaration {
         Declaration::In(_) => NameSort::Input,
@@ -45,7 +45,20 @@ pub fn name_of(declaration: &Declaration) -> Name {
 }
 
 impl NameSort {
-    /// The sort in words, with its article.
+    /// The direction of the port; `None` if the name is not that of a port.
+    pub fn direction(self) -> Option<Direction> {
+        match self {
+            NameSort::Input => Some(Direction::Input),
+            NameSort::Output => Some(Direction::Output),
+            NameSort::Variable
+            | NameSort::Flag
+            | NameSort::Held(_)
+            | NameSort::LoopVariable
+            | NameSort::Phase => None,
+        }
+    }
+
+    /// The kind in words, with its article.
     pub fn words(self) -> &'static str {
         match self {
             NameSort::Input => "an input port",
@@ -60,18 +73,46 @@ impl NameSort {
     }
 }
 
+/// The direction of a port, as its model sees it.
+#[derive(Clone, Copy, PartialEq, Eq)]
+pub enum Direction {
+    /// An input port.
+    Input,
+    /// An output port.
+    Output,
+}
+
+impl Direction {
+    /// The other direction.
+    pub fn opposite(self) -> Self {
+        match self {
+            Direction::Input => Direction::Output,
+            Direction::Output => Direction::Input,
+        }
+    }
+}
+
+impl fmt::Display for Direction {
+    fn fmt<W: fmt::Write>(&self, f: &mut fmt::Formatter<W>) -> fmt::Result {
+        f.write_str(match self {
+            Direction::Input => NameSort::Input.words(),
+            Direction::Output => NameSort::Output.words(),
+        })
+    }
+}
+
 impl fmt::Display for NameSort {
     fn fmt<W: fmt::Write>(&self, f: &mut fmt::Formatter<W>) -> fmt::Result {
         f.write_str(self.words())
     }
 }
 
-/// Where something stands: a rule of a sort, or a hold.
+/// A rule of a kind, or else a hold.
 #[derive(Clone, Copy)]
 pub struct Rule(pub Option<RuleSort>);
 
 impl Rule {
-    /// Where it is, in words, with the article.
+    /// The rule or the hold in words, with its article.
     pub fn words(self) -> &'static str {
         match self.0 {
             Some(RuleSort::Output) => "an output rule",

@@ -1,14 +1,14 @@
 //! Ranges and start values, and the hold of the start phase.
 
-use crate::told::{nothing_told, told};
+use crate::causes::{cause, empty_cause};
 use dv_bag::Fault;
 use dv_eval::{Scope, VariableRange, phase_hold, start_state};
 use dv_explain::{Cause, explanation_of};
 use dv_syntax::{Atomic, Declaration};
 use std::alloc::{AllocError, Global};
 
-/// The words on a variable, whose name is at an offset, that can't have its start value, or on the fault of the hold of the start
-/// phase, whose name behind `start` is there.
+/// The cause of E11 at an offset: of the name of a variable that can't have its start value, or
+/// else of the phase after `start` whose hold has a fault.
 ///
 /// # Errors
 ///
@@ -36,10 +36,10 @@ fn out_of_range(alloc: Global, range: &VariableRange) -> Result<Cause, AllocErro
     let VariableRange { low, high, start } = range;
     if low > high {
         let summary = format_args!("the range {low}..{high} is empty: {low} is above {high}");
-        told(alloc, summary, "")
+        cause(alloc, summary, "")
     } else {
         let summary = format_args!("the start value {start} is outside of {low}..{high}");
-        told(alloc, summary, "")
+        cause(alloc, summary, "")
     }
 }
 
@@ -48,14 +48,14 @@ fn start_hold(alloc: Global, model: &Atomic, offset: u32) -> Result<Cause, Alloc
         if start.phase.offset == offset {
             return match start_fault(alloc, model, start.phase.number)? {
                 Some(fault) => faulting(alloc, fault),
-                None => nothing_told(alloc),
+                None => empty_cause(alloc),
             };
         }
     }
-    nothing_told(alloc)
+    empty_cause(alloc)
 }
 
-/// The fault of the hold of a phase on the start values, if it has one.
+/// The fault of the hold of a phase with the start values, if it has one.
 fn start_fault(alloc: Global, model: &Atomic, phase: u32) -> Result<Option<Fault>, AllocError> {
     let scope = Scope::of(alloc, model)?;
     let state = start_state(alloc, model, &scope)?;
@@ -71,5 +71,5 @@ fn faulting(alloc: Global, fault: Fault) -> Result<Cause, AllocError> {
     let summary = format_args!(
         "the hold of the start phase has the fault `{name}` on the start values"
     );
-    told(alloc, summary, format_args!("{words}\n"))
+    cause(alloc, summary, format_args!("{words}\n"))
 }

@@ -1,4 +1,4 @@
-//! The statements of rules.
+//! The search for what is wrong in the statements of rules.
 
 use crate::around::Around;
 use crate::expressions::{look_at_held, look_through_assigned, look_through_taken};
@@ -11,7 +11,7 @@ use dv_bag::{Change, Discipline};
 use dv_lex::RefusalNumber;
 use dv_syntax::{Atomic, Command, Name, RuleSort, Stmt, Ticks};
 
-/// Looks through the starts, the holds and the rules of a model.
+/// Searches the starts, the holds and the rules of a model.
 pub fn look_through_model(known: &Known, model: &Atomic, search: &mut Search) {
     for start in &model.starts {
         look_at_phase(known, &Around::of(None, start.phase), start.phase, search);
@@ -114,7 +114,7 @@ fn look_through_statement(known: &Known, around: &Around, statement: &Stmt, sear
     }
 }
 
-/// Looks at a name to which something is assigned.
+/// Checks a name to which a value is assigned.
 fn look_at_assigned(known: &Known, around: &Around, variable: Name, search: &mut Search) {
     match known.sort(around, variable.number) {
         Some(NameSort::LoopVariable) => {
@@ -147,7 +147,7 @@ fn look_at_command(
     }
 }
 
-/// Looks at a collection that is changed.
+/// Checks the name of a collection that is changed.
 fn look_at_changed(
     known: &Known,
     around: &Around,
@@ -159,7 +159,7 @@ fn look_at_changed(
     search.note_name(name, sort, Wanted::Changed(discipline), around);
 }
 
-/// Looks at the name of a loop's variable: of two equal names the second in the text is refused.
+/// Checks the variable of a loop. Of two equal names, the second in the text is refused.
 fn look_at_loop_variable(known: &Known, around: &Around, variable: Name, search: &mut Search) {
     if let Some(other) = offset_of_other(known, around, variable) {
         let offset = other.max(variable.offset);
@@ -168,7 +168,8 @@ fn look_at_loop_variable(known: &Known, around: &Around, variable: Name, search:
     }
 }
 
-/// The offset of what has the name of a loop's variable, too: a loop around it, or a declaration.
+/// The offset of an enclosing loop's variable, or of a declaration, with the same name as the
+/// variable of a loop.
 fn offset_of_other(known: &Known, around: &Around, variable: Name) -> Option<u32> {
     match around.loop_variable(variable.number) {
         Some(outer) => Some(outer.offset),

@@ -1,21 +1,21 @@
-//! What takes the value of an expression.
+//! What uses the value of an expression.
 
 use dv_bag::{Change, ValueType};
 use dv_syntax::{Name, Operator, Prefix};
 use std::fmt;
 
-/// What takes the value of an expression.
+/// What uses the value of an expression, and so takes values of one type.
 #[derive(Clone, Copy)]
 pub enum Taker {
     /// An operator before its operand
     Prefix(Prefix),
     /// `and` or `or`
     Join,
-    /// `<` and its like
+    /// `<`, `<=`, `>` or `>=`
     Order,
-    /// `=` or `!=`, where the other operand is of this type
+    /// `=` or `!=`, with a left operand of this type
     Equality(ValueType),
-    /// `+` and its like
+    /// `+`, `-`, `*`, `/` or `%`
     Arithmetic,
     /// The condition of an `if`
     Condition,
@@ -23,7 +23,7 @@ pub enum Taker {
     Hold,
     /// `send`
     Send,
-    /// What changes a collection with a value
+    /// `add`, `drop` or `push`
     Change(Change),
     /// `times`
     Times,
@@ -34,7 +34,7 @@ pub enum Taker {
 }
 
 impl Taker {
-    /// What an operator is to its operands, where it is neither `=` nor `!=`.
+    /// How an operator takes both operands; `None` for `=` and `!=`, where the left one decides.
     pub fn by(operator: Operator) -> Option<Self> {
         match operator {
             Operator::Equal | Operator::Unequal => None,
@@ -68,7 +68,7 @@ impl Taker {
         }
     }
 
-    /// A sentence on what is taken, with a line feed; of variables and flags it is said with their names.
+    /// A sentence with a line feed on what is taken.
     pub fn words(self) -> &'static str {
         match self {
             Taker::Prefix(Prefix::Minus) => "A minus sign takes a number.\n",
@@ -90,7 +90,7 @@ impl Taker {
     }
 }
 
-/// A type, as words.
+/// A type, displayed in words.
 #[derive(Clone, Copy)]
 pub struct TypeWords(pub ValueType);
 

@@ -1,4 +1,4 @@
-//! What a name has to stand for.
+//! The kinds of names that a place takes.
 
 use crate::around::Around;
 use crate::sorts::NameSort;
@@ -6,24 +6,24 @@ use dv_bag::Discipline;
 use dv_syntax::BagCall;
 use std::fmt;
 
-/// What a name of an atomic model has to stand for at its offset.
+/// What a place in an atomic model takes.
 #[derive(Clone, Copy, PartialEq, Eq)]
 pub enum Wanted {
     /// A phase.
     Phase,
-    /// A variable or a flag that is read; the variable of a loop is one, too.
+    /// A variable, a flag or the variable of a loop, to be read.
     Value,
-    /// A variable or a flag that is assigned to.
+    /// A variable or a flag, to be assigned.
     Assigned,
-    /// A port that sends.
+    /// An output port.
     Sender,
-    /// A collection, or an input port, that is read.
+    /// A collection or an input port, to be read.
     Values,
-    /// A bag, or an input port, that is read.
+    /// A bag or an input port, to be read.
     Bag,
-    /// A queue that is read.
+    /// A queue, to be read.
     Queue,
-    /// A collection that is changed.
+    /// A collection of a discipline, to be changed.
     Changed(Discipline),
 }
 
@@ -37,7 +37,8 @@ impl Wanted {
         }
     }
 
-    /// Whether a name that stands for this may be there.
+    /// Whether a place that takes this accepts a name of a kind. Input ports are accepted in any
+    /// rule.
     pub fn suits(self, sort: NameSort) -> bool {
         match self {
             Wanted::Phase => sort == NameSort::Phase,
@@ -54,20 +55,21 @@ impl Wanted {
         }
     }
 
-    /// Whether a name that stands for this may be there where the offset is so.
+    /// As `suits`, but input ports are accepted only where they can be read.
     pub fn suits_at(self, sort: NameSort, around: &Around) -> bool {
         self.suits(sort) && (sort != NameSort::Input || around.sees_inputs())
     }
 }
 
-/// What is wanted, as words for an offset: an input port where one can be read, a queue where the text knows them.
+/// What a place takes, displayed in words. Input ports and queues are mentioned only if they can be
+/// used there.
 #[derive(Clone, Copy)]
 pub struct WantedWords {
-    /// What is wanted.
+    /// What the place takes.
     pub wanted: Wanted,
-    /// Whether an input port can be read there.
+    /// Whether input ports can be read there.
     pub sees_inputs: bool,
-    /// Whether the text knows the words of queues.
+    /// Whether the words of queues are reserved in the text.
     pub knows_queues: bool,
 }
 

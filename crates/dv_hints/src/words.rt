@@ -1,14 +1,14 @@
-//! Sentences on what is wrong at an offset of an atomic model.
+//! The causes at an offset of an atomic model, in words.
 
 use crate::around::Around;
+use crate::causes::cause;
 use crate::known::Known;
 use crate::lists::WantedSentence;
-use crate::near::told_unknown;
+use crate::near::cause_of_unknown;
 use crate::reading::{ReadText, position};
 use crate::reason::{Misplaced, Reason};
 use crate::sorts::{NameSort, Rule, name_of, sort_of};
 use crate::taker::{Taker, TypeWords};
-use crate::told::told;
 use crate::wanted::{Wanted, WantedWords};
 use dv_bag::{Discipline, ValueType};
 use dv_explain::{Cause, Quoted};
@@ -16,7 +16,7 @@ use dv_syntax::{Atomic, Name};
 use std::alloc::{AllocError, Global};
 use std::fmt;
 
-/// The words on what is wrong in a model.
+/// The cause with the words for a reason.
 ///
 /// # Errors
 ///
@@ -47,7 +47,7 @@ pub fn cause_of(
     }
 }
 
-/// The words on an unknown name.
+/// The cause of E7.
 fn unknown(
     alloc: Global,
     read: &ReadText,
@@ -65,7 +65,7 @@ fn unknown(
     };
     let meant = foreign_value(text, wanted, around);
     let sentence = wanted_here(read, wanted, around, &names);
-    told_unknown(
+    cause_of_unknown(
         alloc,
         text,
         &names,
@@ -73,7 +73,7 @@ fn unknown(
     )
 }
 
-/// What an unknown name stands for elsewhere in its model.
+/// The kind of a name that is unknown in its place, but known elsewhere in its model.
 fn sort_elsewhere(known: &Known, name: Name, wanted: Wanted, around: &Around) -> Option<NameSort> {
     if wanted == Wanted::Phase {
         known.sort(around, name.number)
@@ -84,7 +84,7 @@ fn sort_elsewhere(known: &Known, name: Name, wanted: Wanted, around: &Around) ->
     }
 }
 
-/// A sentence on what a name stands for elsewhere, with a line feed, or nothing.
+/// A sentence with a line feed on the kind of a name elsewhere, or nothing.
 #[derive(Clone, Copy)]
 struct Elsewhere<'a> {
     name: &'a str,
@@ -100,7 +100,7 @@ impl fmt::Display for Elsewhere<'_> {
     }
 }
 
-/// A sentence on a name that other languages know as a value, with a line feed, or nothing.
+/// A sentence with a line feed on a name that is a value in other languages, or an empty text.
 fn foreign_value(text: &str, wanted: Wanted, around: &Around) -> &'static str {
     if wanted != Wanted::Value {
         return "";
@@ -122,7 +122,7 @@ fn foreign_value(text: &str, wanted: Wanted, around: &Around) -> &'static str {
     }
 }
 
-/// The words on a name that stands for something else.
+/// The cause of E8 for a name.
 fn other_sort(
     alloc: Global,
     read: &ReadText,
@@ -136,14 +136,15 @@ fn other_sort(
     let names = names_in_reach(alloc, read, model, wanted, around)?;
     let meant = meant_by(sort, wanted).replace(alloc, "NAME", text)?;
     let sentence = wanted_here(read, wanted, around, &names);
-    told(
+    cause(
         alloc,
         format_args!("{} is {sort}, and not {}", Quoted(text), sentence.wanted),
         format_args!("{meant}{sentence}"),
     )
 }
 
-/// A sentence on what to write with a name of this sort, which is NAME in it, with a line feed, or nothing.
+/// A sentence with a line feed on how to use a name of this kind, written as NAME, or an empty
+/// text.
 fn meant_by(sort: NameSort, wanted: Wanted) -> &'static str {
     match (sort, wanted) {
         (NameSort::Input, Wanted::Value) => {
@@ -174,7 +175,7 @@ fn meant_by(sort: NameSort, wanted: Wanted) -> &'static str {
     }
 }
 
-/// The sentence on what is wanted of a name, with those in reach.
+/// The sentence on what a place takes, with the names that fit.
 fn wanted_here<'a>(
     read: &ReadText,
     wanted: Wanted,
@@ -192,7 +193,8 @@ fn wanted_here<'a>(
     }
 }
 
-/// The names that may stand at an offset, in the order in which they are declared; the variables of loops come last.
+/// The names that a place takes, in the order of their declarations; the variables of loops come
+/// last.
 fn names_in_reach<'a>(
     alloc: Global,
     read: &'a ReadText,
@@ -242,7 +244,7 @@ fn phases_of<'a>(
     Ok(names)
 }
 
-/// The words on an expression of another type.
+/// The cause of E8 for an expression.
 fn other_type(
     alloc: Global,
     read: &ReadText,
@@ -255,24 +257,32 @@ fn other_type(
     match taker {
         Taker::Variable(name) | Taker::Flag(name) => {
             let name = Quoted(read.name(name.number));
-            told(
+            cause(
                 alloc,
                 format_args!("found {found}, and {name} takes {wanted}"),
                 rule,
             )
         }
         Taker::Equality(_) => {
-            told(
+            cause(
                 alloc,
                 format_args!("found {found}, and before the sign {wanted}"),
                 rule,
             )
         }
-        _ => told(alloc, format_args!("found {found}, wanted {wanted}"), rule),
+        Taker::Prefix(_)
+        | Taker::Join
+        | Taker::Order
+        | Taker::Arithmetic
+        | Taker::Condition
+        | Taker::Hold
+        | Taker::Send
+        | Taker::Change(_)
+        | Taker::Times => cause(alloc, format_args!("found {found}, wanted {wanted}"), rule),
     }
 }
 
-/// The words on what is not allowed where it stands.
+/// The cause of E9.
 fn misplaced(
     alloc: Global,
     read: &ReadText,
@@ -282,23 +292,25 @@ fn misplaced(
     let rule = Rule(around.rule);
     let phase = read.name(around.phase.number);
     match what {
-        Misplaced::Change(word) => told(
+        Misplaced::Change(word) => cause(
             alloc,
             format_args!("`{word}` in {rule}"),
             format_args!(
-                "An output rule only sends. What changes stands in other rules, as in `internal {phase}`, which runs after it at the same time.\n"
+                "An output rule only sends. Changes belong in other rules, such as \
+                 `internal {phase}`, which runs after it at the same time.\n"
             ),
         ),
-        Misplaced::Send(port) => told(
+        Misplaced::Send(port) => cause(
             alloc,
             format_args!("`send` in {rule}"),
             format_args!(
-                "Sends stand in output rules: `output {phase} {{ send {} 1; }}` runs when the hold of {} ends. To send at once, go to a phase whose hold is 0.\n",
+                "Sends stand in output rules: `output {phase} {{ send {} 1; }}` runs when the \
+                 hold of {} ends. To send at once, go to a phase whose hold is 0.\n",
                 read.name(port.number),
                 Quoted(phase)
             ),
         ),
-        Misplaced::LoopVariable(name) => told(
+        Misplaced::LoopVariable(name) => cause(
             alloc,
             format_args!(
                 "{} is the variable of a loop",
@@ -306,12 +318,12 @@ fn misplaced(
             ),
             "Nothing is assigned to it: declare a variable for what has to stay.\n",
         ),
-        Misplaced::Elapsed => told(
+        Misplaced::Elapsed => cause(
             alloc,
             format_args!("`elapsed` in {rule}"),
             "It is known in external rules alone: keep it there in a variable.\n",
         ),
-        Misplaced::Input(port) => told(
+        Misplaced::Input(port) => cause(
             alloc,
             format_args!(
                 "the input port {} in {rule}",
@@ -322,7 +334,7 @@ fn misplaced(
     }
 }
 
-/// The words on the variable of a loop that has a name of something else.
+/// The cause of E6 for the variable of a loop.
 fn loop_variable(
     alloc: Global,
     text: &[u8],
@@ -337,7 +349,7 @@ fn loop_variable(
         Some(declared) if declared.offset == first => declared.sort,
         _ => NameSort::LoopVariable,
     };
-    told(
+    cause(
         alloc,
         format_args!(
             "{name} is declared twice, first as {sort} at {}",

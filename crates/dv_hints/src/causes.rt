@@ -1,15 +1,15 @@
-//! Causes out of what is displayed.
+//! Causes from what can be displayed.
 
 use dv_explain::Cause;
 use std::alloc::{AllocError, Global};
 use std::fmt;
 
-/// The cause with this summary and these sentences.
+/// The cause with this summary and these sentences, each with a line feed.
 ///
 /// # Errors
 ///
 /// No memory for the words.
-pub fn told<S: fmt::Display + Drop, T: fmt::Display + Drop>(
+pub fn cause<S: fmt::Display + Drop, T: fmt::Display + Drop>(
     alloc: Global,
     summary: S,
     sentences: T,
@@ -20,11 +20,11 @@ pub fn told<S: fmt::Display + Drop, T: fmt::Display + Drop>(
     })
 }
 
-/// The cause where no more is known than the number of a refusal says.
+/// The empty cause: no more is known than the number of the refusal says.
 ///
 /// # Errors
 ///
 /// No memory for it.
-pub fn nothing_told(alloc: Global) -> Result<Cause, AllocError> {
+pub fn empty_cause(alloc: Global) -> Result<Cause, AllocError> {
     Cause::of(alloc, "", "")
 }
