@@ -235,11 +235,11 @@ impl fmt::Display for PortsSentence<'_> {
             ports,
         } = self;
         if ports.is_empty() {
-            write!(f, "Wanted is {wanted}, but {owner} has none.\n")
+            write!(f, "This has to be {wanted}, but {owner} has none.\n")
         } else {
             write!(
                 f,
-                "Wanted is {wanted} of {owner}: {}.\n",
+                "This has to be {wanted} of {owner}: {}.\n",
                 Choice(ports)
             )
         }
@@ -331,7 +331,7 @@ pub fn wrong_way_in(
     };
     if is_turned(read, model, &located.other()) {
         let turned = ends_text(read, &located.link.to, &located.link.from);
-        let instead = format_args!("The other way round it may stand: `{turned}`.\n");
+        let instead = format_args!("The other direction is allowed: `{turned}`.\n");
         wrong_way(alloc, read, &located, instead)
     } else {
         let ports = ports_of(alloc, read, model, &located)?;
@@ -431,7 +431,7 @@ pub fn leads_back(
             alloc,
             format_args!("the part {} is coupled to itself", Quoted(from)),
             format_args!(
-                "Keep in its variables what it has to know of itself, or put a part between: {between}.\n"
+                "Keep what the part has to remember in its variables, or put a part between: {between}.\n"
             ),
         ),
         None => cause(

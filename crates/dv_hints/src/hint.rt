@@ -26,7 +26,7 @@ use std::alloc::{AllocError, Global};
 pub fn hint_on(alloc: Global, text: &[u8], refusal: &TextError) -> Result<Cause, AllocError> {
     let offset = refusal.offset as usize;
     match refusal.number {
-        RefusalNumber::E1 => Cause::of(alloc, "a byte that belongs to no whole character", ""),
+        RefusalNumber::E1 => Cause::of(alloc, "a byte that is not part of a valid character", ""),
         RefusalNumber::E2 => stray_at(alloc, text, offset),
         RefusalNumber::E3 => Cause::of(alloc, "a number above 9223372036854775807", ""),
         RefusalNumber::E4 => unexpected_at(alloc, text, offset),

@@ -69,13 +69,13 @@ impl<D: fmt::Display> fmt::Display for WantedSentence<'_, D> {
         if self.names.is_empty() {
             write!(
                 f,
-                "Wanted is {}, but {} has none.\n",
+                "This has to be {}, but {} has none.\n",
                 self.wanted, self.owner
             )
         } else {
             write!(
                 f,
-                "Wanted is {}: {}.\n",
+                "This has to be {}: {}.\n",
                 self.wanted,
                 Choice(self.names)
             )

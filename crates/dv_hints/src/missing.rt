@@ -68,7 +68,7 @@ fn missing(alloc: Global, read: &ReadText, model: &Atomic) -> Result<Cause, Allo
     };
     let hold = match items.last() {
         Some(Item::Hold(_)) => {
-            "Each phase has a hold: `hold z: 5;`, or `hold z: forever;` until something comes.\n"
+            "Each phase has a hold: `hold z: 5;`, or `hold z: forever;` until something arrives.\n"
         }
         Some(Item::Phases | Item::Start) | None => "",
     };
@@ -158,7 +158,7 @@ fn twice(
     let first = position(text, first);
     cause(
         alloc,
-        format_args!("{item} stands twice, first at {first}"),
+        format_args!("{item} is written twice, first at {first}"),
         sentence,
     )
 }

@@ -193,7 +193,7 @@ pub fn repeated_link(
         {
             let written = link_text(read, second);
             let position = position(text, first.offset);
-            let summary = format_args!("`{written}` stands twice, first at {position}");
+            let summary = format_args!("`{written}` is written twice, first at {position}");
             return cause(alloc, summary, "");
         }
     }

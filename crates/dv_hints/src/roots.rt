@@ -90,7 +90,7 @@ pub fn own_part(alloc: Global, read: &ReadText, offset: u32) -> Result<Cause, Al
     if part.model.number == coupled.name.number {
         cause(alloc, format_args!("{own} is a part of itself"), "")
     } else {
-        let summary = format_args!("{model} has {own} among its parts, directly or further in");
+        let summary = format_args!("{model} has {own} among its parts, directly or further inside");
         cause(alloc, summary, "")
     }
 }

@@ -69,7 +69,7 @@ fn faulting(alloc: Global, fault: Fault) -> Result<Cause, AllocError> {
         None => "",
     };
     let summary = format_args!(
-        "the hold of the start phase has the fault `{name}` on the start values"
+        "the hold of the start phase has the fault `{name}` with the start values"
     );
     cause(alloc, summary, format_args!("{words}\n"))
 }

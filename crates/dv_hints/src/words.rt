@@ -108,16 +108,16 @@ fn foreign_value(text: &str, wanted: Wanted, around: &Around) -> &'static str {
     match text {
         "inf" | "INF" | "Inf" | "infinity" | "INFINITY" | "Infinity" | "never"
             if around.rule.is_none() => {
-            "A hold without an end is `forever`, alone: `hold z: forever;`.\n"
+            "A hold without an end is `forever`, by itself: `hold z: forever;`.\n"
         }
         "True" | "TRUE" | "yes" => "The truth values are `true` and `false`.\n",
         "False" | "FALSE" | "no" => "The truth values are `true` and `false`.\n",
         "e" | "time" | "now" | "t" | "clock" => {
-            "A rule does not know the time: `elapsed` is the ticks since the last transition, in external rules.\n"
+            "A rule can't read the time: `elapsed`, in external rules, is the number of ticks since the last transition.\n"
         }
-        "sigma" => "What is left of a hold is not known: count in a variable, and hold for it.\n",
+        "sigma" => "The rest of a hold can't be read: keep it in a variable, and hold for that.\n",
         "null" | "none" | "None" | "nil" | "NULL" =>
-            "Each variable has a number, from its start on.\n",
+            "Each variable always has a number, from its start value on.\n",
         _ => "",
     }
 }
@@ -148,19 +148,19 @@ fn other_sort(
 fn meant_by(sort: NameSort, wanted: Wanted) -> &'static str {
     match (sort, wanted) {
         (NameSort::Input, Wanted::Value) => {
-            "What came to it is asked by `size(NAME)`, `sum(NAME)`, `least(NAME)`, `most(NAME)` or `times(1, NAME)`.\n"
+            "Its values are read by `size(NAME)`, `sum(NAME)`, `least(NAME)`, `most(NAME)` or `times(1, NAME)`.\n"
         }
         (NameSort::Held(Discipline::Bag), Wanted::Value) => {
-            "It is asked by `size(NAME)`, `sum(NAME)`, `least(NAME)`, `most(NAME)` or `times(1, NAME)`.\n"
+            "It is read by `size(NAME)`, `sum(NAME)`, `least(NAME)`, `most(NAME)` or `times(1, NAME)`.\n"
         }
         (NameSort::Held(Discipline::Queue), Wanted::Value) => {
-            "It is asked by `size(NAME)` or `front(NAME)`.\n"
+            "It is read by `size(NAME)` or `front(NAME)`.\n"
         }
         (NameSort::Output, Wanted::Value | Wanted::Assigned) => {
-            "A value is sent by it with `send NAME 1;` in an output rule.\n"
+            "Send a value with `send NAME 1;` in an output rule.\n"
         }
         (NameSort::Input, Wanted::Assigned) => {
-            "Nothing is assigned to it: values come to it by links.\n"
+            "It can't be assigned: its values arrive by links.\n"
         }
         (NameSort::Held(Discipline::Bag), Wanted::Assigned | Wanted::Changed(_)) => {
             "It is changed by `add 1 to NAME;` and `drop 1 from NAME;`.\n"
@@ -266,7 +266,7 @@ fn other_type(
         Taker::Equality(_) => {
             cause(
                 alloc,
-                format_args!("found {found}, and before the sign {wanted}"),
+                format_args!("found {found}, but the left operand is {wanted}"),
                 rule,
             )
         }
@@ -304,7 +304,7 @@ fn misplaced(
             alloc,
             format_args!("`send` in {rule}"),
             format_args!(
-                "Sends stand in output rules: `output {phase} {{ send {} 1; }}` runs when the \
+                "Sends belong in output rules: `output {phase} {{ send {} 1; }}` runs when the \
                  hold of {} ends. To send at once, go to a phase whose hold is 0.\n",
                 read.name(port.number),
                 Quoted(phase)
@@ -316,12 +316,12 @@ fn misplaced(
                 "{} is the variable of a loop",
                 Quoted(read.name(name.number))
             ),
-            "Nothing is assigned to it: declare a variable for what has to stay.\n",
+            "It can't be assigned: declare a variable for a value that has to be kept.\n",
         ),
         Misplaced::Elapsed => cause(
             alloc,
             format_args!("`elapsed` in {rule}"),
-            "It is known in external rules alone: keep it there in a variable.\n",
+            "It can be read only in external rules: keep it there in a variable.\n",
         ),
         Misplaced::Input(port) => cause(
             alloc,
@@ -329,7 +329,7 @@ fn misplaced(
                 "the input port {} in {rule}",
                 Quoted(read.name(port.number))
             ),
-            "What came is known in external and confluent rules: keep it there in a variable or a bag.\n",
+            "An input port can be read only in external and confluent rules: keep its values there in a variable or a bag.\n",
         ),
     }
 }
@@ -355,6 +355,6 @@ fn loop_variable(
             "{name} is declared twice, first as {sort} at {}",
             position(text, first)
         ),
-        "The variable of a loop has a name of its own; loops side by side may have the same.\n",
+        "The variable of a loop needs a name of its own; loops that are not nested may share one.\n",
     )
 }
