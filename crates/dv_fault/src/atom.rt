@@ -6,11 +6,13 @@ use dv_syntax::{Atomic, Hold, Rule, RuleSort};
 use dv_tree::Tree;
 use std::alloc::Global;
 
-/// The model of a component, with what it declares and the names of its text.
+/// A component, and its model, with what it declares and the names of its text.
 #[derive(Clone, Copy)]
 pub(crate) struct Atom<'t> {
     pub(crate) alloc: Global,
     pub(crate) tree: &'t Tree<'t>,
+    /// The path of the component, as the numbers of its names.
+    pub(crate) path: &'t [u32],
     pub(crate) model: &'t Atomic,
     pub(crate) scope: &'t Scope,
 }
@@ -25,6 +27,7 @@ impl<'t> Atom<'t> {
         Some(Atom {
             alloc,
             tree,
+            path: tree.path(component),
             model: tree.atomic(component),
             scope: tree.scope(component),
         })

@@ -2,8 +2,8 @@
 
 use crate::atom::Atom;
 use crate::operation::push_operation;
-use crate::reads::{add_reads, add_reads_of};
-use crate::values::{push_reads, push_result};
+use crate::reads::{add_reads, reads_of};
+use crate::values::{ValueText, push_reads};
 use dv_bag::{Arrivals, Fault, GREATEST_COUNT, State};
 use dv_eval::{Context, Domain, Moment, eval};
 use dv_explain::Quoted;
@@ -35,26 +35,33 @@ pub(crate) fn sentences_on_statement(
     fault: Fault,
 ) -> Result<String, AllocError> {
     let mut text = String::new(atom.alloc);
-    let mut reads = Vec::new(atom.alloc);
-    add_reads_of(statement, &mut reads)?;
-    push_reads(&mut text, atom, moment, &reads)?;
+    push_reads(&mut text, atom, moment, &reads_of(atom.alloc, statement)?)?;
+    push_case(&mut text, atom, moment, statement, fault)?;
+    Ok(text)
+}
+
+// What a statement was to do.
+fn push_case(
+    text: &mut String,
+    atom: &Atom<'_>,
+    moment: &Moment<'_, '_>,
+    statement: &Stmt,
+    fault: Fault,
+) -> Result<(), AllocError> {
     match statement {
-        Stmt::Assign { variable, value } => {
-            push_assigned(&mut text, atom, moment, *variable, value)?
-        }
-        Stmt::Send { value, .. } => push_sent(&mut text, atom, moment, value, fault)?,
+        Stmt::Assign { variable, value } => push_assigned(text, atom, moment, *variable, value),
+        Stmt::Send { value, .. } => push_sent(text, atom, moment, value, fault),
         Stmt::Change {
             value,
             collection,
             ..
-        } => push_changed(&mut text, atom, moment, value, *collection)?,
+        } => push_changed(text, atom, moment, value, *collection),
         Stmt::If { condition, .. } | Stmt::IfElse { condition, .. } => {
-            push_operation(&mut text, atom, moment, condition)?
+            push_operation(text, atom, moment, condition)
         }
         // The values that are read have told of an empty queue. A loop and a `goto` have no fault.
-        Stmt::Command { .. } | Stmt::For { .. } => {}
+        Stmt::Command { .. } | Stmt::For { .. } => Ok(()),
     }
-    Ok(text)
 }
 
 // The value that was to be assigned, and the range; or why there is no value.
@@ -68,17 +75,16 @@ fn push_assigned(
     let Ok(assigned) = eval(value, moment, atom.scope) else {
         return push_operation(text, atom, moment, value);
     };
-    if let Some(Domain::Number(range)) = atom.domain(variable.number) {
-        text.push_str("The value ")?;
-        push_result(text, assigned)?;
-        let name = Quoted(atom.name(variable.number));
-        writeln!(
-            text,
-            " is outside {}..{}, the range of {name}.",
-            range.low, range.high
-        )?;
-    }
-    Ok(())
+    let Some(Domain::Number(range)) = atom.domain(variable.number) else {
+        return Ok(());
+    };
+    let value = ValueText(assigned);
+    let name = Quoted(atom.name(variable.number));
+    writeln!(
+        text,
+        "The value {value} is outside {}..{}, the range of {name}.",
+        range.low, range.high
+    )
 }
 
 // Too many values, or why there is no value.
@@ -106,20 +112,12 @@ fn push_changed(
     if eval(value, moment, atom.scope).is_err() {
         return push_operation(text, atom, moment, value);
     }
-    if let Some(Domain::Held { capacity, .. }) = atom.domain(collection.number) {
-        let name = Quoted(atom.name(collection.number));
-        writeln!(
-            text,
-            "{name} has {capacity} {}, its capacity.",
-            values(capacity)
-        )?;
-    }
-    Ok(())
-}
-
-// The word for so many values.
-fn values(count: u64) -> &'static str {
-    if count == 1 { "value" } else { "values" }
+    let Some(Domain::Held { capacity, .. }) = atom.domain(collection.number) else {
+        return Ok(());
+    };
+    let name = Quoted(atom.name(collection.number));
+    let noun = if capacity == 1 { "value" } else { "values" };
+    writeln!(text, "{name} has {capacity} {noun}, its capacity.")
 }
 
 /// Sentences on a hold that has a fault in a state: what it reads, and what it comes to.
@@ -133,23 +131,27 @@ pub(crate) fn sentences_on_hold(
     ticks: &Ticks,
 ) -> Result<String, AllocError> {
     let mut text = String::new(atom.alloc);
-    let Ticks::After(expression) = ticks else {
-        return Ok(text);
-    };
-    let moment = Moment {
-        state,
-        context: &Context::Outermost(&Arrivals::nothing()),
-    };
-    let mut reads = Vec::new(atom.alloc);
-    add_reads(expression, &mut reads)?;
-    push_reads(&mut text, atom, &moment, &reads)?;
-    match eval(expression, &moment, atom.scope) {
-        Ok(value) => {
-            text.push_str("The hold is ")?;
-            push_result(&mut text, value)?;
-            text.push_str(".\n")?;
-        }
-        Err(_) => push_operation(&mut text, atom, &moment, expression)?,
+    if let Ticks::After(expression) = ticks {
+        let moment = Moment {
+            state,
+            context: &Context::Outermost(&Arrivals::nothing()),
+        };
+        push_hold(&mut text, atom, &moment, expression)?;
     }
     Ok(text)
+}
+
+fn push_hold(
+    text: &mut String,
+    atom: &Atom<'_>,
+    moment: &Moment<'_, '_>,
+    expression: &Expr,
+) -> Result<(), AllocError> {
+    let mut reads = Vec::new(atom.alloc);
+    add_reads(expression, &mut reads)?;
+    push_reads(text, atom, moment, &reads)?;
+    match eval(expression, moment, atom.scope) {
+        Ok(value) => writeln!(text, "The hold is {}.", ValueText(value)),
+        Err(_) => push_operation(text, atom, moment, expression),
+    }
 }

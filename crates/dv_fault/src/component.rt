@@ -1,7 +1,11 @@
 //! What a component is between two instants.
 
 use crate::atom::Atom;
-use dv_bag::{Bag, Collection, Datum, Discipline, GREATEST_COUNT, Held, Queue, State, Variables};
+use crate::reaction::{Instant, until_behind};
+use crate::stop::Stop;
+use dv_bag::{
+    Bag, Collection, Datum, Discipline, GREATEST_COUNT, Held, Kind, Queue, State, Variables,
+};
 use dv_eval::{Domain, Scope, start_state};
 use dv_time::Time;
 use std::alloc::{AllocError, Global};
@@ -14,6 +18,32 @@ pub(crate) struct Component {
     pub(crate) last: u64,
     /// When its hold runs out; `None` is never.
     pub(crate) until: Option<Time>,
+}
+
+impl Component {
+    /// Goes past a transition of a kind to a state.
+    ///
+    /// # Errors
+    ///
+    /// No memory for the states on the way.
+    pub(crate) fn pass(
+        &mut self,
+        atom: &Atom<'_>,
+        instant: &Instant<'_>,
+        kind: Kind,
+        state: State,
+    ) -> Result<(), AllocError> {
+        let until = match until_behind(atom, &*self, instant, kind, &state) {
+            Ok(until) => until,
+            // The trace tells of a transition, so there is no fault.
+            Err(Stop::Fault(_)) => None,
+            Err(Stop::Memory) => return Err(AllocError),
+        };
+        self.state = state;
+        self.last = instant.time.tick;
+        self.until = until;
+        Ok(())
+    }
 }
 
 /// The state in which a component of a model starts.

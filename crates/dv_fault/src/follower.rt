@@ -2,8 +2,8 @@
 
 use crate::atom::Atom;
 use crate::component::{Component, state_at_start, state_told};
-use crate::reaction::{Instant, until_behind};
-use crate::stop::Stop;
+use crate::error::FaultsError;
+use crate::reaction::Instant;
 use crate::told::{FileText, Told};
 use dv_bag::{Bags, Input, What};
 use dv_eval::phase_hold;
@@ -89,11 +89,11 @@ impl<'t> Follower<'t> {
     ///
     /// # Errors
     ///
-    /// No memory for what is told.
-    pub(crate) fn finish(mut self) -> Result<String, AllocError> {
+    /// `Memory`: no memory for what is told.
+    pub(crate) fn finish(mut self) -> Result<String, FaultsError> {
         self.settle()?;
         let Follower { told, .. } = self;
-        told.into_text()
+        Ok(told.into_text()?)
     }
 
     // Counts a fault behind those that are explained.
@@ -136,41 +136,34 @@ impl<'t> Follower<'t> {
 
     // Goes past what happened to a component.
     fn pass(&mut self, event: Event) -> Result<(), AllocError> {
+        let received = self.received_by(event.component)?;
+        self.pass_with(event, &received)
+    }
+
+    // What arrives at a component, a bag for each of its input ports.
+    fn received_by(&self, component: u32) -> Result<Bags, AllocError> {
+        let ports = match Atom::of(self.alloc, self.tree, component) {
+            Some(atom) => atom.scope.inputs().len(),
+            None => 0,
+        };
+        bags_of(self.alloc, ports, arrivals_to(&self.arrivals, component))
+    }
+
+    fn pass_with(&mut self, event: Event, received: &Bags) -> Result<(), AllocError> {
         let Some(atom) = Atom::of(self.alloc, self.tree, event.component) else {
             return Ok(());
         };
-        if event.component as usize >= self.tree.component_count() {
-            return Ok(());
-        }
         let Some(component) = self.components.get_mut(event.component as usize) else {
             return Ok(());
         };
-        let arrivals = arrivals_to(&self.arrivals, event.component);
-        let received = bags_of(self.alloc, atom.scope.inputs().len(), arrivals)?;
         let instant = Instant {
             time: self.time,
             limit: self.limit,
-            received: &received,
+            received,
         };
         match event.what {
-            What::Fault(_) => {
-                let path = self.tree.path_text(self.alloc, event.component as usize)?;
-                self.told.explain(&atom, path.as_str(), component, &instant)
-            }
-            What::Transition { kind, state } => {
-                let until = match until_behind(&atom, component, &instant, kind, &state) {
-                    Ok(until) => until,
-                    // The trace tells of a transition, so there is no fault.
-                    Err(Stop::Fault(_)) => None,
-                    Err(Stop::Memory) => return Err(AllocError),
-                };
-                *component = Component {
-                    state,
-                    last: self.time.tick,
-                    until,
-                };
-                Ok(())
-            }
+            What::Fault(_) => self.told.explain(&atom, component, &instant),
+            What::Transition { kind, state } => component.pass(&atom, &instant, kind, state),
         }
     }
 }

@@ -66,11 +66,8 @@ fn push_binary(
         Operator::Divide | Operator::Remainder if right == 0 => "divides by 0",
         _ => "is outside -2^63..2^63-1",
     };
-    if right < 0 {
-        writeln!(text, "`{left} {sign} ({right})` {case}.")
-    } else {
-        writeln!(text, "`{left} {sign} {right}` {case}.")
-    }
+    let (open, close) = if right < 0 { ("(", ")") } else { ("", "") };
+    writeln!(text, "`{left} {sign} {open}{right}{close}` {case}.")
 }
 
 // The sign of an operator that may have a fault.
@@ -98,12 +95,13 @@ fn push_call(
     call: BagCall,
     bag: Name,
 ) -> Result<(), AllocError> {
+    let (before, behind) = match call {
+        BagCall::Sum => ("The sum of ", "is outside -2^63..2^63-1"),
+        BagCall::Least => ("", "is empty, so it has no least value"),
+        BagCall::Most => ("", "is empty, so it has no greatest value"),
+        BagCall::Front => ("", "is empty, so it has no first value"),
+        BagCall::Size => return Ok(()),
+    };
     let name = Quoted(atom.name(bag.number));
-    match call {
-        BagCall::Sum => writeln!(text, "The sum of {name} is outside -2^63..2^63-1."),
-        BagCall::Least => writeln!(text, "{name} is empty, so it has no least value."),
-        BagCall::Most => writeln!(text, "{name} is empty, so it has no greatest value."),
-        BagCall::Front => writeln!(text, "{name} is empty, so it has no first value."),
-        BagCall::Size => Ok(()),
-    }
+    writeln!(text, "{before}{name} {behind}.")
 }

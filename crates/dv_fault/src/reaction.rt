@@ -70,27 +70,40 @@ pub(crate) fn react(
     component: &Component,
     instant: &Instant<'_>,
 ) -> Result<Option<Time>, Stop> {
-    let state = &component.state;
     let kind = kind_at(component, instant);
     if kind != Kind::External {
-        let _sent = leave_rule(atom, RuleSort::Output, state, &Arrivals::nothing())?;
+        leave_output(atom, &component.state)?;
     }
-    if !instant.received.are_few() {
-        return Err(flood_of(atom, instant.received)?);
-    }
-    let elapsed = match kind {
-        Kind::External => instant.time.tick.saturating_sub(component.last),
-        Kind::Internal | Kind::Confluent => 0,
-    };
-    let arrivals = Arrivals::new(instant.received, elapsed);
-    let after = match kind {
-        Kind::Internal => internal(atom, state)?,
-        Kind::External => external(atom, state, &arrivals, Hold::Continues)?,
-        Kind::Confluent => confluent(atom, state, &arrivals)?,
-    };
+    come_in(atom, instant.received)?;
+    let after = transition(atom, component, instant, kind)?;
     match after.hold {
         Hold::Continues => Ok(component.until),
         Hold::Begins(ticks) => end_of_hold(atom, &after.state, instant, ticks),
+    }
+}
+
+// What the output rule sends does not matter, but that it has no fault.
+fn leave_output(atom: &Atom<'_>, state: &State) -> Result<(), Stop> {
+    let _sent = leave_rule(atom, RuleSort::Output, state, &Arrivals::nothing())?;
+    Ok(())
+}
+
+// What a transition of a kind leaves.
+fn transition(
+    atom: &Atom<'_>,
+    component: &Component,
+    instant: &Instant<'_>,
+    kind: Kind,
+) -> Result<After, Stop> {
+    let state = &component.state;
+    match kind {
+        Kind::Internal => internal(atom, state),
+        Kind::External => {
+            let elapsed = instant.time.tick.saturating_sub(component.last);
+            let arrivals = Arrivals::new(instant.received, elapsed);
+            external(atom, state, &arrivals, Hold::Continues)
+        }
+        Kind::Confluent => confluent(atom, state, &Arrivals::new(instant.received, 0)),
     }
 }
 
@@ -138,8 +151,8 @@ fn leave_rule(
         Ok(effect) => Ok(changed_by(effect)),
         Err(RuleError::Memory) => Err(Stop::Memory),
         Err(RuleError::Fault(fault)) => {
-            let found = find_in_rule(atom, rule, state, arrivals, fault)?;
-            Err(Stop::Fault(found))
+            let found = find_in_rule(atom, rule, state, arrivals, fault);
+            Err(Stop::of(found))
         }
     }
 }
@@ -210,7 +223,7 @@ fn ticks_of(atom: &Atom<'_>, state: &State) -> Result<Option<u64>, Stop> {
     };
     match hold(&item.ticks, state, atom.scope) {
         Ok(ticks) => Ok(ticks),
-        Err(fault) => Err(fault_of_hold(atom, state, fault)?),
+        Err(fault) => Err(Stop::of(fault_of_hold(atom, state, fault))),
     }
 }
 
@@ -230,44 +243,47 @@ fn end_of_hold(
     }
     match instant.time.after(ticks.min(LONGEST_HOLD), instant.limit) {
         Ok(time) => Ok(Some(time)),
-        Err(_) => Err(fault_of_hold(atom, state, Fault::Microsteps)?),
+        Err(_) => Err(Stop::of(fault_of_hold(atom, state, Fault::Microsteps))),
     }
 }
 
-fn fault_of_hold(atom: &Atom<'_>, state: &State, fault: Fault) -> Result<Stop, AllocError> {
+fn fault_of_hold(atom: &Atom<'_>, state: &State, fault: Fault) -> Result<Found, AllocError> {
     let phase = atom.phase_of(state);
     let (offset, sentences) = match atom.hold(phase) {
         Some(item) => (item.offset, sentences_on_hold(atom, state, &item.ticks)?),
         None => (atom.model.name.offset, String::new(atom.alloc)),
     };
-    Ok(Stop::Fault(Found {
+    Ok(Found {
         fault,
         site: Site::Hold { phase },
         offset,
         sentences,
-    }))
+    })
 }
 
-// The flood of what arrives, at the first port that has more values than may come.
-fn flood_of(atom: &Atom<'_>, received: &Bags) -> Result<Stop, AllocError> {
+// That no more values arrive than may come; or the flood at the first port that has more.
+fn come_in(atom: &Atom<'_>, received: &Bags) -> Result<(), Stop> {
+    if received.are_few() {
+        return Ok(());
+    }
     for held in received.held() {
         let count = held.bag.size();
         if count > GREATEST_COUNT {
             let port = atom.scope.inputs().get(held.port).copied();
-            return flood_at(atom, port.unwrap_or(0), count);
+            return Err(Stop::of(flood_at(atom, port.unwrap_or(0), count)));
         }
     }
-    flood_at(atom, 0, 0)
+    Err(Stop::of(flood_at(atom, 0, 0)))
 }
 
-fn flood_at(atom: &Atom<'_>, port: u32, count: u64) -> Result<Stop, AllocError> {
+fn flood_at(atom: &Atom<'_>, port: u32, count: u64) -> Result<Found, AllocError> {
     let name = Quoted(atom.name(port));
-    Ok(Stop::Fault(Found {
+    Ok(Found {
         fault: Fault::Flood,
         site: Site::Arrival { port },
         offset: declared_at(atom, port),
         sentences: format!(in atom.alloc; "{count} values came to {name} at once.\n")?,
-    }))
+    })
 }
 
 // Where the model declares an input port.

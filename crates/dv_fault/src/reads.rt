@@ -1,7 +1,7 @@
 //! What expressions read.
 
 use dv_syntax::{Command, Expr, Stmt};
-use std::alloc::AllocError;
+use std::alloc::{AllocError, Global};
 
 /// What an expression reads.
 #[derive(Clone, Copy, PartialEq, Eq)]
@@ -12,12 +12,18 @@ pub(crate) enum Read {
     Elapsed,
 }
 
-/// Adds what a statement reads, without the blocks in it: each once, in the order of the text.
+/// What a statement reads, without the blocks in it: each once, in the order of the text.
 ///
 /// # Errors
 ///
 /// No memory for the list.
-pub(crate) fn add_reads_of(statement: &Stmt, reads: &mut Vec<Read>) -> Result<(), AllocError> {
+pub(crate) fn reads_of(alloc: Global, statement: &Stmt) -> Result<Vec<Read>, AllocError> {
+    let mut reads = Vec::new(alloc);
+    add_reads_of(statement, &mut reads)?;
+    Ok(reads)
+}
+
+fn add_reads_of(statement: &Stmt, reads: &mut Vec<Read>) -> Result<(), AllocError> {
     match statement {
         Stmt::Assign { value, .. } | Stmt::Send { value, .. } | Stmt::Change { value, .. } => {
             add_reads(value, reads)

@@ -55,6 +55,30 @@ pub(crate) fn find_in_rule(
     }
 }
 
+// What a statement comes to.
+#[derive(Drop)]
+enum Tried {
+    /// What was done behind it.
+    Ran(Effect),
+    /// It has a fault. What was done before it is kept.
+    Stopped(Effect, Fault),
+}
+
+fn try_statement(
+    search: &Search<'_>,
+    statement: &Stmt,
+    context: &Context<'_, '_>,
+    effect: Effect,
+) -> Result<Tried, Stop> {
+    let Search { atom, .. } = search;
+    let before = effect.clone()?;
+    match run_statement(atom.alloc, statement, context, atom.scope, effect) {
+        Ok(effect) => Ok(Tried::Ran(effect)),
+        Err(RuleError::Memory) => Err(Stop::Memory),
+        Err(RuleError::Fault(fault)) => Ok(Tried::Stopped(before, fault)),
+    }
+}
+
 // What statements do, one after the other. Where one has a fault, that is looked for inside of it.
 #[cycle(follow)]
 fn follow(
@@ -63,13 +87,10 @@ fn follow(
     context: &Context<'_, '_>,
     mut effect: Effect,
 ) -> Result<Effect, Stop> {
-    let Search { atom, .. } = search;
     for statement in statements {
-        let before = effect.clone()?;
-        effect = match run_statement(atom.alloc, statement, context, atom.scope, effect) {
-            Ok(effect) => effect,
-            Err(RuleError::Memory) => return Err(Stop::Memory),
-            Err(RuleError::Fault(fault)) => enter(search, statement, context, before, fault)?,
+        effect = match try_statement(search, statement, context, effect)? {
+            Tried::Ran(effect) => effect,
+            Tried::Stopped(before, fault) => enter(search, statement, context, before, fault)?,
         };
     }
     Ok(effect)
@@ -92,7 +113,7 @@ fn enter(
         } => match truth_at(search, condition, context, &effect) {
             Ok(true) => follow(search, &then_block.statements, context, effect),
             Ok(false) => Ok(effect),
-            Err(fault) => stop_at(search, statement, context, &effect, fault),
+            Err(fault) => Err(stop_at(search, statement, context, effect, fault)),
         },
         Stmt::IfElse {
             condition,
@@ -102,7 +123,7 @@ fn enter(
         } => match truth_at(search, condition, context, &effect) {
             Ok(true) => follow(search, &then_block.statements, context, effect),
             Ok(false) => follow(search, &else_block.statements, context, effect),
-            Err(fault) => stop_at(search, statement, context, &effect, fault),
+            Err(fault) => Err(stop_at(search, statement, context, effect, fault)),
         },
         Stmt::For {
             variable,
@@ -121,7 +142,7 @@ fn enter(
             Ok(effect)
         }
         Stmt::Assign { .. } | Stmt::Command { .. } | Stmt::Send { .. } | Stmt::Change { .. } => {
-            stop_at(search, statement, context, &effect, fault)
+            Err(stop_at(search, statement, context, effect, fault))
         }
     }
 }
@@ -166,23 +187,31 @@ fn truth_at(
     }
 }
 
-// Ends at a statement that has a fault itself.
+// Ends at a statement that has a fault itself, behind what was done before it.
 fn stop_at(
     search: &Search<'_>,
     statement: &Stmt,
     context: &Context<'_, '_>,
-    effect: &Effect,
+    effect: Effect,
     fault: Fault,
-) -> Result<Effect, Stop> {
+) -> Stop {
     let moment = Moment {
         state: &effect.state,
         context,
     };
-    let sentences = sentences_on_statement(search.atom, &moment, statement, fault)?;
-    Err(Stop::Fault(Found {
+    Stop::of(found_at(search, statement, &moment, fault))
+}
+
+fn found_at(
+    search: &Search<'_>,
+    statement: &Stmt,
+    moment: &Moment<'_, '_>,
+    fault: Fault,
+) -> Result<Found, AllocError> {
+    Ok(Found {
         fault,
         site: search.site,
         offset: offset_of(statement),
-        sentences,
-    }))
+        sentences: sentences_on_statement(search.atom, moment, statement, fault)?,
+    })
 }

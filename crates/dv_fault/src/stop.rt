@@ -33,6 +33,16 @@ pub(crate) enum Stop {
     Memory,
 }
 
+impl Stop {
+    /// A fault, with what is told of it; or no memory for that.
+    pub(crate) fn of(found: Result<Found, AllocError>) -> Stop {
+        match found {
+            Ok(found) => Stop::Fault(found),
+            Err(AllocError) => Stop::Memory,
+        }
+    }
+}
+
 impl From<AllocError> for Stop {
     fn from(_error: AllocError) -> Self {
         Stop::Memory

@@ -4,13 +4,16 @@ use crate::atom::Atom;
 use crate::component::Component;
 use crate::reaction::{Instant, kind_at, react};
 use crate::stop::{Found, Site, Stop};
-use dv_bag::Kind;
+use dv_bag::{Fault, Kind};
 use dv_explain::{Cause, Position, Quoted, Spot, explanation_of, pointed};
 use dv_syntax::RuleSort;
 use std::alloc::{AllocError, Global};
 
 /// The most faults that are explained.
 const SHOWN: u64 = 10;
+
+/// What takes the place of a confluent rule.
+const IN_TURN: &str = "its internal rule is first, then the external rule of the phase reached.";
 
 /// The text of a model: the name of its file, and its bytes.
 #[derive(Clone, Copy)]
@@ -57,15 +60,12 @@ impl<'a> Told<'a> {
     pub(crate) fn explain(
         &mut self,
         atom: &Atom<'_>,
-        path: &str,
         component: &Component,
         instant: &Instant<'_>,
     ) -> Result<(), AllocError> {
         if !self.is_full() {
             match react(atom, component, instant) {
-                Err(Stop::Fault(found)) => {
-                    self.push_paragraph(atom, path, component, instant, &found)?;
-                }
+                Err(Stop::Fault(found)) => self.push_paragraph(atom, component, instant, &found)?,
                 Err(Stop::Memory) => return Err(AllocError),
                 // The trace tells of a fault, so there is one.
                 Ok(_) => {}
@@ -78,7 +78,6 @@ impl<'a> Told<'a> {
     fn push_paragraph(
         &mut self,
         atom: &Atom<'_>,
-        path: &str,
         component: &Component,
         instant: &Instant<'_>,
         found: &Found,
@@ -94,7 +93,7 @@ impl<'a> Told<'a> {
             offset,
         };
         let cause = Cause {
-            summary: summary_of(atom, path, instant, found)?,
+            summary: summary_of(atom, instant, found)?,
             sentences: sentences_of(atom, component, instant, found)?,
         };
         let paragraph = pointed(atom.alloc, &spot, found.fault.word(), &cause)?;
@@ -123,34 +122,31 @@ impl<'a> Told<'a> {
 }
 
 // When and where a fault is, and of what.
-fn summary_of(
-    atom: &Atom<'_>,
-    path: &str,
-    instant: &Instant<'_>,
-    found: &Found,
-) -> Result<String, AllocError> {
+fn summary_of(atom: &Atom<'_>, instant: &Instant<'_>, found: &Found) -> Result<String, AllocError> {
+    let mut path = String::new(atom.alloc);
+    atom.tree.push_path(&mut path, atom.path)?;
+    let time = instant.time;
     let model = Quoted(atom.name(atom.model.name.number));
-    let mut text = format!(in atom.alloc;
-        "at {} in `{path}` of the model {model}, ",
-        instant.time
-    )?;
-    match found.site {
-        Site::Rule { sort, phase } => {
-            let phase = Quoted(atom.name(phase));
-            write!(text, "{} rule of the phase {phase}", word_of(sort))?
-        }
-        Site::Hold { phase } => write!(text, "hold of the phase {}", Quoted(atom.name(phase)))?,
-        Site::Arrival { port } => write!(text, "input port {}", Quoted(atom.name(port)))?,
+    let (site, name) = words_of(found.site);
+    let name = Quoted(atom.name(name));
+    format!(in atom.alloc; "at {time} in `{path}` of the model {model}, {site} {name}")
+}
+
+// What has a fault, in words, before the number of its name.
+fn words_of(site: Site) -> (&'static str, u32) {
+    match site {
+        Site::Rule { sort, phase } => (word_of(sort), phase),
+        Site::Hold { phase } => ("hold of the phase", phase),
+        Site::Arrival { port } => ("input port", port),
     }
-    Ok(text)
 }
 
 fn word_of(sort: RuleSort) -> &'static str {
     match sort {
-        RuleSort::Output => "output",
-        RuleSort::Internal => "internal",
-        RuleSort::External => "external",
-        RuleSort::Confluent => "confluent",
+        RuleSort::Output => "output rule of the phase",
+        RuleSort::Internal => "internal rule of the phase",
+        RuleSort::External => "external rule of the phase",
+        RuleSort::Confluent => "confluent rule of the phase",
     }
 }
 
@@ -162,28 +158,44 @@ fn sentences_of(
     found: &Found,
 ) -> Result<String, AllocError> {
     let mut text = String::from_str(atom.alloc, found.sentences.as_str())?;
+    push_turn(&mut text, atom, component, instant, found.site)?;
+    push_meaning(&mut text, found.fault)?;
+    Ok(text)
+}
+
+// That the rules and holds which take the place of a confluent rule come one after the other, where one of them has the fault.
+fn push_turn(
+    text: &mut String,
+    atom: &Atom<'_>,
+    component: &Component,
+    instant: &Instant<'_>,
+    site: Site,
+) -> Result<(), AllocError> {
     let phase = atom.phase_of(&component.state);
     let is_in_turn = kind_at(component, instant) == Kind::Confluent
         && atom.rule(RuleSort::Confluent, phase).is_none()
-        && comes_in_turn(found.site);
-    if is_in_turn {
-        let phase = Quoted(atom.name(phase));
-        write!(
-            text,
-            "Values came as the hold of {phase} ran out, which has no confluent rule: "
-        )?;
-        text.push_str(
-            "its internal rule is first, then the external rule of the phase reached.\n",
-        )?;
+        && comes_in_turn(site);
+    if !is_in_turn {
+        return Ok(());
     }
-    let code = found.fault.word();
-    if let Some(explanation) = explanation_of(code) {
-        writeln!(text, "{}", explanation.words)?;
-        if explanation.example.is_some() {
-            writeln!(text, "`pdevs explain {code}` has an example.")?;
-        }
+    let phase = Quoted(atom.name(phase));
+    writeln!(
+        text,
+        "Values came as the hold of {phase} ran out, which has no confluent rule: {IN_TURN}"
+    )
+}
+
+// What the fault means.
+fn push_meaning(text: &mut String, fault: Fault) -> Result<(), AllocError> {
+    let code = fault.word();
+    let Some(explanation) = explanation_of(code) else {
+        return Ok(());
+    };
+    writeln!(text, "{}", explanation.words)?;
+    if explanation.example.is_some() {
+        writeln!(text, "`pdevs explain {code}` has an example.")?;
     }
-    Ok(text)
+    Ok(())
 }
 
 // Whether what has a fault is one of the rules and holds that take the place of a confluent rule.

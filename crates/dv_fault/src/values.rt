@@ -6,6 +6,7 @@ use dv_bag::{DatumView, Value};
 use dv_eval::{Moment, loop_values};
 use dv_explain::Quoted;
 use std::alloc::AllocError;
+use std::fmt;
 
 /// The most values that are shown of a collection.
 const SHOWN: u64 = 16;
@@ -21,20 +22,25 @@ pub(crate) fn push_reads(
     moment: &Moment<'_, '_>,
     reads: &[Read],
 ) -> Result<(), AllocError> {
-    let Some((last, others)) = reads.split_last() else {
+    if reads.is_empty() {
         return Ok(());
-    };
-    for (offset, read) in others.iter().enumerate() {
-        if offset > 0 {
-            text.push_str(", ")?;
-        }
+    }
+    for (index, read) in reads.iter().enumerate() {
+        text.push_str(separator(index, reads.len()))?;
         push_read(text, atom, moment, *read)?;
     }
-    if !others.is_empty() {
-        text.push_str(" and ")?;
-    }
-    push_read(text, atom, moment, *last)?;
     text.push_str(".\n")
+}
+
+// What stands before the phrase at an index of so many.
+fn separator(index: usize, count: usize) -> &'static str {
+    if index == 0 {
+        ""
+    } else if index.saturating_add(1) == count {
+        " and "
+    } else {
+        ", "
+    }
 }
 
 fn push_read(
@@ -99,22 +105,21 @@ fn push_copies(
     is_behind: bool,
 ) -> Result<(), AllocError> {
     for copy in 0..copies {
-        if is_behind || copy > 0 {
-            text.push(',')?;
-        }
-        write!(text, "{value}")?;
+        let comma = if is_behind || copy > 0 { "," } else { "" };
+        write!(text, "{comma}{value}")?;
     }
     Ok(())
 }
 
-/// The text of a value of an expression.
-///
-/// # Errors
-///
-/// No memory for the longer text.
-pub(crate) fn push_result(text: &mut String, value: Value) -> Result<(), AllocError> {
-    match value {
-        Value::Number(number) => write!(text, "{number}"),
-        Value::Truth(truth) => write!(text, "{truth}"),
+/// A value of an expression, as text.
+#[derive(Clone, Copy)]
+pub(crate) struct ValueText(pub(crate) Value);
+
+impl fmt::Display for ValueText {
+    fn fmt<W: fmt::Write>(&self, f: &mut fmt::Formatter<W>) -> fmt::Result {
+        match self.0 {
+            Value::Number(number) => write!(f, "{number}"),
+            Value::Truth(truth) => write!(f, "{truth}"),
+        }
     }
 }

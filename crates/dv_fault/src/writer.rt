@@ -77,7 +77,7 @@ impl<'t> FaultWriter<'t> {
             reader: _,
             follower,
         } = lines.finish(End::Optional)?;
-        Ok(follower.finish()?)
+        follower.finish()
     }
 }
 
