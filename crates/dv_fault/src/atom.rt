@@ -1,4 +1,4 @@
-//! An atomic model, with the names of its text.
+//! A component with its atomic model.
 
 use dv_bag::State;
 use dv_eval::{Domain, Scope};
@@ -6,7 +6,7 @@ use dv_syntax::{Atomic, Hold, Rule, RuleSort};
 use dv_tree::Tree;
 use std::alloc::Global;
 
-/// A component, and its model, with what it declares and the names of its text.
+/// A component with its atomic model, and the tree that has the names.
 #[derive(Clone, Copy)]
 pub(crate) struct Atom<'t> {
     pub(crate) alloc: Global,
@@ -18,7 +18,7 @@ pub(crate) struct Atom<'t> {
 }
 
 impl<'t> Atom<'t> {
-    /// The model of a component, if there is one of this number.
+    /// The component of this number, if there is one.
     pub(crate) fn of(alloc: Global, tree: &'t Tree<'t>, component: u32) -> Option<Self> {
         let component = component as usize;
         if component >= tree.component_count() {
@@ -33,23 +33,23 @@ impl<'t> Atom<'t> {
         })
     }
 
-    /// The text of a name.
+    /// The text of the name of this number.
     pub(crate) fn name(&self, number: u32) -> &'t str {
         self.tree.name(number)
     }
 
-    /// What the state variable of a name may hold, if there is one.
+    /// The domain of the state variable with this name, if there is one.
     pub(crate) fn domain(&self, name: u32) -> Option<Domain> {
         let offset = self.scope.variable(name)?;
         self.scope.domain(offset)
     }
 
-    /// The name of the phase of a state.
+    /// The number of the name of a state's phase.
     pub(crate) fn phase_of(&self, state: &State) -> u32 {
         self.scope.phase_name(state.phase).unwrap_or(0)
     }
 
-    /// The rule of a sort for the phase of a name, if there is one.
+    /// The rule of a kind for the phase with this name, if there is one.
     pub(crate) fn rule(&self, sort: RuleSort, phase: u32) -> Option<&'t Rule> {
         self.model
             .rules
@@ -57,7 +57,7 @@ impl<'t> Atom<'t> {
             .find(|rule| rule.sort == sort && rule.phase.number == phase)
     }
 
-    /// The hold of the phase of a name. Each phase of an accepted model has one.
+    /// The hold of the phase with this name. Each phase of an accepted model has one.
     pub(crate) fn hold(&self, phase: u32) -> Option<&'t Hold> {
         self.model
             .holds

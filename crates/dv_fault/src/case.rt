@@ -1,4 +1,4 @@
-//! What statements, holds and ports say of their faults.
+//! Sentences on the faults of statements and holds.
 
 use crate::atom::Atom;
 use crate::operation::push_operation;
@@ -7,10 +7,10 @@ use crate::values::{ValueText, push_reads};
 use dv_bag::{Arrivals, Fault, GREATEST_COUNT, State};
 use dv_eval::{Context, Domain, Moment, eval};
 use dv_explain::Quoted;
-use dv_syntax::{Expr, Name, Stmt, Ticks};
+use dv_syntax::{Command, Expr, Name, Stmt, Ticks};
 use std::alloc::AllocError;
 
-/// The offset of a statement: of its first word, or of the variable to which it assigns.
+/// The offset of a statement: of its first word, or of the variable that it assigns.
 pub(crate) fn offset_of(statement: &Stmt) -> u32 {
     match statement {
         Stmt::Assign { variable, .. } => variable.offset,
@@ -23,11 +23,12 @@ pub(crate) fn offset_of(statement: &Stmt) -> u32 {
     }
 }
 
-/// Sentences on a statement that has a fault at a moment: what it reads, and what it was to do.
+/// Sentences on a statement that has a fault at a moment: the values that it reads, and why it
+/// fails. Each ends with a line feed.
 ///
 /// # Errors
 ///
-/// No memory for them.
+/// No memory for the sentences.
 pub(crate) fn sentences_on_statement(
     atom: &Atom<'_>,
     moment: &Moment<'_, '_>,
@@ -40,7 +41,7 @@ pub(crate) fn sentences_on_statement(
     Ok(text)
 }
 
-// What a statement was to do.
+// Why a statement fails.
 fn push_case(
     text: &mut String,
     atom: &Atom<'_>,
@@ -59,12 +60,16 @@ fn push_case(
         Stmt::If { condition, .. } | Stmt::IfElse { condition, .. } => {
             push_operation(text, atom, moment, condition)
         }
-        // The values that are read have told of an empty queue. A loop and a `goto` have no fault.
-        Stmt::Command { .. } | Stmt::For { .. } => Ok(()),
+        // That a queue is empty is said with the values read. A loop and a `goto` have no fault.
+        Stmt::Command {
+            command: Command::Pop | Command::Goto,
+            ..
+        }
+        | Stmt::For { .. } => Ok(()),
     }
 }
 
-// The value that was to be assigned, and the range; or why there is no value.
+// The assigned value and the range that it is outside of, or why there is no value.
 fn push_assigned(
     text: &mut String,
     atom: &Atom<'_>,
@@ -87,7 +92,7 @@ fn push_assigned(
     )
 }
 
-// Too many values, or why there is no value.
+// That too many values are sent, or why there is no value.
 fn push_sent(
     text: &mut String,
     atom: &Atom<'_>,
@@ -101,7 +106,7 @@ fn push_sent(
     push_operation(text, atom, moment, value)
 }
 
-// A collection that has no room, or why there is no value.
+// That the collection is full, or why there is no value.
 fn push_changed(
     text: &mut String,
     atom: &Atom<'_>,
@@ -117,14 +122,18 @@ fn push_changed(
     };
     let name = Quoted(atom.name(collection.number));
     let noun = if capacity == 1 { "value" } else { "values" };
-    writeln!(text, "{name} has {capacity} {noun}, its capacity.")
+    writeln!(
+        text,
+        "{name} has {capacity} {noun}, its capacity."
+    )
 }
 
-/// Sentences on a hold that has a fault in a state: what it reads, and what it comes to.
+/// Sentences on a hold that has a fault in a state: the values that it reads, and its value or why
+/// it has none. Each ends with a line feed.
 ///
 /// # Errors
 ///
-/// No memory for them.
+/// No memory for the sentences.
 pub(crate) fn sentences_on_hold(
     atom: &Atom<'_>,
     state: &State,

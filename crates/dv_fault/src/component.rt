@@ -1,4 +1,4 @@
-//! What a component is between two instants.
+//! Components between two instants.
 
 use crate::atom::Atom;
 use crate::reaction::{Instant, until_behind};
@@ -10,22 +10,22 @@ use dv_eval::{Domain, Scope, start_state};
 use dv_time::Time;
 use std::alloc::{AllocError, Global};
 
-/// A component behind its last line, or as it starts.
+/// A component after its last line of the trace, or at the start.
 #[derive(Drop)]
 pub(crate) struct Component {
     pub(crate) state: State,
     /// The tick of its last transition.
     pub(crate) last: u64,
-    /// When its hold runs out; `None` is never.
+    /// When its hold ends; `None` is never.
     pub(crate) until: Option<Time>,
 }
 
 impl Component {
-    /// Goes past a transition of a kind to a state.
+    /// Makes a transition of a kind to a state.
     ///
     /// # Errors
     ///
-    /// No memory for the states on the way.
+    /// No memory for intermediate states.
     pub(crate) fn pass(
         &mut self,
         atom: &Atom<'_>,
@@ -35,7 +35,7 @@ impl Component {
     ) -> Result<(), AllocError> {
         let until = match until_behind(atom, &*self, instant, kind, &state) {
             Ok(until) => until,
-            // The trace tells of a transition, so there is no fault.
+            // The trace has a transition here, so there is no fault.
             Err(Stop::Fault(_)) => None,
             Err(Stop::Memory) => return Err(AllocError),
         };
@@ -56,12 +56,12 @@ pub(crate) fn state_at_start(atom: &Atom<'_>) -> Result<State, AllocError> {
     start_state(atom.alloc, atom.model, &scope)
 }
 
-/// The state that a line of a component tells.
+/// The state that a line of the trace shows.
 ///
 /// # Errors
 ///
 /// No memory for the state.
-pub(crate) fn state_told(
+pub(crate) fn state_shown(
     alloc: Global,
     scope: &Scope,
     phase: u32,
@@ -69,12 +69,12 @@ pub(crate) fn state_told(
 ) -> Result<State, AllocError> {
     let mut variables = Variables::new(alloc);
     for (domain, datum) in scope.domains().iter().zip(data) {
-        variables.push(datum_told(alloc, *domain, *datum)?)?;
+        variables.push(datum_shown(alloc, *domain, *datum)?)?;
     }
     Ok(State { phase, variables })
 }
 
-fn datum_told(
+fn datum_shown(
     alloc: Global,
     domain: Domain,
     datum: dv_trace::Datum<'_>,
@@ -88,13 +88,22 @@ fn datum_told(
                 discipline: Discipline::Queue,
                 ..
             },
-        ) => Ok(Datum::Held(queue_told(alloc, values.text)?)),
-        (dv_trace::Datum::Held(values), _) => Ok(Datum::Held(bag_told(alloc, values.text)?)),
+        ) => Ok(Datum::Held(queue_shown(alloc, values.text)?)),
+        (
+            dv_trace::Datum::Held(values),
+            Domain::Held {
+                discipline: Discipline::Bag,
+                ..
+            }
+            | Domain::Number(_)
+            | Domain::Flag { .. },
+        ) => Ok(Datum::Held(bag_shown(alloc, values.text)?)),
     }
 }
 
-// The bag of values between commas. No run has more of them than a bag may have.
-fn bag_told(alloc: Global, text: &str) -> Result<Held, AllocError> {
+// The bag of the values between commas. In the trace of a run there are at most as many as a bag
+// can have.
+fn bag_shown(alloc: Global, text: &str) -> Result<Held, AllocError> {
     let mut bag = Bag::new(alloc);
     for piece in text.split(',') {
         if let Ok(value) = piece.parse::<i64>() {
@@ -107,8 +116,9 @@ fn bag_told(alloc: Global, text: &str) -> Result<Held, AllocError> {
     Held::new(alloc, Collection::Bag(bag))
 }
 
-// The queue of values between commas. No run has more of them than a queue may have.
-fn queue_told(alloc: Global, text: &str) -> Result<Held, AllocError> {
+// The queue of the values between commas. In the trace of a run there are at most as many as a
+// queue can have.
+fn queue_shown(alloc: Global, text: &str) -> Result<Held, AllocError> {
     let mut queue = Queue::new(alloc);
     for piece in text.split(',') {
         if let Ok(value) = piece.parse::<i64>() {

@@ -1,12 +1,12 @@
-//! Why there are no paragraphs.
+//! Why faults could not be explained.
 
 use dv_trace::{TraceError, TraceRefusal};
 use std::alloc::{AllocError, AllocFailed};
 
-/// Why nothing is told of the faults of a trace.
+/// Why the faults of a trace could not be explained.
 #[derive(Clone, Copy, PartialEq, Eq)]
 pub enum FaultsError {
-    /// The trace is none of the model.
+    /// The text is not a trace of the model.
     Refused(TraceRefusal),
     /// An allocation was refused.
     Memory,

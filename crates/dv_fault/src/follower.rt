@@ -1,10 +1,10 @@
-//! What happens in a run, instant after instant.
+//! Follows a run by the lines of its trace, instant by instant.
 
 use crate::atom::Atom;
-use crate::component::{Component, state_at_start, state_told};
+use crate::component::{Component, state_at_start, state_shown};
 use crate::error::FaultsError;
+use crate::paragraphs::{FileText, Paragraphs};
 use crate::reaction::Instant;
-use crate::told::{FileText, Told};
 use dv_bag::{Bags, Input, What};
 use dv_eval::phase_hold;
 use dv_flat::LinkLists;
@@ -15,15 +15,15 @@ use dv_tree::Tree;
 use std::alloc::{AllocError, Global};
 use std::mem;
 
-/// What happened to a component at the instant of the last lines.
+/// What happened to a component at the current instant.
 #[derive(Drop)]
 struct Event {
     component: u32,
     what: What,
 }
 
-/// Follows a run by the lines of its trace. It keeps of each component what it was before the instant of the last lines, and what
-/// happened and arrived then.
+/// Follows a run by the lines of its trace. It keeps each component as it was before the current
+/// instant (that of the last line), and what happened and arrived at this instant.
 #[derive(Drop)]
 pub(crate) struct Follower<'t> {
     alloc: Global,
@@ -35,11 +35,11 @@ pub(crate) struct Follower<'t> {
     time: Time,
     events: Vec<Event>,
     arrivals: Vec<Arrival>,
-    told: Told<'t>,
+    paragraphs: Paragraphs<'t>,
 }
 
 impl<'t> Follower<'t> {
-    /// Before the first line of a run of the model of a tree, with these links and inputs.
+    /// A run of the model of a tree, with these links and inputs, before its first line.
     ///
     /// # Errors
     ///
@@ -61,15 +61,16 @@ impl<'t> Follower<'t> {
             time: Time::ZERO,
             events: Vec::new(alloc),
             arrivals: Vec::new(alloc),
-            told: Told::new(alloc, model),
+            paragraphs: Paragraphs::new(alloc, model),
         })
     }
 
-    /// One more line. The faults of the lines before are explained where this one is later.
+    /// Takes one more line. If it is of a later instant, the faults of the instant before are
+    /// explained.
     ///
     /// # Errors
     ///
-    /// No memory for what is kept or told.
+    /// No memory for what is kept, or for the paragraphs.
     pub(crate) fn add(&mut self, line: &TraceLine<'_>) -> Result<(), AllocError> {
         let TraceLine::Entry(entry) = line else {
             return Ok(());
@@ -78,32 +79,32 @@ impl<'t> Follower<'t> {
             self.settle()?;
             self.time = entry.time;
         }
-        if self.told.is_full() {
+        if self.paragraphs.is_full() {
             self.count(entry);
             return Ok(());
         }
         self.keep(entry)
     }
 
-    /// What is told where the last line was the last.
+    /// The text on all faults, after the last line.
     ///
     /// # Errors
     ///
-    /// `Memory`: no memory for what is told.
+    /// `Memory`: no memory for the text.
     pub(crate) fn finish(mut self) -> Result<String, FaultsError> {
         self.settle()?;
-        let Follower { told, .. } = self;
-        Ok(told.into_text()?)
+        let Follower { paragraphs, .. } = self;
+        Ok(paragraphs.into_text()?)
     }
 
-    // Counts a fault behind those that are explained.
+    // Counts a fault that is not explained.
     fn count(&mut self, entry: &Entry<'_>) {
         if let Happening::Fault(_) = entry.happening {
-            self.told.count_one();
+            self.paragraphs.count_one();
         }
     }
 
-    // Keeps what happened to a component, and what arrives of what it sent.
+    // Keeps what happened to a component, and where the values that it sent arrive.
     fn keep(&mut self, entry: &Entry<'_>) -> Result<(), AllocError> {
         self.routes.add_sent(entry, &mut self.arrivals)?;
         let Some(atom) = Atom::of(self.alloc, self.tree, entry.component) else {
@@ -113,7 +114,7 @@ impl<'t> Follower<'t> {
             Happening::Fault(fault) => What::Fault(*fault),
             Happening::Transition { kind, phase, state } => What::Transition {
                 kind: *kind,
-                state: state_told(self.alloc, atom.scope, *phase, state)?,
+                state: state_shown(self.alloc, atom.scope, *phase, state)?,
             },
         };
         self.events.push(Event {
@@ -123,7 +124,7 @@ impl<'t> Follower<'t> {
         Ok(())
     }
 
-    // Goes past the instant of the last lines.
+    // Brings all components past the current instant.
     fn settle(&mut self) -> Result<(), AllocError> {
         self.routes.complete(self.time, &mut self.arrivals)?;
         let events = mem::replace(&mut self.events, Vec::new(self.alloc));
@@ -134,13 +135,13 @@ impl<'t> Follower<'t> {
         Ok(())
     }
 
-    // Goes past what happened to a component.
+    // Brings a component past the current instant, or explains its fault.
     fn pass(&mut self, event: Event) -> Result<(), AllocError> {
         let received = self.received_by(event.component)?;
         self.pass_with(event, &received)
     }
 
-    // What arrives at a component, a bag for each of its input ports.
+    // What arrives at a component at the current instant: a bag for each of its input ports.
     fn received_by(&self, component: u32) -> Result<Bags, AllocError> {
         let ports = match Atom::of(self.alloc, self.tree, component) {
             Some(atom) => atom.scope.inputs().len(),
@@ -162,13 +163,13 @@ impl<'t> Follower<'t> {
             received,
         };
         match event.what {
-            What::Fault(_) => self.told.explain(&atom, component, &instant),
+            What::Fault(_) => self.paragraphs.explain(&atom, component, &instant),
             What::Transition { kind, state } => component.pass(&atom, &instant, kind, state),
         }
     }
 }
 
-// The components as a run begins.
+// The components at the start of a run.
 fn components_at_start(
     alloc: Global,
     tree: &Tree<'_>,
@@ -183,7 +184,7 @@ fn components_at_start(
     Ok(components)
 }
 
-// A component as a run begins. The hold of the start phase of an accepted model has no fault.
+// A component at the start of a run. The hold of the start phase of an accepted model has no fault.
 fn component_at_start(atom: &Atom<'_>, limit: u32) -> Result<Component, AllocError> {
     let state = state_at_start(atom)?;
     let phase = atom.phase_of(&state);
@@ -198,7 +199,7 @@ fn component_at_start(atom: &Atom<'_>, limit: u32) -> Result<Component, AllocErr
     })
 }
 
-// What arrives at a component, a bag for each of so many input ports.
+// Arrivals at a component: a bag for each of so many input ports.
 fn bags_of(alloc: Global, ports: usize, arrivals: &[Arrival]) -> Result<Bags, AllocError> {
     let mut bags = Bags::empty(alloc, ports);
     for arrival in arrivals {

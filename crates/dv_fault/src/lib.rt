@@ -1,42 +1,43 @@
-//! Where the faults of a run came from.
+//! Explains where the faults of a run came from.
 //!
-//! A `FaultWriter` takes the bytes of a trace while the run prints them. At a fault it runs the transition of that
-//! component again by the rules of the source, from the state before it, up to the statement that has the fault, and
-//! tells its line, the values there and what the fault means. What a component was is read from its lines; what
-//! arrived is worked out by the links. It explains the first faults and counts the others, and its memory does not
-//! grow with the trace.
+//! A `FaultWriter` takes the bytes of a trace while the run prints them. For a fault it repeats the
+//! transition of the component by the rules of the source, from the state before it, up to the
+//! statement that has the fault. It reports the line of this statement, the values there and what
+//! the fault means. The states of components are read from their lines; what arrived follows from
+//! the links. The first faults are explained and the others counted, and the memory does not grow
+//! with the trace.
 //!
-//! `dv_views` calls it for `run --explain`. Nothing is claimed of what is told but that it is told without a fault of
-//! the program, and no trace changes by it.
+//! `dv_views` calls it for `run --explain`. Nothing is proved about the explanations except that
+//! making them never panics; the trace itself does not change.
 #![tactic(auto)]
 
-/// An atomic model, with the names of its text.
+/// A component with its atomic model.
 mod atom;
-/// What statements, holds and ports say of their faults.
+/// Sentences on the faults of statements and holds.
 mod case;
-/// What a component is between two instants.
+/// Components between two instants.
 mod component;
-/// Why there are no paragraphs.
+/// Why faults could not be explained.
 pub mod error;
-/// What happens in a run, instant after instant.
+/// Follows a run by the lines of its trace.
 mod follower;
-/// The operation of an expression that has a fault.
+/// Sentences on the operation that has a fault.
 mod operation;
 /// The reaction of one component at one instant.
 mod reaction;
 /// What expressions read.
 mod reads;
-/// The statement of a rule that has a fault.
+/// The search for the statement that has a fault.
 mod search;
-/// Why a reaction does not come to its end.
+/// Why a reaction ends early.
 mod stop;
-/// What is told of the faults.
-pub mod told;
-/// What names stand for, as text.
+/// The paragraphs on faults.
+pub mod paragraphs;
+/// Values as text.
 mod values;
-/// The door: a writer that is given the trace of a run.
+/// The interface: a writer that takes the trace of a run.
 pub mod writer;
 
 pub use error::FaultsError;
-pub use told::FileText;
+pub use paragraphs::FileText;
 pub use writer::FaultWriter;

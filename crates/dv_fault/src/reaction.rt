@@ -15,40 +15,40 @@ use std::alloc::AllocError;
 /// The ticks of the longest hold.
 const LONGEST_HOLD: u64 = 9_223_372_036_854_775_807;
 
-/// An instant of a component.
+/// What a component reacts to.
 #[derive(Clone, Copy)]
 pub(crate) struct Instant<'a> {
     pub(crate) time: Time,
     /// The greatest microstep of a tick.
     pub(crate) limit: u32,
-    /// What arrives at its input ports.
+    /// What arrives at its input ports, a bag for each.
     pub(crate) received: &'a Bags,
 }
 
-/// What becomes of a hold.
+/// What becomes of a hold after a transition.
 #[derive(Clone, Copy)]
 enum Hold {
     /// It goes on as it was.
     Continues,
-    /// One of so many ticks begins; `None` is forever.
+    /// A hold of so many ticks begins; `None` is forever.
     Begins(Option<u64>),
 }
 
-/// What a transition leaves.
+/// A component after a transition.
 #[derive(Drop)]
 struct After {
     state: State,
     hold: Hold,
 }
 
-/// What a rule leaves: the state, and whether a `goto` ran.
+/// What a rule results in: the state, and whether a `goto` ran.
 #[derive(Drop)]
 struct Changed {
     state: State,
     goes: bool,
 }
 
-/// What happens to a component: which transition it makes.
+/// The kind of transition that a component makes at an instant.
 pub(crate) fn kind_at(component: &Component, instant: &Instant<'_>) -> Kind {
     if component.until != Some(instant.time) {
         Kind::External
@@ -59,12 +59,13 @@ pub(crate) fn kind_at(component: &Component, instant: &Instant<'_>) -> Kind {
     }
 }
 
-/// Lets a component react at an instant, and answers when its hold runs out behind that; `None` is never.
+/// Repeats the reaction of a component at an instant, and answers when its hold ends after that;
+/// `None` is never.
 ///
 /// # Errors
 ///
-/// `Fault`: it has a fault, of these the first: of the output rule, the flood of what arrives, of the transition, of the hold, and of
-/// the microsteps. `Memory`: no memory for its states.
+/// `Fault`: the first of the faults of the output rule, the arrivals (a flood), the transition, the
+/// hold and the microsteps. `Memory`: no memory for its states.
 pub(crate) fn react(
     atom: &Atom<'_>,
     component: &Component,
@@ -72,9 +73,9 @@ pub(crate) fn react(
 ) -> Result<Option<Time>, Stop> {
     let kind = kind_at(component, instant);
     if kind != Kind::External {
-        leave_output(atom, &component.state)?;
+        run_output(atom, &component.state)?;
     }
-    come_in(atom, instant.received)?;
+    check_arrivals(atom, instant.received)?;
     let after = transition(atom, component, instant, kind)?;
     match after.hold {
         Hold::Continues => Ok(component.until),
@@ -82,13 +83,13 @@ pub(crate) fn react(
     }
 }
 
-// What the output rule sends does not matter, but that it has no fault.
-fn leave_output(atom: &Atom<'_>, state: &State) -> Result<(), Stop> {
-    let _sent = leave_rule(atom, RuleSort::Output, state, &Arrivals::nothing())?;
+// Runs the output rule for its faults alone.
+fn run_output(atom: &Atom<'_>, state: &State) -> Result<(), Stop> {
+    let _sent = apply_rule(atom, RuleSort::Output, state, &Arrivals::nothing())?;
     Ok(())
 }
 
-// What a transition of a kind leaves.
+// The component after a transition of a kind.
 fn transition(
     atom: &Atom<'_>,
     component: &Component,
@@ -107,11 +108,12 @@ fn transition(
     }
 }
 
-/// When the hold runs out of a component that made a transition of this kind to a state; `None` is never.
+/// When the hold of a component ends that has made a transition of this kind to a state; `None` is
+/// never.
 ///
 /// # Errors
 ///
-/// As `react`, where the transition did not take place.
+/// As `react`, if the component can't have made this transition.
 pub(crate) fn until_behind(
     atom: &Atom<'_>,
     component: &Component,
@@ -125,7 +127,7 @@ pub(crate) fn until_behind(
         Kind::External => component.state.phase != state.phase,
         Kind::Confluent => atom.rule(RuleSort::Confluent, phase).is_some(),
     };
-    // Where the line does not tell whether a hold began, and with which values, the rules do.
+    // If the line does not show whether a hold began, and with which values, the rules do.
     if !begins_there {
         return react(atom, component, instant);
     }
@@ -133,8 +135,8 @@ pub(crate) fn until_behind(
     end_of_hold(atom, state, instant, ticks)
 }
 
-// What the rule of a sort for the phase of a state leaves. Where there is none it is an empty one.
-fn leave_rule(
+// Runs the rule of a kind for the phase of a state. A missing rule changes nothing.
+fn apply_rule(
     atom: &Atom<'_>,
     sort: RuleSort,
     state: &State,
@@ -173,7 +175,7 @@ fn changed_by(effect: Effect) -> Changed {
 }
 
 fn internal(atom: &Atom<'_>, state: &State) -> Result<After, Stop> {
-    let changed = leave_rule(atom, RuleSort::Internal, state, &Arrivals::nothing())?;
+    let changed = apply_rule(atom, RuleSort::Internal, state, &Arrivals::nothing())?;
     with_hold(atom, changed.state)
 }
 
@@ -183,7 +185,7 @@ fn external(
     arrivals: &Arrivals<'_>,
     hold: Hold,
 ) -> Result<After, Stop> {
-    let changed = leave_rule(atom, RuleSort::External, state, arrivals)?;
+    let changed = apply_rule(atom, RuleSort::External, state, arrivals)?;
     if changed.goes {
         return with_hold(atom, changed.state);
     }
@@ -193,20 +195,21 @@ fn external(
     })
 }
 
-// Without a confluent rule, the internal rule and its hold come first, and then the external rule of the phase that is reached.
+// Without a confluent rule, the internal rule and its hold come first, then the external rule of
+// the phase reached.
 fn confluent(atom: &Atom<'_>, state: &State, arrivals: &Arrivals<'_>) -> Result<After, Stop> {
     if atom
         .rule(RuleSort::Confluent, atom.phase_of(state))
         .is_some()
     {
-        let changed = leave_rule(atom, RuleSort::Confluent, state, arrivals)?;
+        let changed = apply_rule(atom, RuleSort::Confluent, state, arrivals)?;
         return with_hold(atom, changed.state);
     }
     let After { state, hold } = internal(atom, state)?;
     external(atom, &state, arrivals, hold)
 }
 
-// A state, and the hold of its phase, which begins.
+// A state in which the hold of its phase begins.
 fn with_hold(atom: &Atom<'_>, state: State) -> Result<After, Stop> {
     let ticks = ticks_of(atom, &state)?;
     Ok(After {
@@ -227,7 +230,7 @@ fn ticks_of(atom: &Atom<'_>, state: &State) -> Result<Option<u64>, Stop> {
     }
 }
 
-// When a hold of so many ticks runs out that begins at an instant in a state; `None` is never.
+// When a hold of so many ticks ends that begins at an instant; `None` is never.
 fn end_of_hold(
     atom: &Atom<'_>,
     state: &State,
@@ -261,8 +264,8 @@ fn fault_of_hold(atom: &Atom<'_>, state: &State, fault: Fault) -> Result<Found, 
     })
 }
 
-// That no more values arrive than may come; or the flood at the first port that has more.
-fn come_in(atom: &Atom<'_>, received: &Bags) -> Result<(), Stop> {
+// Checks how many values arrive. The fault is that of the first input port with too many.
+fn check_arrivals(atom: &Atom<'_>, received: &Bags) -> Result<(), Stop> {
     if received.are_few() {
         return Ok(());
     }
@@ -286,7 +289,7 @@ fn flood_at(atom: &Atom<'_>, port: u32, count: u64) -> Result<Found, AllocError>
     })
 }
 
-// Where the model declares an input port.
+// The offset at which the model declares an input port.
 fn declared_at(atom: &Atom<'_>, port: u32) -> u32 {
     for declaration in &atom.model.declarations {
         if let Declaration::In(Name { number, offset }) = declaration

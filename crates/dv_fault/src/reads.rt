@@ -3,16 +3,16 @@
 use dv_syntax::{Command, Expr, Stmt};
 use std::alloc::{AllocError, Global};
 
-/// What an expression reads.
+/// Something that an expression reads.
 #[derive(Clone, Copy, PartialEq, Eq)]
 pub(crate) enum Read {
-    /// The state variable, the input port or the variable of a loop of this name.
+    /// The state variable, the input port or the variable of a loop with this name.
     Name(u32),
     /// `elapsed`
     Elapsed,
 }
 
-/// What a statement reads, without the blocks in it: each once, in the order of the text.
+/// What a statement reads, apart from its blocks: each once, in the order of the text.
 ///
 /// # Errors
 ///
@@ -35,7 +35,10 @@ fn add_reads_of(statement: &Stmt, reads: &mut Vec<Read>) -> Result<(), AllocErro
             name,
             ..
         } => add_read(Read::Name(name.number), reads),
-        Stmt::Command { .. } => Ok(()),
+        Stmt::Command {
+            command: Command::Goto,
+            ..
+        } => Ok(()),
     }
 }
 

@@ -1,4 +1,4 @@
-//! The statement of a rule that has a fault.
+//! The search for the statement of a rule that has a fault.
 
 use crate::atom::Atom;
 use crate::case::{offset_of, sentences_on_statement};
@@ -8,18 +8,18 @@ use dv_eval::{Context, Moment, eval, loop_values, run_statement};
 use dv_syntax::{Expr, Rule, Stmt};
 use std::alloc::AllocError;
 
-/// A rule whose statements are run one by one.
+/// A rule whose statements are run one after the other.
 #[derive(Clone, Copy)]
 struct Search<'a> {
     atom: &'a Atom<'a>,
     site: Site,
 }
 
-/// Where the fault of a rule is that has one in a state, with what has arrived.
+/// Finds the statement by which a rule has a fault in a state, with these arrivals.
 ///
 /// # Errors
 ///
-/// No memory for what is told of it.
+/// No memory for the states or the sentences.
 pub(crate) fn find_in_rule(
     atom: &Atom<'_>,
     rule: &Rule,
@@ -55,12 +55,12 @@ pub(crate) fn find_in_rule(
     }
 }
 
-// What a statement comes to.
+// How a statement ended.
 #[derive(Drop)]
 enum Tried {
-    /// What was done behind it.
+    /// It ran, with this effect so far.
     Ran(Effect),
-    /// It has a fault. What was done before it is kept.
+    /// It has a fault. The effect is that of the statements before it.
     Stopped(Effect, Fault),
 }
 
@@ -79,7 +79,7 @@ fn try_statement(
     }
 }
 
-// What statements do, one after the other. Where one has a fault, that is looked for inside of it.
+// Runs statements one after the other. If one has a fault, the search goes on in its blocks.
 #[cycle(follow)]
 fn follow(
     search: &Search<'_>,
@@ -96,7 +96,7 @@ fn follow(
     Ok(effect)
 }
 
-// The fault of a statement that has one: that of a statement in one of its blocks, or its own.
+// Finds the fault of a statement that has one: in one of its blocks, or its own.
 #[cycle(follow)]
 fn enter(
     search: &Search<'_>,
@@ -147,7 +147,7 @@ fn enter(
     }
 }
 
-// The values that a loop walks, in their order, each copy once.
+// The values of a loop in their order, with all copies.
 fn values_walked(
     search: &Search<'_>,
     name: u32,
@@ -169,7 +169,7 @@ fn push_copies(values: &mut Vec<i64>, value: i64, copies: u64) -> Result<(), All
     Ok(())
 }
 
-// Whether a condition is true behind what was done before.
+// Whether a condition is true after the effect so far.
 fn truth_at(
     search: &Search<'_>,
     condition: &Expr,
@@ -187,7 +187,7 @@ fn truth_at(
     }
 }
 
-// Ends at a statement that has a fault itself, behind what was done before it.
+// Stops at a statement that has a fault itself, after this effect.
 fn stop_at(
     search: &Search<'_>,
     statement: &Stmt,

@@ -1,17 +1,17 @@
-//! Why a reaction does not come to its end.
+//! Why a reaction ends early.
 
 use dv_bag::Fault;
 use dv_syntax::RuleSort;
 use std::alloc::{AllocError, AllocFailed};
 
-/// Of what a fault is.
+/// What has a fault.
 #[derive(Clone, Copy, PartialEq, Eq)]
 pub(crate) enum Site {
-    /// Of the rule of this sort for the phase of this name.
+    /// The rule of this kind for the phase with this name.
     Rule { sort: RuleSort, phase: u32 },
-    /// Of the hold of the phase of this name.
+    /// The hold of the phase with this name.
     Hold { phase: u32 },
-    /// Of what arrived at the input port of this name.
+    /// The arrivals at the input port with this name.
     Arrival { port: u32 },
 }
 
@@ -20,13 +20,13 @@ pub(crate) enum Site {
 pub(crate) struct Found {
     pub(crate) fault: Fault,
     pub(crate) site: Site,
-    /// How many bytes of the text come before the statement, the hold or the port.
+    /// The offset of the statement, the hold or the port, in bytes of the text.
     pub(crate) offset: u32,
     /// Sentences on the values there, each with a line feed.
     pub(crate) sentences: String,
 }
 
-/// Why a reaction does not come to its end.
+/// Why a reaction ends early.
 #[derive(Drop)]
 pub(crate) enum Stop {
     Fault(Found),
@@ -34,7 +34,7 @@ pub(crate) enum Stop {
 }
 
 impl Stop {
-    /// A fault, with what is told of it; or no memory for that.
+    /// Stops with a fault, or because there was no memory to describe it.
     pub(crate) fn of(found: Result<Found, AllocError>) -> Stop {
         match found {
             Ok(found) => Stop::Fault(found),

@@ -1,4 +1,4 @@
-//! What names stand for, as text.
+//! Values as text.
 
 use crate::atom::Atom;
 use crate::reads::Read;
@@ -11,7 +11,7 @@ use std::fmt;
 /// The most values that are shown of a collection.
 const SHOWN: u64 = 16;
 
-/// Adds a sentence with the values of what is read, and its line feed; nothing where nothing is read.
+/// Adds a sentence with a line feed on the values of what is read, or nothing if nothing is read.
 ///
 /// # Errors
 ///
@@ -32,7 +32,7 @@ pub(crate) fn push_reads(
     text.push_str(".\n")
 }
 
-// What stands before the phrase at an index of so many.
+// What separates the phrase at an index from the one before it.
 fn separator(index: usize, count: usize) -> &'static str {
     if index == 0 {
         ""
@@ -58,7 +58,7 @@ fn push_read(
     }
 }
 
-// What a name stands for: the variable of a loop, a variable, a flag, or the values of a collection or an input port.
+// Adds the value of a variable or a flag, or the values of a collection or an input port.
 fn push_value(
     text: &mut String,
     atom: &Atom<'_>,
@@ -82,7 +82,7 @@ fn push_value(
     }
 }
 
-// Values with their copies, as a trace has them. Of many the first ones are shown, and how many there are.
+// Adds values with their copies, as in a trace; of too many, the first ones and their number.
 fn push_pairs(text: &mut String, pairs: &[(i64, u64)]) -> Result<(), AllocError> {
     let mut count: u64 = 0;
     text.push('[')?;
@@ -102,10 +102,10 @@ fn push_copies(
     text: &mut String,
     value: i64,
     copies: u64,
-    is_behind: bool,
+    follows_another: bool,
 ) -> Result<(), AllocError> {
     for copy in 0..copies {
-        let comma = if is_behind || copy > 0 { "," } else { "" };
+        let comma = if follows_another || copy > 0 { "," } else { "" };
         write!(text, "{comma}{value}")?;
     }
     Ok(())

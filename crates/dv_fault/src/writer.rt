@@ -1,8 +1,8 @@
-//! A writer that is given the trace of a run, and explains its faults.
+//! A writer that takes the trace of a run and explains its faults.
 
 use crate::error::FaultsError;
 use crate::follower::Follower;
-use crate::told::FileText;
+use crate::paragraphs::FileText;
 use dv_bag::Inputs;
 use dv_flat::LinkLists;
 use dv_trace::{End, LineCutter, LineLists, TakeLine, TraceReader};
@@ -11,14 +11,15 @@ use std::alloc::Global;
 use std::io;
 use std::io::Write;
 
-/// A writer that takes the bytes of a trace as a run prints them, and explains the first faults of its components. Of the trace it keeps
-/// what each component is, and the lines of the last instant, so that it takes the same memory for any number of lines.
+/// A writer that takes the bytes of a trace as a run prints them, and explains the first faults of
+/// its components. It keeps the state of each component and the lines of the current instant, so
+/// its memory does not grow with the trace.
 #[derive(Drop)]
 pub struct FaultWriter<'t> {
     lines: LineCutter<Following<'t>>,
 }
 
-/// What reads the lines of a trace, and what follows what they say.
+/// Reads the lines of a trace, and follows the run by them.
 #[derive(Drop)]
 struct Following<'t> {
     reader: TraceReader<'t>,
@@ -28,7 +29,7 @@ struct Following<'t> {
 impl TakeLine for Following<'_> {
     type Error = FaultsError;
 
-    // A follower is given whole lines, whose lists are their own.
+    // The lists are not needed: the follower reads the whole line.
     fn take_line<'a>(
         &mut self,
         line: &'a [u8],
@@ -41,8 +42,9 @@ impl TakeLine for Following<'_> {
 }
 
 impl<'t> FaultWriter<'t> {
-    /// Takes a trace of the model of a tree from its first byte on. The links are those of the same tree, and `model` is the text
-    /// that it is of. The inputs and `limit`, the greatest microstep of a tick, are those of the run.
+    /// A writer for a trace of the model of a tree, from its first byte on. `links` are those of
+    /// this tree, and `model` is its text. `inputs` and `limit`, the greatest microstep of a tick,
+    /// are those of the run.
     ///
     /// # Errors
     ///
@@ -64,15 +66,15 @@ impl<'t> FaultWriter<'t> {
         })
     }
 
-    /// A paragraph for each of the first ten faults of the lines that were written, with an empty line between two, and a line that says
-    /// how many more there are. Without faults it is empty.
+    /// A paragraph for each of the first ten faults of the lines that were written, with empty
+    /// lines between them, and a last line if there are more. Without faults the text is empty.
     ///
     /// # Errors
     ///
-    /// `Refused` or `Memory` where a write to this one failed by it. `Memory`: no memory for the text.
+    /// `Refused` or `Memory`, if a write failed with it before. `Memory`: no memory for the text.
     pub fn finish(self) -> Result<String, FaultsError> {
         let FaultWriter { lines } = self;
-        // A run ends its last line.
+        // Bytes after the last line feed are ignored.
         let Following {
             reader: _,
             follower,

@@ -1,4 +1,4 @@
-//! What is told of the faults.
+//! The paragraphs on faults.
 
 use crate::atom::Atom;
 use crate::component::Component;
@@ -12,8 +12,8 @@ use std::alloc::{AllocError, Global};
 /// The most faults that are explained.
 const SHOWN: u64 = 10;
 
-/// What takes the place of a confluent rule.
-const IN_TURN: &str = "its internal rule is first, then the external rule of the phase reached.";
+/// What runs without a confluent rule.
+const ORDER: &str = "its internal rule is first, then the external rule of the phase reached.";
 
 /// The text of a model: the name of its file, and its bytes.
 #[derive(Clone, Copy)]
@@ -24,18 +24,18 @@ pub struct FileText<'a> {
     pub bytes: &'a [u8],
 }
 
-/// A paragraph for each of the first faults, and how many there are.
+/// A paragraph for each of the first faults, and the number of all.
 #[derive(Drop)]
-pub(crate) struct Told<'a> {
+pub(crate) struct Paragraphs<'a> {
     model: FileText<'a>,
     text: String,
     count: u64,
 }
 
-impl<'a> Told<'a> {
-    /// No faults of a model of this text.
+impl<'a> Paragraphs<'a> {
+    /// No faults yet, of a model with this text.
     pub(crate) fn new(alloc: Global, model: FileText<'a>) -> Self {
-        Told {
+        Paragraphs {
             model,
             text: String::new(alloc),
             count: 0,
@@ -47,16 +47,16 @@ impl<'a> Told<'a> {
         self.count >= SHOWN
     }
 
-    /// One fault more that is not explained.
+    /// Counts a fault that is not explained.
     pub(crate) fn count_one(&mut self) {
         self.count = self.count.saturating_add(1);
     }
 
-    /// Explains the fault that a component has at an instant, where it is one of the first.
+    /// Counts the fault of a component at an instant, and explains it if it is one of the first.
     ///
     /// # Errors
     ///
-    /// No memory for what is told.
+    /// No memory for the paragraph.
     pub(crate) fn explain(
         &mut self,
         atom: &Atom<'_>,
@@ -67,7 +67,7 @@ impl<'a> Told<'a> {
             match react(atom, component, instant) {
                 Err(Stop::Fault(found)) => self.push_paragraph(atom, component, instant, &found)?,
                 Err(Stop::Memory) => return Err(AllocError),
-                // The trace tells of a fault, so there is one.
+                // The trace has a fault here, so this does not happen.
                 Ok(_) => {}
             }
         }
@@ -100,13 +100,13 @@ impl<'a> Told<'a> {
         self.text.push_str(paragraph.as_str())
     }
 
-    /// The paragraphs, with an empty line between two, and a line that says how many faults more there are.
+    /// The paragraphs with empty lines between them, and a last line if there are more faults.
     ///
     /// # Errors
     ///
     /// No memory for the line.
     pub(crate) fn into_text(self) -> Result<String, AllocError> {
-        let Told {
+        let Paragraphs {
             model: _,
             mut text,
             count,
@@ -121,7 +121,7 @@ impl<'a> Told<'a> {
     }
 }
 
-// When and where a fault is, and of what.
+// When and where the fault happened, and what has it.
 fn summary_of(atom: &Atom<'_>, instant: &Instant<'_>, found: &Found) -> Result<String, AllocError> {
     let mut path = String::new(atom.alloc);
     atom.tree.push_path(&mut path, atom.path)?;
@@ -132,7 +132,7 @@ fn summary_of(atom: &Atom<'_>, instant: &Instant<'_>, found: &Found) -> Result<S
     format!(in atom.alloc; "at {time} in `{path}` of the model {model}, {site} {name}")
 }
 
-// What has a fault, in words, before the number of its name.
+// What has the fault, in words, and the number of its name.
 fn words_of(site: Site) -> (&'static str, u32) {
     match site {
         Site::Rule { sort, phase } => (word_of(sort), phase),
@@ -150,7 +150,7 @@ fn word_of(sort: RuleSort) -> &'static str {
     }
 }
 
-// The values at the fault, how it came to that rule where that is not plain, and what the fault means.
+// The values at the fault, why that rule ran if that is not obvious, and what the fault means.
 fn sentences_of(
     atom: &Atom<'_>,
     component: &Component,
@@ -158,13 +158,13 @@ fn sentences_of(
     found: &Found,
 ) -> Result<String, AllocError> {
     let mut text = String::from_str(atom.alloc, found.sentences.as_str())?;
-    push_turn(&mut text, atom, component, instant, found.site)?;
+    push_order(&mut text, atom, component, instant, found.site)?;
     push_meaning(&mut text, found.fault)?;
     Ok(text)
 }
 
-// That the rules and holds which take the place of a confluent rule come one after the other, where one of them has the fault.
-fn push_turn(
+// Adds which rules run without a confluent rule, if one of them or its hold has the fault.
+fn push_order(
     text: &mut String,
     atom: &Atom<'_>,
     component: &Component,
@@ -172,20 +172,20 @@ fn push_turn(
     site: Site,
 ) -> Result<(), AllocError> {
     let phase = atom.phase_of(&component.state);
-    let is_in_turn = kind_at(component, instant) == Kind::Confluent
+    let is_replaced = kind_at(component, instant) == Kind::Confluent
         && atom.rule(RuleSort::Confluent, phase).is_none()
-        && comes_in_turn(site);
-    if !is_in_turn {
+        && replaces_confluent(site);
+    if !is_replaced {
         return Ok(());
     }
     let phase = Quoted(atom.name(phase));
     writeln!(
         text,
-        "Values came as the hold of {phase} ran out, which has no confluent rule: {IN_TURN}"
+        "Values came as the hold of {phase} ran out, which has no confluent rule: {ORDER}"
     )
 }
 
-// What the fault means.
+// Adds what the fault means.
 fn push_meaning(text: &mut String, fault: Fault) -> Result<(), AllocError> {
     let code = fault.word();
     let Some(explanation) = explanation_of(code) else {
@@ -198,10 +198,13 @@ fn push_meaning(text: &mut String, fault: Fault) -> Result<(), AllocError> {
     Ok(())
 }
 
-// Whether what has a fault is one of the rules and holds that take the place of a confluent rule.
-fn comes_in_turn(site: Site) -> bool {
+// Whether a rule or hold runs in the place of a confluent rule.
+fn replaces_confluent(site: Site) -> bool {
     match site {
-        Site::Rule { sort, .. } => sort != RuleSort::Output,
+        Site::Rule { sort, .. } => match sort {
+            RuleSort::Internal | RuleSort::External => true,
+            RuleSort::Output | RuleSort::Confluent => false,
+        },
         Site::Hold { .. } => true,
         Site::Arrival { .. } => false,
     }
