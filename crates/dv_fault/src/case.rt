@@ -101,7 +101,7 @@ fn push_sent(
     fault: Fault,
 ) -> Result<(), AllocError> {
     if fault == Fault::Flood {
-        return writeln!(text, "The rule has sent {GREATEST_COUNT} values before.");
+        return writeln!(text, "The rule had already sent {GREATEST_COUNT} values.");
     }
     push_operation(text, atom, moment, value)
 }
@@ -124,7 +124,7 @@ fn push_changed(
     let noun = if capacity == 1 { "value" } else { "values" };
     writeln!(
         text,
-        "{name} has {capacity} {noun}, its capacity."
+        "{name} already holds {capacity} {noun}, its capacity."
     )
 }
 

@@ -13,7 +13,7 @@ use std::alloc::{AllocError, Global};
 const SHOWN: u64 = 10;
 
 /// What runs without a confluent rule.
-const ORDER: &str = "its internal rule is first, then the external rule of the phase reached.";
+const ORDER: &str = "its internal rule runs first, then the external rule of the phase reached.";
 
 /// The text of a model: the name of its file, and its bytes.
 #[derive(Clone, Copy)]
@@ -113,9 +113,9 @@ impl<'a> Paragraphs<'a> {
         } = self;
         let more = count.saturating_sub(SHOWN);
         if more == 1 {
-            text.push_str("\n1 fault more is in the trace.\n")?;
+            text.push_str("\n1 more fault is in the trace.\n")?;
         } else if more > 1 {
-            writeln!(text, "\n{more} faults more are in the trace.")?;
+            writeln!(text, "\n{more} more faults are in the trace.")?;
         }
         Ok(text)
     }
@@ -181,7 +181,7 @@ fn push_order(
     let phase = Quoted(atom.name(phase));
     writeln!(
         text,
-        "Values came as the hold of {phase} ran out, which has no confluent rule: {ORDER}"
+        "Values arrived as the hold of {phase} ended, and this phase has no confluent rule: {ORDER}"
     )
 }
 

@@ -285,7 +285,7 @@ fn flood_at(atom: &Atom<'_>, port: u32, count: u64) -> Result<Found, AllocError>
         fault: Fault::Flood,
         site: Site::Arrival { port },
         offset: declared_at(atom, port),
-        sentences: format!(in atom.alloc; "{count} values came to {name} at once.\n")?,
+        sentences: format!(in atom.alloc; "{count} values arrived at {name} at once.\n")?,
     })
 }
 
