@@ -75,8 +75,15 @@ pub(crate) fn react(
     if kind != Kind::External {
         run_output(atom, &component.state)?;
     }
-    check_arrivals(atom, instant.received)?;
-    let after = transition(atom, component, instant, kind)?;
+    if !instant.received.are_few() {
+        return Err(flood_of(atom, instant.received));
+    }
+    let elapsed = match kind {
+        Kind::External => instant.time.tick.saturating_sub(component.last),
+        Kind::Internal | Kind::Confluent => 0,
+    };
+    let arrivals = Arrivals::new(instant.received, elapsed);
+    let after = transition(atom, &component.state, &arrivals, kind)?;
     match after.hold {
         Hold::Continues => Ok(component.until),
         Hold::Begins(ticks) => end_of_hold(atom, &after.state, instant, ticks),
@@ -89,22 +96,17 @@ fn run_output(atom: &Atom<'_>, state: &State) -> Result<(), Stop> {
     Ok(())
 }
 
-// The component after a transition of a kind.
+// A component after a transition of a kind from a state.
 fn transition(
     atom: &Atom<'_>,
-    component: &Component,
-    instant: &Instant<'_>,
+    state: &State,
+    arrivals: &Arrivals<'_>,
     kind: Kind,
 ) -> Result<After, Stop> {
-    let state = &component.state;
     match kind {
         Kind::Internal => internal(atom, state),
-        Kind::External => {
-            let elapsed = instant.time.tick.saturating_sub(component.last);
-            let arrivals = Arrivals::new(instant.received, elapsed);
-            external(atom, state, &arrivals, Hold::Continues)
-        }
-        Kind::Confluent => confluent(atom, state, &Arrivals::new(instant.received, 0)),
+        Kind::External => external(atom, state, arrivals, Hold::Continues),
+        Kind::Confluent => confluent(atom, state, arrivals),
     }
 }
 
@@ -264,19 +266,16 @@ fn fault_of_hold(atom: &Atom<'_>, state: &State, fault: Fault) -> Result<Found, 
     })
 }
 
-// Checks how many values arrive. The fault is that of the first input port with too many.
-fn check_arrivals(atom: &Atom<'_>, received: &Bags) -> Result<(), Stop> {
-    if received.are_few() {
-        return Ok(());
-    }
+// The flood of what arrives, at the first input port with too many values.
+fn flood_of(atom: &Atom<'_>, received: &Bags) -> Stop {
     for held in received.held() {
         let count = held.bag.size();
         if count > GREATEST_COUNT {
             let port = atom.scope.inputs().get(held.port).copied();
-            return Err(Stop::of(flood_at(atom, port.unwrap_or(0), count)));
+            return Stop::of(flood_at(atom, port.unwrap_or(0), count));
         }
     }
-    Err(Stop::of(flood_at(atom, 0, 0)))
+    Stop::of(flood_at(atom, 0, 0))
 }
 
 fn flood_at(atom: &Atom<'_>, port: u32, count: u64) -> Result<Found, AllocError> {
