@@ -240,6 +240,35 @@ pub struct Block {
     pub statements: Vec<Stmt>,
 }
 
+impl Block {
+    /// Whether a `goto` runs wherever this block runs to its end. A loop may have nothing to run
+    /// for.
+    pub fn always_goes(&self) -> bool {
+        for statement in &self.statements {
+            let goes = match statement {
+                Stmt::Command { command, .. } => match command {
+                    Command::Goto => true,
+                    Command::Pop => false,
+                },
+                Stmt::IfElse {
+                    then_block,
+                    else_block,
+                    ..
+                } => then_block.always_goes() && else_block.always_goes(),
+                Stmt::Assign { .. }
+                | Stmt::Send { .. }
+                | Stmt::If { .. }
+                | Stmt::For { .. }
+                | Stmt::Change { .. } => false,
+            };
+            if goes {
+                return true;
+            }
+        }
+        false
+    }
+}
+
 /// A bound of a range or a start value: a number, perhaps behind a minus sign whose offset is kept.
 #[derive(Clone, Copy, PartialEq, Eq)]
 pub struct Bound {
