@@ -18,7 +18,7 @@ IsOfRun limit t = t.micro ≤ limit
 abbrev pub succ : ℕ → Time → Time
 succ limit t = if nat_lt t.micro limit then record { tick = t.tick; micro = t.micro + 1 } else record { tick = t.tick + 1; micro = 0 }
 
--- when a hold that begins at a time runs out; a hold of 0 wants another microstep
+-- when a hold that begins at a time ends; a hold of 0 needs another microstep
 abbrev pub after : ℕ → Time → ℕ → Result Time Microsteps
 after limit t zero = if nat_lt t.micro limit then Ok (record { tick = t.tick; micro = t.micro + 1 }) else Err (record {})
 after limit t (suc hold) = Ok (record { tick = t.tick + suc hold; micro = 0 })
@@ -41,21 +41,21 @@ time_of limit n = record { tick = tick_of limit n; micro = micro_of limit n }
 abbrev pub end_of : ℕ → ℕ → ℕ
 end_of limit horizon = (horizon + 1) * (limit + 1)
 
--- by tick, then by microstep
+-- the order by tick, then by microstep
 abbrev pub time_cmp : Time → Time → Ordering
 time_cmp a b = ordering_then (nat_cmp a.tick b.tick) (nat_cmp a.micro b.micro)
 
--- is the first time before the second
+-- whether the first time is before the second
 abbrev pub is_before : Time → Time → Bool
 is_before a b = is_lt (time_cmp a b)
 
--- the lesser of two ranks, or of two counts of ticks, of which each may be never
+-- the lesser of two ranks, or of two counts of ticks; None is never
 abbrev pub earlier : Option ℕ → Option ℕ → Option ℕ
 earlier None b = b
 earlier (Some x) None = Some x
 earlier (Some x) (Some y) = Some (min x y)
 
--- the earlier of two times, of which each may be never
+-- the earlier of two times; None is never
 abbrev pub earliest : Option Time → Option Time → Option Time
 earliest None b = b
 earliest (Some t) None = Some t

@@ -1,4 +1,4 @@
-//! Laws of superdense time. Each function stands for the law in its contract; its body does nothing.
+//! Laws of superdense time. Each function states a law in its contract; its body does nothing.
 
 ghost use Rattle.std.specs.Prelude.{◌≡◌, ◌↔◌, ℕ, ◌+◌, ◌*◌, ◌<◌, ◌≤◌, IsTrue, Ok, nat_lt, suc};
 ghost use Rattle.std.specs.Ordering.{is_eq};
@@ -37,7 +37,7 @@ pub fn holds_end_later()
         → rank limit u ≡ rank limit t + 1 }
 {}
 
-/// What is before the end of a run is within its horizon.
+/// A time before the end of a run is within its horizon.
 pub fn the_end_follows_the_horizon()
     ensures within { (limit horizon : ℕ) (t : Time) → IsOfRun limit t → t.tick ≤ horizon
         → rank limit t < end_of limit horizon }

@@ -1,4 +1,4 @@
-//! Times, the next time, and when a hold runs out.
+//! Times, the next time, and when a hold ends.
 
 ghost use Rattle.std.specs.Prelude.{◌≡◌, ◌+◌, ◌^◌, ◌<◌, ◌≤◌, ℕ, Some, nat_lt};
 ghost use Rattle.std.proofs.Common.{rules};
@@ -54,7 +54,7 @@ impl Time {
         }
     }
 
-    /// When a hold of so many ticks that begins now runs out.
+    /// When a hold of `hold` ticks that begins now ends.
     ///
     /// # Errors
     ///
@@ -79,7 +79,7 @@ impl Time {
         }
     }
 
-    /// Whether this time is before another, as `<` says too.
+    /// Whether this time is before another: the same as `<`.
     #[inline]
     pub fn is_before(self, other: Time) -> bool
         ensures order { result ≡ is_before self other }
@@ -90,7 +90,7 @@ impl Time {
     }
 }
 
-// Whether a time is before another, with no jump: nothing foretells which one is first.
+// Compares without a branch: which of two times is the earlier one cannot be predicted.
 #[inline]
 fn precedes(one: Time, other: Time) -> bool
     ensures { result ≡ is_before one other }
@@ -98,7 +98,7 @@ fn precedes(one: Time, other: Time) -> bool
     (one.tick < other.tick) | ((one.tick == other.tick) & (one.micro < other.micro))
 }
 
-/// The earlier of two times, of which each may be never.
+/// The earlier of two times, where `None` is never.
 #[inline]
 pub fn earliest(one: Option<Time>, other: Option<Time>) -> Option<Time>
     ensures { result ≡ earliest one other }
