@@ -1,4 +1,4 @@
--- What the numbers of the language give: exact results, or a fault.
+-- Arithmetic of the language: exact results, or a fault.
 use Rattle.std.specs.Prelude.{ℤ, pos, neg_ℤ, ◌^◌, Bool, not, ◌&&◌, if◌then◌else◌, int_lt, int_div, int_rem, Option, Some, None}
 use Rattle.std.specs.Prelude.{Result, Ok, Err}
 use Rattle.std.specs.Ordering.{int_eq}
@@ -14,11 +14,11 @@ is_kept n = not (int_lt n (neg_ℤ (pos (2 ^ 63)))) && int_lt n (pos (2 ^ 63))
 abbrev pub number_or_overflow : ℤ → Result Value Fault
 number_or_overflow n = if is_kept n then Ok (Number n) else Err Overflow
 
--- towards 0
+-- rounded towards 0
 abbrev pub quotient : ℤ → ℤ → Result Value Fault
 quotient a b = if int_eq b (pos 0) then Err Divide else number_or_overflow (int_div a b)
 
--- what the exact quotient leaves
+-- the remainder of the division that rounds towards 0
 abbrev pub remainder : ℤ → ℤ → Result Value Fault
 remainder a b = if int_eq b (pos 0) then Err Divide else Ok (Number (int_rem a b))
 

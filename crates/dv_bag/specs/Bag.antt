@@ -1,5 +1,5 @@
 -- Bags: finite maps from whole numbers to counts above 0, as their pairs in ascending order.
--- A count above 2^64 - 1 stands as that number.
+-- A count above 2^64 - 1 is kept as that number.
 use Rattle.std.specs.Prelude.{ℕ, zero, suc, ◌+◌, ◌-◌, ◌^◌, ◌<◌, min, nat_eq, nat_lt, Bool, if◌then◌else◌, List, [], ◌∷◌, ◌++◌}
 use Rattle.std.specs.Prelude.{replicate, slice_index_or, ℤ, pos, negsuc, ◌+ℤ◌, ◌*ℤ◌, ◌<ℤ◌, Option, Some, None, Result, Ok, Err}
 use Rattle.std.specs.Ordering.{int_cmp, match_ordering}
@@ -9,7 +9,7 @@ use Rattle.dv_bag.specs.declared.fault.Fault.TheVariants.{Overflow}
 abbrev pub Counts : Type 0
 Counts = List (ℤ × ℕ)
 
--- a count, or the greatest one that is kept
+-- a count, at most the greatest one that is kept
 abbrev pub capped : ℕ → ℕ
 capped n = min n (2 ^ 64 - 1)
 
@@ -32,17 +32,17 @@ abbrev pub index_of : ℤ → Counts → ℕ
 index_of v [] = 0
 index_of v (p ∷ ps) = match_ordering (int_cmp v p.0) 0 0 (suc (index_of v ps))
 
--- so many more copies of a value, of which there is one at least
+-- with more copies of a value, at least one
 abbrev pub with_some : ℤ → ℕ → Counts → Counts
 with_some v n [] = (v, capped n) ∷ []
 with_some v n (p ∷ ps) = match_ordering (int_cmp v p.0) ((v, capped n) ∷ p ∷ ps) ((p.0, capped (p.1 + n)) ∷ ps) (p ∷ with_some v n ps)
 
--- so many more copies of a value; none leave the bag as it is
+-- with more copies of a value; zero copies leave the bag as it is
 abbrev pub with_copies : ℤ → ℕ → Counts → Counts
 with_copies v zero b = b
 with_copies v (suc n) b = with_some v (suc n) b
 
--- one copy less, where there is one
+-- without one copy, if there is one
 abbrev pub without_one : ℤ → Counts → Counts
 without_one v [] = []
 without_one v (p ∷ ps) = match_ordering (int_cmp v p.0) (p ∷ ps) (if nat_eq p.1 1 then ps else (p.0, p.1 - 1) ∷ ps) (p ∷ without_one v ps)

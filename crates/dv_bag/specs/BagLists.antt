@@ -2,7 +2,7 @@
 use Rattle.std.specs.Prelude.{ℕ, List, [], slice_index_or}
 use Rattle.dv_bag.specs.Bag.{Counts, IsBag, bag_at}
 
--- at every port stands a bag
+-- there is a bag at every port
 abbrev pub AreBags : List Counts → Type 0
 AreBags bags = (port : ℕ) → IsBag (bag_at bags port)
 

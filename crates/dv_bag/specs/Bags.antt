@@ -4,12 +4,12 @@ use Rattle.std.specs.List.{AllWithin}
 use Rattle.dv_bag.specs.Bag.{Counts, total}
 use Rattle.dv_bag.specs.declared.bags.PortBag.{PortBag}
 
--- the bag of a port; where none stands there are no values
+-- the bag of a port; if there is none, there are no values
 abbrev pub bag_in : ℕ → List PortBag → Counts
 bag_in port [] = []
 bag_in port (h ∷ hs) = if nat_eq h.port port then h.bag else bag_in port hs
 
--- a bag for each of so many ports, from one on
+-- a bag for each of a number of ports, from one on
 abbrev pub from_port : ℕ → ℕ → (ℕ → Counts) → List Counts
 from_port port zero bag = []
 from_port port (suc ports) bag = bag port ∷ from_port (port + 1) ports bag
@@ -27,11 +27,11 @@ abbrev pub RiseFrom : ℕ → List PortBag → Type 0
 RiseFrom low [] = Unit {0}
 RiseFrom low (h ∷ hs) = (low ≤ h.port) × RiseFrom (suc h.port) hs
 
--- the bag of a port stands at an index
+-- the bag of a port is at an index
 abbrev pub StandsAt : ℕ → ℕ → List PortBag → Type 0
 StandsAt port index hs = (index < length hs) × ((d : PortBag) → (slice_index_or hs index d).port ≡ port)
 
--- no bag stands for a port, and one goes in at an index
+-- there is no bag of a port, and one goes in at an index
 abbrev pub GoesInAt : ℕ → ℕ → List PortBag → Type 0
 GoesInAt port index hs = (index ≤ length hs)
     × AllWithin (λ h. h.port < port) hs 0 index

@@ -1,9 +1,9 @@
--- What a walk over inputs does.
+-- The steps of a loop over inputs.
 use Rattle.std.specs.Prelude.{List, [], ◌∷◌, slice_set}
 use Rattle.dv_bag.specs.Bag.{Counts, bag_at, with_copies}
 use Rattle.dv_bag.specs.declared.inputs.Input.{Input}
 
--- bags by port with one more value, which goes to no bag where its port has none
+-- bags by port with one more value; it is dropped if there is no bag of its port
 abbrev pub with_input : Input → List Counts → List Counts
 with_input i bags = slice_set bags i.port (with_copies i.value 1 (bag_at bags i.port))
 

@@ -1,4 +1,4 @@
--- What is read of a state.
+-- Reading a state.
 use Rattle.std.specs.Prelude.{◌≡◌, ℕ, ◌≤◌, List, [], Option, Some, None, slice_get}
 use Rattle.dv_bag.specs.Collections.{count_in}
 use Rattle.dv_bag.specs.Limits.{greatest_count}
@@ -15,13 +15,13 @@ datum_of (view.Number n) = datum.Number n
 datum_of (view.Flag b) = datum.Flag b
 datum_of (view.Held c) = datum.Held c.now
 
--- a collection that is read has at most so many values
+-- a collection that is read has at most the greatest count of values
 abbrev pub HoldsFew : DatumView → Type 0
 HoldsFew (view.Number n) = Unit {0}
 HoldsFew (view.Flag b) = Unit {0}
 HoldsFew (view.Held c) = count_in c.now ≤ greatest_count
 
--- the collection that a datum is; where it is none, the empty bag
+-- the collection of a datum; the empty bag if it is none
 abbrev pub held_of_datum : Option Datum → Collection
 held_of_datum None = collection.Bag []
 held_of_datum (Some (datum.Number n)) = collection.Bag []

@@ -1,4 +1,4 @@
--- Equality of bags, collections and variables, as tests.
+-- Equality of bags, collections and variables, as functions.
 use Rattle.std.specs.Prelude.{◌≡◌, ℕ, Bool, true, false, ◌&&◌, List, [], ℤ, pos, nat_eq, refl}
 use Rattle.std.specs.Bool.{Decides}
 use Rattle.std.specs.Ordering.{int_eq}
@@ -13,29 +13,29 @@ use Rattle.dv_bag.specs.declared.state.Datum.{Datum}
 use Rattle.dv_bag.specs.declared.state.Datum.TheVariants as datum
 use mathlib.Core.Bool.{beq}
 
--- have two pairs the same value and the same count
+-- whether two pairs have the same value and the same count
 abbrev pub same_pair : ℤ × ℕ → ℤ × ℕ → Bool
 same_pair p q = int_eq p.0 q.0 && nat_eq p.1 q.1
 
--- have two bags the same values, each as often
+-- whether two bags have the same values with the same counts
 abbrev pub same_bag : Counts → Counts → Bool
 same_bag = pointwise same_pair
 
 abbrev pub same_bags : List Counts → List Counts → Bool
 same_bags = pointwise same_bag
 
--- have two queues the same values in the same order
+-- whether two queues have the same values in the same order
 abbrev pub same_values : List ℤ → List ℤ → Bool
 same_values = pointwise int_eq
 
--- are two collections of one discipline, with the same values
+-- whether two collections have the same discipline and the same values
 abbrev pub same_collection : Collection → Collection → Bool
 same_collection (collection.Bag a) (collection.Bag b) = same_bag a b
 same_collection (collection.Bag a) (collection.Queue b) = false
 same_collection (collection.Queue a) (collection.Bag b) = false
 same_collection (collection.Queue a) (collection.Queue b) = same_values a b
 
--- are two the same number, the same flag or the same collection
+-- whether two data are the same number, flag or collection
 abbrev pub same_datum : Datum → Datum → Bool
 same_datum (datum.Number a) (datum.Number b) = int_eq a b
 same_datum (datum.Number a) (datum.Flag b) = false
@@ -62,7 +62,7 @@ same_bag-decides = pointwise_decides same_pair-decides
 pub same_bags-decides : (a b : List Counts) → Decides (same_bags a b) (a ≡ b)
 same_bags-decides = pointwise_decides same_bag-decides
 
--- what tells the kinds of data apart, and what each holds
+-- what distinguishes the kinds of data, and what each holds
 number_in : Datum → ℤ
 number_in (datum.Number n) = n
 number_in (datum.Flag b) = pos 0

@@ -1,4 +1,4 @@
--- What is sent, as one list of copies of values: the bag of each port has all the copies that go there.
+-- What is sent, as one list of copies of values: the bag of each port has all copies that are sent there.
 use Rattle.std.specs.Prelude.{◌≡◌, ℕ, zero, suc, ◌+◌, ◌^◌, ◌<◌, ◌≤◌, nat_eq, if◌then◌else◌, List, [], ◌∷◌, length, slice_index_or, ℤ, ◌<ℤ◌}
 use Rattle.std.specs.List.{AllWithin}
 use Rattle.std.specs.Ordering.{int_cmp, nat_cmp, ordering_then}
@@ -6,7 +6,7 @@ use Rattle.std.specs.declared.cmp.Ordering.{Ordering}
 use Rattle.dv_bag.specs.Bag.{Counts, with_copies}
 use Rattle.dv_bag.specs.declared.sent.Sending.{Sending}
 
--- the values of a bag, and then those that go to a port
+-- the values of a bag, and those that are sent at a port
 abbrev pub sent_into : ℕ → List Sending → Counts → Counts
 sent_into port [] b = b
 sent_into port (s ∷ ss) b = sent_into port ss (if nat_eq s.port port then with_copies s.value s.copies b else b)
@@ -14,12 +14,12 @@ sent_into port (s ∷ ss) b = sent_into port ss (if nat_eq s.port port then with
 abbrev pub sent_at : ℕ → List Sending → Counts
 sent_at port ss = sent_into port ss []
 
--- each value that goes to a port and its copies, as they lie
+-- each value that is sent at a port and its copies, in order
 abbrev pub pairs_at : ℕ → List Sending → Counts
 pairs_at port [] = []
 pairs_at port (s ∷ ss) = if nat_eq s.port port then (s.value, s.copies) ∷ pairs_at port ss else pairs_at port ss
 
--- the bags of so many ports, from one on
+-- the bags of a number of ports, from one on
 abbrev pub from_port : ℕ → ℕ → List Sending → List Counts
 from_port port zero ss = []
 from_port port (suc ports) ss = sent_at port ss ∷ from_port (port + 1) ports ss
@@ -27,7 +27,7 @@ from_port port (suc ports) ss = sent_at port ss ∷ from_port (port + 1) ports s
 abbrev pub by_port : ℕ → List Sending → List Counts
 by_port ports ss = from_port 0 ports ss
 
--- copies go to these ports alone, and each count is above 0 and kept
+-- copies are sent at these ports alone, and each count is above 0 and kept
 abbrev pub AreWithin : ℕ → List Sending → Type 0
 AreWithin ports [] = Unit {0}
 AreWithin ports (s ∷ ss) = (s.port < ports) × (0 < s.copies) × (s.copies < 2 ^ 64) × AreWithin ports ss
@@ -61,12 +61,12 @@ IsIndexOf port value index ss = (index ≤ length ss)
     × AllWithin (λ s. ComesBefore s.port s.value port value) ss 0 index
     × AllWithin (λ s. ComesBefore port value s.port s.value) ss index (length ss)
 
--- copies of this value that go to this port stand at this index
+-- the copies of this value at this port are at this index
 abbrev pub HasCopiesAt : ℕ → ℤ → ℕ → List Sending → Type 0
 HasCopiesAt port value index ss = (index < length ss)
     × ((d : Sending) → ((slice_index_or ss index d).port ≡ port) × ((slice_index_or ss index d).value ≡ value))
 
--- how many copies there are
+-- the number of copies
 abbrev pub copies_in : List Sending → ℕ
 copies_in [] = 0
 copies_in (s ∷ ss) = s.copies + copies_in ss

@@ -22,12 +22,12 @@ fault_word Negative = codes "negative"
 fault_word Microsteps = codes "microsteps"
 fault_word Flood = codes "flood"
 
--- a word is read as the kind that it stands for, and as none where it stands for no kind
+-- a word is read as the kind that it names, and is refused if it names none
 abbrev pub ReadsKind : List ℕ → Result Kind NoKind → Type 0
 ReadsKind word (Ok kind) = word ≡ kind_word kind
 ReadsKind word (Err none) = (kind : Kind) → word ≢ kind_word kind
 
--- and the same of a fault
+-- the same for faults
 abbrev pub ReadsFault : List ℕ → Result Fault NoFault → Type 0
 ReadsFault word (Ok fault) = word ≡ fault_word fault
 ReadsFault word (Err none) = (fault : Fault) → word ≢ fault_word fault

@@ -1,4 +1,4 @@
-//! What the numbers of the language give: exact results, or a fault.
+//! Arithmetic of the language: exact results, or a fault.
 
 ghost use Rattle.std.specs.Prelude.{◌≡◌, ◌+ℤ◌, ◌-ℤ◌, ◌*ℤ◌, neg_ℤ, pos};
 ghost use Rattle.dv_bag.specs.Arithmetic.{number_or_empty, number_or_overflow, quotient, remainder};
@@ -10,7 +10,7 @@ use crate::value::Value;
 ///
 /// # Errors
 ///
-/// `Overflow` where it is no number of 64 bits.
+/// `Overflow` if it does not fit into 64 bits.
 pub fn sum(a: i64, b: i64) -> Result<Value, Fault>
     ensures { result ≡ number_or_overflow (a +ℤ b) }
 {
@@ -24,7 +24,7 @@ pub fn sum(a: i64, b: i64) -> Result<Value, Fault>
 ///
 /// # Errors
 ///
-/// `Overflow` where it is no number of 64 bits.
+/// `Overflow` if it does not fit into 64 bits.
 pub fn difference(a: i64, b: i64) -> Result<Value, Fault>
     ensures { result ≡ number_or_overflow (a -ℤ b) }
 {
@@ -38,7 +38,7 @@ pub fn difference(a: i64, b: i64) -> Result<Value, Fault>
 ///
 /// # Errors
 ///
-/// `Overflow` where it is no number of 64 bits.
+/// `Overflow` if it does not fit into 64 bits.
 pub fn product(a: i64, b: i64) -> Result<Value, Fault>
     ensures { result ≡ number_or_overflow (a *ℤ b) }
 {
@@ -48,11 +48,11 @@ pub fn product(a: i64, b: i64) -> Result<Value, Fault>
     }
 }
 
-/// A number with the other sign.
+/// The negated number.
 ///
 /// # Errors
 ///
-/// `Overflow` where it is no number of 64 bits.
+/// `Overflow` if it does not fit into 64 bits.
 pub fn negated(number: i64) -> Result<Value, Fault>
     ensures { result ≡ number_or_overflow (neg_ℤ number) }
 {
@@ -62,11 +62,11 @@ pub fn negated(number: i64) -> Result<Value, Fault>
     }
 }
 
-/// The quotient of two numbers, towards 0.
+/// The quotient of two numbers, rounded towards 0.
 ///
 /// # Errors
 ///
-/// `Divide` by 0, and `Overflow` where it is no number of 64 bits.
+/// `Divide` if the divisor is 0, and `Overflow` if the quotient does not fit into 64 bits.
 pub fn quotient(a: i64, b: i64) -> Result<Value, Fault>
     ensures { result ≡ quotient a b }
 {
@@ -79,11 +79,11 @@ pub fn quotient(a: i64, b: i64) -> Result<Value, Fault>
     }
 }
 
-/// The remainder of the division of the first number by the second, with the sign of the first.
+/// The remainder of the division of the first number by the second. It has the sign of the first.
 ///
 /// # Errors
 ///
-/// `Divide` by 0.
+/// `Divide` if the divisor is 0.
 pub fn remainder(a: i64, b: i64) -> Result<Value, Fault>
     ensures { result ≡ remainder a b }
 {
@@ -97,7 +97,7 @@ pub fn remainder(a: i64, b: i64) -> Result<Value, Fault>
 ///
 /// # Errors
 ///
-/// `Overflow` where it is no number of 64 bits with a sign.
+/// `Overflow` if it does not fit into a signed number of 64 bits.
 pub fn ticks_or_overflow(ticks: u64) -> Result<Value, Fault>
     ensures { result ≡ number_or_overflow (pos ticks) }
 {
@@ -107,11 +107,11 @@ pub fn ticks_or_overflow(ticks: u64) -> Result<Value, Fault>
     }
 }
 
-/// The least or the greatest value of a bag, if it has one.
+/// The least or the greatest value of a bag as a value of the language.
 ///
 /// # Errors
 ///
-/// `Empty` where it has none.
+/// `Empty` if there is none.
 pub fn number_or_empty(number: Option<i64>) -> Result<Value, Fault>
     ensures { result ≡ number_or_empty number }
 {

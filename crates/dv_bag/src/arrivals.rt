@@ -10,8 +10,8 @@ use crate::bag::Bag;
 use crate::bags::Bags;
 use std::marker::Model;
 
-/// What an instant brings to an atomic model: the values that have arrived at the input ports, at most
-/// `GREATEST_COUNT` at each, and the ticks since the last transition.
+/// What an instant brings to an atomic model: the values that have arrived at the input ports, at
+/// most `GREATEST_COUNT` at each, and the ticks since the last transition.
 #[derive(Drop)]
 pub struct Arrivals<'a> {
     received: Option<&'a Bags>,
@@ -32,7 +32,7 @@ impl<'a> Model for Arrivals<'a> {
 }
 
 impl<'a> Arrivals<'a> {
-    /// The bags that have arrived, by input port, so many ticks after the last transition.
+    /// The bags that arrived, by input port, and the ticks since the last transition.
     pub fn new(received: &'a Bags, elapsed: u64) -> Self
         requires { AreFew received.now }
         ensures { result ≡ record { received = received.now; elapsed = elapsed } }
@@ -43,7 +43,7 @@ impl<'a> Arrivals<'a> {
         }
     }
 
-    /// Nothing has arrived, and no tick has passed.
+    /// Arrivals of no values, with an elapsed time of 0.
     pub fn nothing() -> Self
         ensures { result ≡ nothing_arrived }
     {
@@ -53,7 +53,7 @@ impl<'a> Arrivals<'a> {
         }
     }
 
-    /// The bag that arrived at an input port. At a port past the last there is none.
+    /// The bag that arrived at an input port: `None` if the port is past the last.
     pub fn bag(&self, port: usize) -> Option<&'a Bag>
         ensures bag { unwrap_or (option_copied result) [] ≡ bag_at self.now.received port }
         ensures few { IfSome result (λ bag. total bag.now ≤ greatest_count) }
@@ -61,7 +61,7 @@ impl<'a> Arrivals<'a> {
         self.received?.get(port)
     }
 
-    /// No bag has more values than it may. It does nothing.
+    /// States that no bag has more values than `GREATEST_COUNT`. Does nothing.
     pub fn are_few(&self)
         ensures { AreFew self.now.received }
     {

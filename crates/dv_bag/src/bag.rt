@@ -20,7 +20,7 @@ use std::cmp::Ordering;
 use std::default::MadeWith;
 use std::marker::Model;
 
-/// A bag of whole numbers. Copies of one value lie inline.
+/// A bag of whole numbers. It stores copies of one value inline.
 #[derive(Drop)]
 pub struct Bag {
     pairs: SmallVec<(i64, u64), 1>,
@@ -46,7 +46,7 @@ impl Bag {
         }
     }
 
-    /// So many copies of a value. It takes no memory.
+    /// A bag of `copies` copies of a value. It takes no memory.
     #[inline]
     pub fn of_copies(alloc: Global, value: i64, copies: u64) -> Self
         requires { 0 < copies }
@@ -57,7 +57,7 @@ impl Bag {
         }
     }
 
-    /// One more copy of a value.
+    /// Adds a copy of a value.
     ///
     /// # Errors
     ///
@@ -70,7 +70,7 @@ impl Bag {
         self.insert_copies(value, 1)
     }
 
-    /// So many more copies of a value. No copies change nothing.
+    /// Adds `copies` copies of a value. Zero copies change nothing.
     ///
     /// # Errors
     ///
@@ -86,7 +86,8 @@ impl Bag {
         add_copies(&mut self.pairs, value, copies)
     }
 
-    /// Room for a value that the bag lacks, where it has none: for all that it may hold, up to `ROOM_AT_ONCE`.
+    /// Makes room for a value that the bag lacks, if there is none: for all values that it may
+    /// hold, up to `ROOM_AT_ONCE`.
     ///
     /// # Errors
     ///
@@ -103,7 +104,7 @@ impl Bag {
         self.pairs.reserve_exact(more)
     }
 
-    /// The values of another bag beside those that are here. Work is in the values of both.
+    /// Adds the values of another bag. Takes time and memory for the values of both.
     ///
     /// # Errors
     ///
@@ -117,11 +118,11 @@ impl Bag {
         Ok(())
     }
 
-    /// Makes it a copy of another bag, with as much room. The memory that it has serves again.
+    /// Makes this a copy of another bag, with as much capacity. Memory is used again.
     ///
     /// # Errors
     ///
-    /// No memory for the room of the other. The bag is as before.
+    /// No memory for the capacity of the other bag. This bag is as before.
     pub fn copy_from(&mut self, other: &Bag) -> Result<(), AllocError>
         ensures ok { OnOk result (self.new ≡ other.now) }
         ensures err { OnErr result (self.new ≡ self.old) }
@@ -134,7 +135,7 @@ impl Bag {
         Ok(())
     }
 
-    /// One copy of a value less, where there is one.
+    /// Removes a copy of a value, if there is one.
     pub fn drop_one(&mut self, value: i64)
         ensures { self.new ≡ without_one value self.old }
     {
@@ -148,7 +149,7 @@ impl Bag {
         }
     }
 
-    /// The number of values, each copy counted. One above 2^64-1 stands as that number.
+    /// The number of values, each copy counted. It saturates at 2^64-1.
     pub fn size(&self) -> u64
         ensures { result ≡ size self.now }
     {
@@ -159,7 +160,7 @@ impl Bag {
         size
     }
 
-    /// Whether there is no value.
+    /// Whether the bag has no value.
     pub fn is_empty(&self) -> bool
         ensures none { IsTrue result ↔ (self.now ≡ []) }
         ensures size { result ≡ nat_eq (size self.now) 0 }
@@ -213,17 +214,17 @@ impl Bag {
         }
     }
 
-    /// Each value is a number of the language. It does nothing.
+    /// States that each value is a number of the language. Does nothing.
     pub fn holds_numbers(&self)
         ensures { IsBagOfNumbers self.now }
     {
-        // A number is known to be one where it is read. A build leaves the loop out.
+        // Each number is known to be one where it is read. An optimized build leaves the loop out.
         for pair in self.pairs.as_slice() {
             let _value = pair.0;
         }
     }
 
-    /// The values in ascending order, each with its count.
+    /// The values in ascending order, each with its number of copies.
     pub fn pairs(&self) -> &[(i64, u64)]
         ensures walk { result.now ≡ self.now }
         ensures bag { IsBag self.now }
@@ -232,7 +233,7 @@ impl Bag {
     }
 }
 
-/// How often a number is in a bag, as a number of the language; in no bag it never is.
+/// How often a number is in a bag, as a number of the language: 0 if there is no bag.
 pub fn copies_of(number: i64, bag: Option<&Bag>) -> i64
     requires { IfSome bag (λ bag. total bag.now ≤ greatest_count) }
     ensures { result ≡ pos (count_of number (unwrap_or (option_copied bag.entry) [])) }
@@ -243,7 +244,8 @@ pub fn copies_of(number: i64, bag: Option<&Bag>) -> i64
     }
 }
 
-// Where a value stands among the pairs, or where it would stand. Mostly it is the last one or above it.
+// The index of a value among the pairs, or the index at which it would go in. Usually that is the
+// last one or the end.
 #[inline]
 fn search(pairs: &[(i64, u64)], value: i64) -> Result<usize, usize>
     requires { IsBag pairs.now }
@@ -262,7 +264,7 @@ fn search(pairs: &[(i64, u64)], value: i64) -> Result<usize, usize>
     }
 }
 
-// Where a value stands among the pairs, or where it would stand, by a binary search.
+// The index of a value among the pairs, or the index at which it would go in, by binary search.
 fn search_all(pairs: &[(i64, u64)], value: i64) -> Result<usize, usize>
     requires { IsBag pairs.now }
     ensures found { IfOk result (λ index. (index ≡ index_of value pairs.now)
@@ -273,7 +275,7 @@ fn search_all(pairs: &[(i64, u64)], value: i64) -> Result<usize, usize>
     pairs.binary_search_by_key(&value, |&(present, _)| present)
 }
 
-// So many more copies of a value among the pairs. It fails only where a new pair has no room.
+// Adds `copies` copies of a value to the pairs. It fails only if there is no memory for a new pair.
 fn add_copies(
     pairs: &mut SmallVec<(i64, u64), 1>,
     value: i64,
@@ -299,7 +301,7 @@ fn add_copies(
     }
 }
 
-// The sum of so many copies of a value.
+// The sum of `copies` copies of a value.
 fn weight(value: i64, copies: u64) -> i128
     ensures product { result ≡ pos copies *ℤ value }
     ensures low { neg_ℤ (pos (2 ^ 63 * copies)) ≤ℤ result }

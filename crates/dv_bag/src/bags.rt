@@ -18,7 +18,7 @@ use std::cmp::Ordering;
 use std::default::MadeWith;
 use std::marker::Model;
 
-/// The bag of a port.
+/// The bag of one port.
 #[derive(Drop)]
 pub struct PortBag {
     /// The index of the port.
@@ -47,7 +47,8 @@ impl Clone for PortBag {
     }
 }
 
-/// A bag for each of so many ports. One without values takes neither memory nor time, and two with values lie inline.
+/// A bag for each port. Empty bags take neither memory nor time, and up to two bags with values are
+/// stored inline.
 #[derive(Drop)]
 pub struct Bags {
     ports: usize,
@@ -67,7 +68,7 @@ impl Model for Bags {
 }
 
 impl Bags {
-    /// An empty bag for each of so many ports. It takes no memory.
+    /// An empty bag for each of `ports` ports. It takes no memory.
     pub fn empty(alloc: Global, ports: usize) -> Self
         ensures { result ≡ replicate ports [] }
     {
@@ -84,7 +85,7 @@ impl Bags {
         self.ports
     }
 
-    /// Whether there is no value at any port.
+    /// Whether all bags are empty.
     pub fn is_empty(&self) -> bool
         ensures none { IsTrue result → (port : ℕ) → bag_at self.now port ≡ [] }
         ensures size { result ≡ nat_eq (size_of_all self.now) 0 }
@@ -100,7 +101,7 @@ impl Bags {
         all_few(self.held.as_slice())
     }
 
-    /// The bag of a port, where it has values. At any other port, and past the last one, there are none.
+    /// The bag of a port, if it has values.
     pub fn get(&self, port: usize) -> Option<&Bag>
         ensures { unwrap_or (option_copied result) [] ≡ bag_at self.now port }
     {
@@ -110,7 +111,7 @@ impl Bags {
         }
     }
 
-    /// The bags with values, in the order of their ports; at each other port there are none.
+    /// The bags with values, in the order of their ports. All other bags are empty.
     pub fn held(&self) -> &[PortBag]
         ensures all { by_port (length self.now) result.now ≡ self.now }
         ensures within { AreWithin (length self.now) result.now }
@@ -119,7 +120,7 @@ impl Bags {
         self.held.as_slice()
     }
 
-    /// One more copy of a value at a port.
+    /// Adds a copy of a value at a port.
     ///
     /// # Errors
     ///
@@ -133,7 +134,7 @@ impl Bags {
         self.insert_copies(port, value, 1)
     }
 
-    /// So many more copies of a value at a port. No copies change nothing.
+    /// Adds `copies` copies of a value at a port. Zero copies change nothing.
     ///
     /// # Errors
     ///
@@ -157,7 +158,7 @@ impl Bags {
         }
     }
 
-    /// The values of a bag at a port, beside those that are there.
+    /// Adds the values of a bag at a port.
     ///
     /// # Errors
     ///
@@ -189,7 +190,8 @@ fn all_few(held: &[PortBag]) -> bool
     held.iter().all(|held| held.bag.size() <= GREATEST_COUNT)
 }
 
-// The index of the bag of a port, or the index at which it goes in. Mostly that is the last one or behind it.
+// The index of the bag of a port, or the index at which it goes in. Usually that is the last one or
+// the end.
 #[inline]
 fn search(held: &[PortBag], port: usize) -> Result<usize, usize>
     requires { RiseFrom 0 held.now }
@@ -206,7 +208,7 @@ fn search(held: &[PortBag], port: usize) -> Result<usize, usize>
     }
 }
 
-// The index of the bag of a port, or the index at which it goes in, by a binary search.
+// The index of the bag of a port, or the index at which it goes in, by binary search.
 fn search_all(held: &[PortBag], port: usize) -> Result<usize, usize>
     requires { RiseFrom 0 held.now }
     ensures found { IfOk result (λ index. StandsAt port index held.now) }

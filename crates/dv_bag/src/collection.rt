@@ -24,7 +24,7 @@ pub enum Collection {
 }
 
 impl Collection {
-    /// How it keeps its values.
+    /// Whether it is a bag or a queue.
     pub fn discipline(&self) -> Discipline
         ensures { result ≡ discipline_of self.now }
     {
@@ -45,7 +45,8 @@ impl Collection {
         }
     }
 
-    /// Room for one more value, where it has none: for all that it may hold, up to `ROOM_AT_ONCE`.
+    /// Makes room for one more value, if there is none: for all values that it may hold, up to
+    /// `ROOM_AT_ONCE`.
     ///
     /// # Errors
     ///
@@ -59,7 +60,7 @@ impl Collection {
         }
     }
 
-    /// What a change makes of it with a value. One of another discipline stays as it is.
+    /// Applies a change with a value. A change for the other discipline has no effect.
     ///
     /// # Errors
     ///
@@ -79,7 +80,8 @@ impl Collection {
         }
     }
 
-    /// Makes it a copy of another collection. The memory that it has serves again where both are of one discipline.
+    /// Makes this a copy of another collection. Memory is used again if both have the same
+    /// discipline.
     ///
     /// # Errors
     ///
@@ -94,7 +96,7 @@ impl Collection {
         }
     }
 
-    // Makes it a copy of a bag.
+    // Makes this a copy of a bag.
     fn copy_bag(&mut self, other: &Bag) -> Result<(), AllocError>
         ensures ok { OnOk result (self.new ≡ collection.Bag other.now) }
         ensures err { OnErr result (self.new ≡ self.old) }
@@ -108,7 +110,7 @@ impl Collection {
         }
     }
 
-    // Makes it a copy of a queue.
+    // Makes this a copy of a queue.
     fn copy_queue(&mut self, other: &Queue) -> Result<(), AllocError>
         ensures ok { OnOk result (self.new ≡ collection.Queue other.now) }
         ensures err { OnErr result (self.new ≡ self.old) }
@@ -122,7 +124,7 @@ impl Collection {
         }
     }
 
-    /// Without the first value of a queue, where there is one.
+    /// Removes the first value of a queue, if there is one.
     pub fn pop(&mut self)
         ensures { self.new ≡ without_first self.old }
     {
@@ -131,7 +133,7 @@ impl Collection {
         }
     }
 
-    /// Each value is a number of the language. It does nothing.
+    /// States that each value is a number of the language. Does nothing.
     pub fn holds_numbers(&self)
         ensures { HasNumbers self.now }
     {
@@ -171,8 +173,8 @@ impl Eq for Collection {
     ghost laws = { decided same_collection same_collection-decides };
 }
 
-/// A collection that a state holds, in memory of its own: it has at most `GREATEST_COUNT` values, each copy counted. Two
-/// with the same values are equal, wherever they lie.
+/// A collection of a state, in memory of its own, with at most `GREATEST_COUNT` values, each copy
+/// counted. Two are equal if they have the same values.
 #[derive(Drop)]
 pub struct Held {
     collection: Box<Collection>,
@@ -192,7 +194,7 @@ impl Model for Held {
 }
 
 impl Held {
-    /// A collection, moved to memory of its own.
+    /// Moves a collection to memory of its own.
     ///
     /// # Errors
     ///
@@ -214,7 +216,8 @@ impl Held {
         self.collection.as_ref()
     }
 
-    /// Room for one more value, where it has none: for all that it may hold, up to `ROOM_AT_ONCE`.
+    /// Makes room for one more value, if there is none: for all values that it may hold, up to
+    /// `ROOM_AT_ONCE`.
     ///
     /// # Errors
     ///
@@ -225,7 +228,7 @@ impl Held {
         self.collection.make_room(capacity)
     }
 
-    /// What a change makes of it with a value.
+    /// Applies a change with a value.
     ///
     /// # Errors
     ///
@@ -238,7 +241,7 @@ impl Held {
         self.collection.edit(change, value)
     }
 
-    /// Makes it a copy of another one, in its own memory.
+    /// Makes this a copy of another one, in its own memory.
     ///
     /// # Errors
     ///
@@ -250,7 +253,7 @@ impl Held {
         self.collection.copy_from(other.collection.as_ref())
     }
 
-    /// Without the first value of a queue, where there is one.
+    /// Removes the first value of a queue, if there is one.
     pub(crate) fn pop(&mut self)
         ensures { self.new ≡ without_first self.old }
     {

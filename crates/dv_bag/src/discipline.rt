@@ -6,25 +6,25 @@ ghost use Rattle.dv_bag.specs.Collections.{discipline_of_change, makes_more};
 /// How a collection keeps its values.
 #[derive(Clone, Copy, PartialEq, Eq)]
 pub enum Discipline {
-    /// Each value with the number of its copies. They are walked in ascending order.
+    /// Each value with its number of copies. Loops go over the values in ascending order.
     Bag,
-    /// A list. A value comes last, and the first one goes.
+    /// A list: a value is added at the end, and the first one is removed.
     Queue,
 }
 
-/// What changes a collection with a value.
+/// A change of a collection by a value.
 #[derive(Clone, Copy, PartialEq, Eq)]
 pub enum Change {
-    /// One copy more in a bag.
+    /// Adds a copy to a bag.
     Add,
-    /// One copy less in a bag, where there is one.
+    /// Removes a copy from a bag, if there is one.
     Drop,
-    /// One value more at the end of a queue.
+    /// Adds a value at the end of a queue.
     Push,
 }
 
 impl Change {
-    /// The discipline of the collections that it changes.
+    /// The discipline of the collections that it applies to.
     pub fn discipline(self) -> Discipline
         ensures { result ≡ discipline_of_change self }
     {
@@ -34,7 +34,7 @@ impl Change {
         }
     }
 
-    /// Whether a collection has one value more after it.
+    /// Whether it adds a value.
     pub fn makes_more(self) -> bool
         ensures { result ≡ makes_more self }
     {

@@ -23,11 +23,11 @@ pub enum Kind {
     Confluent,
 }
 
-/// The kinds there are.
+/// All kinds.
 const KINDS: [Kind; 3] = [Kind::Internal, Kind::External, Kind::Confluent];
 
 impl Kind {
-    /// The word that a trace has for it.
+    /// The word for it in a trace.
     pub fn word(self) -> &'static str
         ensures { result.now ≡ kind_word self }
     {
@@ -49,7 +49,7 @@ impl fmt::Display for Kind {
     }
 }
 
-/// A word that stands for no kind of transition.
+/// A word that is no kind of transition.
 #[derive(Clone, Copy, PartialEq, Eq)]
 pub struct NoKind;
 
@@ -119,14 +119,14 @@ impl Clone for Entry {
     }
 }
 
-/// What left the model at one instant by one of its output ports.
+/// What left the model at one instant at one of its output ports.
 #[derive(Drop, PartialEq, Eq)]
 pub struct Outer {
     /// The time of the instant.
     pub time: Time,
     /// The index of the output port of the root.
     pub port: u32,
-    /// The values that left by the port.
+    /// The values that left at the port.
     pub values: Bag,
 }
 

@@ -18,17 +18,17 @@ pub enum Fault {
     Range,
     /// The least or greatest value of an empty bag, or the first value of an empty queue.
     Empty,
-    /// One value more than the capacity of a bag or a queue.
+    /// One more value than the capacity of a bag or a queue.
     Full,
     /// A hold below 0.
     Negative,
-    /// A hold of 0 at the last microstep.
+    /// A hold of 0 at the last microstep of a tick.
     Microsteps,
     /// More than 4,096 values sent in one output, or at one port at one instant.
     Flood,
 }
 
-/// The faults there are.
+/// All faults.
 const FAULTS: [Fault; 8] = [
     Fault::Overflow,
     Fault::Divide,
@@ -41,7 +41,7 @@ const FAULTS: [Fault; 8] = [
 ];
 
 impl Fault {
-    /// The word that a trace has for it.
+    /// The word for it in a trace.
     pub fn word(self) -> &'static str
         ensures { result.now ≡ fault_word self }
     {
@@ -68,7 +68,7 @@ impl fmt::Display for Fault {
     }
 }
 
-/// A word that stands for no fault.
+/// A word that is no fault.
 #[derive(Clone, Copy, PartialEq, Eq)]
 pub struct NoFault;
 
@@ -89,7 +89,7 @@ impl FromStr for Fault {
     }
 }
 
-/// Why a rule has no effect: a fault of the model, or out of memory.
+/// Why a rule has no effect.
 #[derive(Clone, Copy, Debug, PartialEq, Eq)]
 pub enum RuleError {
     /// A fault of the model.

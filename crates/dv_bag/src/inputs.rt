@@ -8,7 +8,7 @@ ghost use Rattle.dv_bag.specs.Inputs.{IsByTime, bags_at, inputs_before, is_at, l
 ghost use Rattle.dv_bag.specs.InputSteps.{with_input, with_inputs};
 ghost use Rattle.dv_time.specs.Limits.{greatest_tick};
 
-/// What comes in, and when.
+/// Laws of what comes in, and when.
 pub mod laws;
 
 use crate::bags::Bags;
@@ -16,7 +16,7 @@ use dv_time::Time;
 use std::alloc::{AllocError, Global};
 use std::marker::Model;
 
-/// A value that comes in from outside: at a time, at an input port of the root by its number.
+/// A value that comes in from outside, at a time and at an input port of the root.
 #[derive(Clone, Copy, PartialEq, Eq)]
 pub struct Input {
     /// The time at which it comes.
@@ -27,7 +27,7 @@ pub struct Input {
     pub value: i64,
 }
 
-/// Inputs in an order in which times never fall, none with a tick above the greatest.
+/// Inputs by ascending time. No tick is above `GREATEST_TICK`.
 #[derive(Drop)]
 pub struct Inputs {
     inputs: Vec<Input>,
@@ -46,7 +46,7 @@ impl Model for Inputs {
 }
 
 impl Inputs {
-    /// No inputs. They take no memory.
+    /// An empty list of inputs. It takes no memory.
     pub fn new(alloc: Global) -> Self
         ensures { result ≡ [] }
     {
@@ -55,7 +55,7 @@ impl Inputs {
         }
     }
 
-    /// One more input, after those that are there.
+    /// Appends an input.
     ///
     /// # Errors
     ///
@@ -91,7 +91,7 @@ impl Inputs {
         self.inputs.as_slice()
     }
 
-    /// The time of the last input; with no input it is 0.0.
+    /// The time of the last input: 0.0 if there is none.
     pub fn last_time(&self) -> Time
         ensures { result ≡ last_time self.now }
     {
@@ -101,8 +101,9 @@ impl Inputs {
         }
     }
 
-    /// The index of the first input that a run under a microstep limit comes to at a time or after it; with none it is
-    /// the number of inputs. It is looked for from an index on that is not past it, and the work is in the inputs between.
+    /// The index of the first input that a run under a microstep limit reaches at `time` or later:
+    /// the number of inputs if there is none. The search begins at `index`, which must not be past
+    /// it, and takes time for the inputs between.
     pub fn index_from(&self, index: usize, time: Time, limit: u32) -> usize
         requires { index ≤ inputs_before limit self.now time }
         ensures { result ≡ inputs_before limit self.now time }
@@ -110,8 +111,8 @@ impl Inputs {
         index + count_passed(rest(self.inputs.as_slice(), index), time, limit)
     }
 
-    /// The time of the input at an index, if there is one: from the index of a time on, the next time at which a run comes
-    /// to an input.
+    /// The time of the input at `index`, if there is one. For the index of a time this is the next
+    /// time at which a run reaches an input.
     pub fn next_time(&self, index: usize) -> Option<Time>
         ensures at_index { result ≡ time_at self.now index }
         ensures next { (limit : ℕ) (t : TimeOfCode) → index ≡ inputs_before limit self.now t
@@ -120,8 +121,8 @@ impl Inputs {
         time_at(self.inputs.as_slice(), index)
     }
 
-    /// What comes in at a time, a bag for each of so many ports. The index that is given is that of the first input that a
-    /// run comes to at the time or after it. Work and memory are in what comes in.
+    /// What comes in at a time: a bag for each of `ports` ports. `index` is that of the first input
+    /// that a run reaches at the time or later. Takes time and memory for what comes in.
     ///
     /// # Errors
     ///
@@ -150,7 +151,7 @@ fn time_at(inputs: &[Input], index: usize) -> Option<Time>
     inputs.get(index).map(|input| input.time)
 }
 
-// The inputs from an index on.
+// The inputs from `index` on.
 fn rest(inputs: &[Input], index: usize) -> &[Input]
     requires { index ≤ length inputs.now }
     ensures { result.now ≡ drop index inputs.now }
@@ -158,7 +159,7 @@ fn rest(inputs: &[Input], index: usize) -> &[Input]
     &inputs[index..]
 }
 
-// How many inputs from the front on a run passes by on its way to a time.
+// How many of the first inputs a run passes on its way to `time`.
 fn count_passed(inputs: &[Input], time: Time, limit: u32) -> usize
     ensures { result ≡ inputs_before limit inputs.now time }
 {
@@ -168,7 +169,7 @@ fn count_passed(inputs: &[Input], time: Time, limit: u32) -> usize
         .count()
 }
 
-// How many inputs from the front on are at a time.
+// How many of the first inputs are at `time`.
 fn count_at(inputs: &[Input], time: Time) -> usize
     ensures { result ≡ length (take_while (is_at time) inputs.now) }
 {
@@ -178,7 +179,7 @@ fn count_at(inputs: &[Input], time: Time) -> usize
         .count()
 }
 
-// The inputs from an index on that are at a time.
+// The inputs at `time` from `index` on.
 fn front_at(inputs: &[Input], index: usize, time: Time) -> &[Input]
     requires { index ≤ length inputs.now }
     ensures { result.now ≡ take_while (is_at time) (drop index inputs.now) }
@@ -187,7 +188,7 @@ fn front_at(inputs: &[Input], index: usize, time: Time) -> &[Input]
     &rest[..count_at(rest, time)]
 }
 
-// The value of an input at its port, if that is one of the bags'.
+// Adds the value of an input to the bag of its port, if there is one.
 fn put(bags: &mut Bags, input: Input) -> Result<(), AllocError>
     ensures { OnOk result (bags.new ≡ with_input input bags.old) }
 {
@@ -198,7 +199,7 @@ fn put(bags: &mut Bags, input: Input) -> Result<(), AllocError>
     Ok(())
 }
 
-// The value of each input at its port.
+// Adds the value of each input to the bag of its port.
 fn put_all(bags: &mut Bags, inputs: &[Input]) -> Result<(), AllocError>
     ensures { OnOk result (bags.new ≡ with_inputs inputs.now bags.old) }
 {

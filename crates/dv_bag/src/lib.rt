@@ -1,19 +1,20 @@
-//! The values of a run: what models hold, what they send and receive, and what is told of them.
+//! The values of a run: what models hold, send and receive, and what a trace says of them.
 //!
-//! A `Bag` is a multiset of numbers, a list of different values in ascending order, each with its count; so two bags
-//! are equal exactly where their lists are. A `Queue` is a list. A `State` has a phase and the variables of a
-//! component, an `Effect` is what a rule does to it, `Sent` is what an output sends, `Arrivals` is what has come, and
-//! a `Part` has entries of a trace. It is a law that bags under union are a commutative monoid, and that a time cuts
-//! a part in two that join to it.
+//! A `Bag` is a multiset of numbers: a list of different values in ascending order, each with its
+//! number of copies, so that two bags are equal if and only if their lists are. A `Queue` is a
+//! list. A `State` has a phase and the variables of a component, an `Effect` is the result of a
+//! rule, `Sent` is what an output function sends, `Arrivals` is what arrived, and a `Part` has
+//! entries of a trace. Laws say that bags under union are a commutative monoid, and that a time
+//! cuts a part into two that join to it.
 //!
-//! The formalism (`dv_devs`), the trees (`dv_syntax`), the programs (`dv_code`) and all crates above them speak in
-//! these types. Ports, variables and phases are numbers here: no names, no rules and no ranges of variables are
-//! known.
+//! The formalism (`dv_devs`), the trees (`dv_syntax`), the programs (`dv_code`) and all crates
+//! above them use these types. Ports, variables and phases are numbers here; their names, the rules
+//! and the ranges of variables are not known.
 #![tactic(auto)]
 
-/// What numbers give.
+/// Arithmetic of the language.
 pub mod arithmetic;
-/// What an instant brings.
+/// What an instant brings to an atomic model.
 pub mod arrivals;
 /// Bags of values.
 pub mod bag;
@@ -29,7 +30,7 @@ pub mod entry;
 pub mod fault;
 /// Inputs from outside.
 pub mod inputs;
-/// Laws of bags and of parts.
+/// Laws of bags and of parts of a trace.
 pub mod laws;
 /// Tests of limits.
 pub mod limits;
@@ -37,11 +38,11 @@ pub mod limits;
 mod merge;
 /// Parts of a trace.
 pub mod part;
-/// An element put into a list.
+/// An insertion into a list.
 mod put;
 /// Queues of values.
 pub mod queue;
-/// How soon a hold can end that begins where an external rule goes to a phase.
+/// The lookahead of an atomic model.
 pub mod response;
 /// What a component sends.
 pub mod sent;
@@ -65,9 +66,10 @@ pub use sent::Sent;
 pub use state::{Datum, DatumView, Effect, State, Variables};
 pub use value::{Value, ValueType};
 
-/// The most values that are sent in one output, come to one port at one instant, or lie in a collection of a state.
+/// The most values that are sent in one output, arrive at one port at one instant, or are in a
+/// collection of a state.
 pub const GREATEST_COUNT: u64 = 4096;
 
-/// The values for which a bag or a queue of a state takes room at once, where it may hold as many: 1,024 bytes of a bag, 512 of a
-/// queue. What may hold more grows beyond by doubling.
+/// The number of values for which a bag or a queue of a state takes memory at once, if its capacity
+/// is as large: 1,024 bytes for a bag, 512 for a queue. Beyond that it grows by doubling.
 pub const ROOM_AT_ONCE: u64 = 64;

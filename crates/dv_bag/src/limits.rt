@@ -1,4 +1,4 @@
-//! Tests of limits. Each takes no memory, and its answer is exact.
+//! Tests of limits. They take no memory, and their answers are exact.
 
 ghost use Rattle.std.specs.Prelude.{◌≡◌, ◌<◌, ◌≤◌, false, true, IfErr, OnOk};
 ghost use Rattle.dv_bag.specs.Collections.{is_full};
@@ -9,11 +9,11 @@ ghost use Rattle.dv_bag.specs.declared.fault.Fault.TheVariants as fault;
 use crate::fault::Fault;
 use crate::{GREATEST_COUNT, ROOM_AT_ONCE};
 
-/// Whether a number is within a range.
+/// Tests whether a number is within a range.
 ///
 /// # Errors
 ///
-/// `Range` where it is below the least or above the greatest number of the range.
+/// `Range` if it is below `low` or above `high`.
 pub fn test_range(number: i64, low: i64, high: i64) -> Result<(), Fault>
     ensures within { OnOk result (is_within low high number ≡ true) }
     ensures outside { IfErr result (λ f. (f ≡ fault.Range) × (is_within low high number ≡ false)) }
@@ -25,11 +25,11 @@ pub fn test_range(number: i64, low: i64, high: i64) -> Result<(), Fault>
     }
 }
 
-/// Whether a collection of this capacity has room for one more value beside so many.
+/// Tests whether a collection of this capacity with `count` values has room for one more.
 ///
 /// # Errors
 ///
-/// `Full` where it holds as many values as its capacity says, or `GREATEST_COUNT`.
+/// `Full` if it has as many values as its capacity, or `GREATEST_COUNT` values.
 pub fn test_room(count: u64, capacity: u64) -> Result<(), Fault>
     ensures free { OnOk result (is_full capacity count ≡ false) }
     ensures few { OnOk result (count < greatest_count) }
@@ -42,11 +42,11 @@ pub fn test_room(count: u64, capacity: u64) -> Result<(), Fault>
     }
 }
 
-/// Whether one more value may be sent after so many, each copy counted.
+/// Tests whether one more value may be sent after `count` values, each copy counted.
 ///
 /// # Errors
 ///
-/// `Flood` where `GREATEST_COUNT` values were sent.
+/// `Flood` if `GREATEST_COUNT` values were sent.
 pub fn test_flood(count: u64) -> Result<(), Fault>
     ensures free { OnOk result (count < greatest_count) }
     ensures flood { IfErr result (λ f. (f ≡ fault.Flood) × (greatest_count ≤ count)) }
@@ -58,7 +58,8 @@ pub fn test_flood(count: u64) -> Result<(), Fault>
     }
 }
 
-/// For how many values a collection of this capacity takes room at once where it has to grow.
+/// The number of values for which a collection of this capacity takes memory at once when it has to
+/// grow.
 pub(crate) fn room_at_once(capacity: u64) -> usize {
     capacity.min(ROOM_AT_ONCE) as usize
 }

@@ -7,7 +7,7 @@ use smallvec::SmallVec;
 use std::alloc::{AllocError, Global};
 use std::cmp::Ordering;
 
-/// The pairs of both bags as those of one. Work and memory are in the pairs of both.
+/// The pairs of the union of two bags. Takes time and memory for the pairs of both.
 ///
 /// # Errors
 ///
@@ -30,7 +30,7 @@ pub fn merged<'a>(
     Ok(pairs)
 }
 
-// The least pair of two bags, and what is left of both behind it.
+// The least pair of two bags, and the pairs of both that remain.
 #[derive(Clone, Copy)]
 struct Next<'a> {
     pair: (i64, u64),
@@ -38,7 +38,7 @@ struct Next<'a> {
     second: &'a [(i64, u64)],
 }
 
-// The copies of a value that both bags have are added.
+// Adds the copies of a value that both bags have.
 fn next_pair<'a>(first: &'a [(i64, u64)], second: &'a [(i64, u64)]) -> Option<Next<'a>>
     requires first { IsBag first.now }
     requires second { IsBag second.now }

@@ -13,7 +13,8 @@ use std::alloc::{AllocError, Global};
 use std::marker::Model;
 use std::slice::Iter;
 
-/// Entries of some components, and what those components sent outside, in the order in which they were pushed.
+/// Entries of some components, and what those components sent outside, in the order in which they
+/// were pushed.
 #[derive(Drop)]
 pub struct Part {
     entries: Vec<Entry>,
@@ -29,7 +30,7 @@ impl Model for Part {
 }
 
 impl Part {
-    /// No entries, and nothing sent outside.
+    /// An empty part.
     pub fn new(alloc: Global) -> Self
         ensures { result ≡ nothing }
     {
@@ -39,7 +40,7 @@ impl Part {
         }
     }
 
-    /// One more entry, after those that are there.
+    /// Appends an entry.
     ///
     /// # Errors
     ///
@@ -52,7 +53,7 @@ impl Part {
         Ok(self.entries.push(entry)?)
     }
 
-    /// One more line of what was sent outside, after those that are there.
+    /// Appends a line of what was sent outside.
     ///
     /// # Errors
     ///
@@ -72,21 +73,21 @@ impl Part {
         Part { entries, outer }
     }
 
-    /// How many entries there are.
+    /// The number of entries.
     pub fn entry_count(&self) -> usize
         ensures { result ≡ length self.now.entries }
     {
         self.entries.len()
     }
 
-    /// How many lines were sent outside.
+    /// The number of lines of what was sent outside.
     pub fn outer_count(&self) -> usize
         ensures { result ≡ length self.now.outer }
     {
         self.outer.len()
     }
 
-    /// All of another part, after what is there.
+    /// Appends all of another part.
     ///
     /// # Errors
     ///
@@ -103,7 +104,7 @@ impl Part {
         Ok(())
     }
 
-    /// So many entries and lines stay, the first ones; where there are not as many, all do.
+    /// Keeps the first `entries` entries and the first `outer` lines.
     pub fn truncate(&mut self, entries: usize, outer: usize)
         ensures entries { self.new.entries ≡ take entries self.old.entries }
         ensures outer { self.new.outer ≡ take outer self.old.outer }
@@ -112,7 +113,7 @@ impl Part {
         self.outer.truncate(outer);
     }
 
-    /// What is before a time goes, and the rest stays.
+    /// Discards what is before a time.
     pub fn keep_since(&mut self, time: Time)
         ensures { self.new ≡ since time self.old }
     {
@@ -120,7 +121,7 @@ impl Part {
         self.outer.retain(|line| !line.time.is_before(time));
     }
 
-    /// What is not before a time. The rest is gone.
+    /// What is at a time or later. The rest is discarded.
     pub fn since(mut self, time: Time) -> Self
         ensures { result ≡ since time self }
     {
@@ -128,7 +129,8 @@ impl Part {
         self
     }
 
-    /// The entries, in the order in which they were pushed: a run pushes them by time and component.
+    /// The entries, in the order in which they were pushed: a run pushes them by time and
+    /// component.
     pub fn entries(&self) -> Iter<'_, Entry>
         ensures rest { iter_rest result ≡ self.now.entries }
         ensures fits { length self.now.entries < 2 ^ 64 }
@@ -137,7 +139,8 @@ impl Part {
         self.entries.iter()
     }
 
-    /// What was sent outside, in the order in which it was pushed: a run pushes it by time and port.
+    /// What was sent outside, in the order in which it was pushed: a run pushes it by time and
+    /// port.
     pub fn outer(&self) -> Iter<'_, Outer>
         ensures rest { iter_rest result ≡ self.now.outer }
         ensures fits { length self.now.outer < 2 ^ 64 }

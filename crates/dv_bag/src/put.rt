@@ -1,4 +1,4 @@
-//! An element put into a list.
+//! An insertion into a list.
 
 ghost use Rattle.std.specs.Prelude.{◌≡◌, ◌≤◌, OnErr, OnOk, insert};
 ghost use Rattle.smallvec.specs.SmallVec.{small_vec_len};
@@ -7,7 +7,7 @@ use smallvec::SmallVec;
 use std::alloc::{AllocError, Global};
 use std::default::MadeWith;
 
-/// Puts an element in at an index, which mostly is behind the others.
+/// Inserts an element at an index, which usually is the end.
 ///
 /// # Errors
 ///

@@ -14,7 +14,7 @@ use std::collections::VecDeque;
 use std::marker::Model;
 use std::mem;
 
-/// A list of whole numbers, to which values come last, and from which the first one goes.
+/// A list of whole numbers. Values are added at the end, and the first one is removed.
 #[derive(Drop)]
 pub struct Queue {
     values: VecDeque<i64>,
@@ -45,14 +45,14 @@ impl Queue {
         self.values.len()
     }
 
-    /// A value by its number, from the first on, if there is one.
+    /// The value at an index, if there is one.
     pub fn get(&self, number: usize) -> Option<i64>
         ensures { result ≡ slice_get self.now number }
     {
         self.values.get(number).copied()
     }
 
-    /// One more value, behind the others.
+    /// Appends a value.
     ///
     /// # Errors
     ///
@@ -64,7 +64,8 @@ impl Queue {
         Ok(self.values.push_back(value)?)
     }
 
-    /// Room for one more value, where it has none: for all that it may hold, up to `ROOM_AT_ONCE`.
+    /// Makes room for one more value, if there is none: for all values that it may hold, up to
+    /// `ROOM_AT_ONCE`.
     ///
     /// # Errors
     ///
@@ -80,11 +81,11 @@ impl Queue {
         self.values.reserve_exact(more)
     }
 
-    /// Makes it a copy of another queue, with as much room. The memory that it has serves again.
+    /// Makes this a copy of another queue, with as much capacity. Memory is used again.
     ///
     /// # Errors
     ///
-    /// No memory for the room of the other. The queue is as before.
+    /// No memory for the capacity of the other queue. This queue is as before.
     pub fn copy_from(&mut self, other: &Queue) -> Result<(), AllocError>
         ensures ok { OnOk result (self.new ≡ other.now) }
         ensures err { OnErr result (self.new ≡ self.old) }
@@ -101,14 +102,14 @@ impl Queue {
         Ok(())
     }
 
-    /// Without the first value, where there is one.
+    /// Removes the first value, if there is one.
     pub fn pop(&mut self)
         ensures { self.new ≡ drop 1 self.old }
     {
         let _ = self.values.pop_front();
     }
 
-    /// The values as they stand, each as a pair of one copy.
+    /// The values in order, each as a pair with a count of 1.
     ///
     /// # Errors
     ///
@@ -123,7 +124,7 @@ impl Queue {
         Ok(pairs)
     }
 
-    /// Each value is a number of the language. It does nothing.
+    /// States that each value is a number of the language. Does nothing.
     pub fn holds_numbers(&self)
         ensures { All (λ v. IsTrue (is_number v)) self.now }
     {

@@ -1,20 +1,21 @@
-//! How soon a hold can end that begins where an external rule goes to a phase; where it goes to none, the hold goes on.
+//! The lookahead of an atomic model.
 
 ghost use Rattle.std.specs.Prelude.{◌≡◌};
 ghost use Rattle.dv_time.specs.Time.{earlier};
 ghost use Rattle.dv_bag.specs.Responses.{ticks_of};
 
-/// The lookahead of an atomic model: how soon a hold can end that begins where an external rule goes to a phase.
+/// The lookahead of an atomic model: a lower bound on the holds that begin when an external rule
+/// goes to a phase. If the rule goes to none, the hold goes on.
 #[derive(Clone, Copy, PartialEq, Eq)]
 pub enum Response {
-    /// After so many ticks or more.
+    /// No such hold ends before so many ticks.
     Ticks(u64),
     /// No such hold ends, or none begins.
     Never,
 }
 
 impl Response {
-    /// The sooner of two.
+    /// The lesser of two bounds.
     pub fn sooner(self, other: Response) -> Response
         ensures { ticks_of result ≡ earlier (ticks_of self) (ticks_of other) }
     {

@@ -15,7 +15,7 @@ use std::cmp::Ordering;
 use std::default::MadeWith;
 use std::marker::Model;
 
-/// Copies of a value that go to a port.
+/// Copies of a value that are sent at a port.
 #[derive(Clone, Copy, PartialEq, Eq)]
 pub struct Sending {
     /// The index of the output port.
@@ -27,7 +27,7 @@ pub struct Sending {
 }
 
 impl Sending {
-    // Where it stands beside a value at a port: by port and then by value.
+    // Its order beside a value at a port: by port and then by value.
     fn cmp_to(&self, port: usize, value: i64) -> Ordering
         ensures { result ≡ sending_cmp self.now.port self.now.value port value }
     {
@@ -45,13 +45,14 @@ impl MadeWith<Global> for Sending {
     }
 }
 
-/// What a component sent at one instant: a bag for each of its output ports, as one list by port and then by value. So
-/// a port has each value once, and what goes to it lies as its bag. Copies of one value lie inline.
+/// What a component sent at one instant: a bag for each of its output ports, as one list by port
+/// and then by value. So a port has each value once, and a slice of the list is its bag. Copies of
+/// one value are stored inline.
 #[derive(Drop)]
 pub struct Sent {
     ports: usize,
     sendings: SmallVec<Sending, 1>,
-    // The number of values, each copy counted, which is asked for before each value that is sent.
+    // The number of values, each copy counted. It is asked for before each value that is sent.
     total: u64,
 }
 
@@ -69,7 +70,7 @@ impl Model for Sent {
 }
 
 impl Sent {
-    /// Nothing at each of so many ports. It takes no memory.
+    /// Nothing sent at any of `ports` ports. It takes no memory.
     pub fn empty(alloc: Global, ports: usize) -> Self
         ensures { result ≡ replicate ports [] }
     {
@@ -80,7 +81,7 @@ impl Sent {
         }
     }
 
-    /// One value at one of so many ports. It takes no memory.
+    /// One value sent at one of `ports` ports. It takes no memory.
     #[inline]
     pub fn of_one(alloc: Global, ports: usize, port: usize, value: i64) -> Self
         requires { port < ports }
@@ -112,15 +113,15 @@ impl Sent {
         self.sendings.is_empty()
     }
 
-    /// The number of values at all ports, each copy counted. One above 2^64-1 stands as that number.
+    /// The number of values at all ports, each copy counted. It saturates at 2^64-1.
     pub fn total(&self) -> u64
         ensures { result ≡ size_of_all self.now }
     {
         self.total
     }
 
-    /// What was sent, as it lies: by port and then by value, at least one copy of each. Those of a port are its bag.
-    /// Together they are all that was sent.
+    /// All that was sent, by port and then by value, with at least one copy of each. The elements
+    /// of a port are its bag.
     pub fn as_slice(&self) -> &[Sending]
         ensures all { by_port (length self.now) result.now ≡ self.now }
         ensures bags { (port : ℕ) → pairs_at port result.now ≡ bag_at self.now port }
@@ -130,11 +131,11 @@ impl Sent {
         self.sendings.as_slice()
     }
 
-    /// One more copy of a value at a port.
+    /// Adds a copy of a value at a port.
     ///
     /// # Errors
     ///
-    /// No memory for a value that the port lacks. All is as before.
+    /// No memory for a value that the port lacks. Everything is as before.
     pub fn insert(&mut self, port: usize, value: i64) -> Result<(), AllocError>
         requires { port < length self.old }
         ensures ok { OnOk result
@@ -165,7 +166,7 @@ impl Sent {
         }
     }
 
-    /// What was sent at a port. At a port past the last that is nothing.
+    /// What was sent at a port: nothing at a port past the last.
     ///
     /// # Errors
     ///
@@ -183,7 +184,7 @@ impl Sent {
     }
 }
 
-// Where what goes to a port begins and ends, by two binary searches.
+// Where the elements of a port begin and end, by two binary searches.
 fn indices_of(sendings: &[Sending], port: usize) -> (usize, usize)
     requires { AreInOrder sendings.now }
     ensures order { result.0 ≤ result.1 }
@@ -197,8 +198,8 @@ fn indices_of(sendings: &[Sending], port: usize) -> (usize, usize)
     (first, end)
 }
 
-// The index of copies of a value that go to a port, or the index at which they go in. Mostly that is the last one or
-// behind it.
+// The index of the copies of a value at a port, or the index at which they go in. Usually that is
+// the last one or the end.
 #[inline]
 fn search(sendings: &[Sending], port: usize, value: i64) -> Result<usize, usize>
     requires { AreInOrder sendings.now }
@@ -215,7 +216,7 @@ fn search(sendings: &[Sending], port: usize, value: i64) -> Result<usize, usize>
     }
 }
 
-// The index of copies of a value that go to a port, or the index at which they go in, by a binary search.
+// The index of the copies of a value at a port, or the index at which they go in, by binary search.
 fn search_all(sendings: &[Sending], port: usize, value: i64) -> Result<usize, usize>
     requires { AreInOrder sendings.now }
     ensures found { IfOk result (λ index. HasCopiesAt port value index sendings.now) }

@@ -18,30 +18,31 @@ use std::alloc::{AllocError, Global};
 use std::default::MadeWith;
 use std::marker::Model;
 
-/// What a variable, a flag, a bag or a queue of a state holds. A number takes no memory beside it.
+/// The value of a variable, a flag, a bag or a queue. A number needs no memory of its own.
 #[derive(Drop)]
 pub enum Datum {
     /// The number of a variable.
     Number(i64),
     /// The truth value of a flag.
     Flag(bool),
-    /// The values of a bag or a queue, in memory of their own.
+    /// A bag or a queue, in memory of its own.
     Held(Held),
 }
 
-/// A datum as it is read: numbers and flags by value, a collection where it lies.
+/// A borrowed datum: numbers and flags by value, a collection by reference.
 #[derive(Clone, Copy, PartialEq, Eq)]
 pub enum DatumView<'a> {
     /// The number of a variable.
     Number(i64),
     /// The truth value of a flag.
     Flag(bool),
-    /// The values of a bag or a queue, where they lie.
+    /// A bag or a queue.
     Held(&'a Collection),
 }
 
 impl Datum {
-    // Makes it a copy of another one. A collection stays in its own memory where the other is one too.
+    // Makes this a copy of another one. A collection keeps its memory if the other is a collection
+    // too.
     #[inline]
     fn copy_from(&mut self, other: &Datum) -> Result<(), AllocError>
         ensures { OnOk result (self.new ≡ other.now) }
@@ -54,7 +55,7 @@ impl Datum {
         Ok(())
     }
 
-    // Makes it a copy of a collection, in its own memory where it is one too.
+    // Makes this a copy of a collection, in its own memory if this is a collection too.
     #[inline(never)]
     fn copy_held(&mut self, other: &Held) -> Result<(), AllocError>
         ensures { OnOk result (self.new ≡ datum.Held other.now) }
@@ -68,7 +69,7 @@ impl Datum {
         }
     }
 
-    // Each number of the datum is one of the language. It does nothing.
+    // States that each number is a number of the language. Does nothing.
     fn holds_numbers(&self)
         ensures { IsOfNumbers self.now }
     {
@@ -119,7 +120,8 @@ impl Eq for Datum {
     ghost laws = { decided same_datum same_datum-decides };
 }
 
-/// The variables, flags, bags and queues of a state, in the order of their declaration. Two lie inline.
+/// The variables, flags, bags and queues of a state, in the order of their declaration. Up to two
+/// are stored inline.
 #[derive(Drop)]
 pub struct Variables {
     data: SmallVec<Datum, 2>,
@@ -135,7 +137,7 @@ impl Model for Variables {
 }
 
 impl Variables {
-    /// No variables.
+    /// An empty list of variables.
     pub fn new(alloc: Global) -> Self
         ensures { result ≡ [] }
     {
@@ -144,7 +146,7 @@ impl Variables {
         }
     }
 
-    /// One more variable, flag, bag or queue, after those that are there.
+    /// Appends a variable, flag, bag or queue.
     ///
     /// # Errors
     ///
@@ -163,14 +165,15 @@ impl Variables {
         self.data.len()
     }
 
-    /// Whether there are no variables, flags, bags and queues.
+    /// Whether there is no variable, flag, bag or queue.
     pub fn is_empty(&self) -> bool
         ensures { result ≡ (length self.now == 0) }
     {
         self.data.is_empty()
     }
 
-    /// The variable, flag, bag or queue at an index, if there is one. A collection has at most `GREATEST_COUNT` values.
+    /// The variable, flag, bag or queue at an index, if there is one. A collection has at most
+    /// `GREATEST_COUNT` values.
     pub fn get(&self, index: usize) -> Option<DatumView<'_>>
         ensures datum { option_map datum_of result ≡ slice_get self.now index }
         ensures few { IfSome result (λ view. HoldsFew view) }
@@ -183,7 +186,7 @@ impl Variables {
         }
     }
 
-    /// Another number at this index.
+    /// Sets the variable at an index.
     pub fn set_number(&mut self, index: usize, value: i64)
         requires { index < length self.old }
         ensures { self.new ≡ slice_set self.old index (datum.Number value) }
@@ -194,7 +197,7 @@ impl Variables {
         }
     }
 
-    /// Another truth value at this index.
+    /// Sets the flag at an index.
     pub fn set_flag(&mut self, index: usize, value: bool)
         requires { index < length self.old }
         ensures { self.new ≡ slice_set self.old index (datum.Flag value) }
@@ -202,8 +205,9 @@ impl Variables {
         self.data[index] = Datum::Flag(value);
     }
 
-    /// Room for one more value in the collection at this index, where it has none: for all that it may hold, up to
-    /// `ROOM_AT_ONCE`. So a state takes early what a long run would take later.
+    /// Makes room for one more value in the collection at an index, if there is none: for all
+    /// values that it may hold, up to `ROOM_AT_ONCE`. So a state takes memory early that a long run
+    /// would take later.
     ///
     /// # Errors
     ///
@@ -218,7 +222,7 @@ impl Variables {
         }
     }
 
-    /// What a change makes of the collection at this index with a value.
+    /// Applies a change with a value to the collection at an index.
     ///
     /// # Errors
     ///
@@ -237,7 +241,7 @@ impl Variables {
         }
     }
 
-    /// The queue at this index without its first value, where there is one.
+    /// Removes the first value of the queue at an index, if there is one.
     pub fn pop(&mut self, index: usize)
         requires { HasHeldAt index self.old }
         ensures { self.new ≡ slice_set self.old index
@@ -248,12 +252,12 @@ impl Variables {
         }
     }
 
-    /// Makes them a copy of others. The memory that they have serves again, that of a collection where one stands in
-    /// the same index.
+    /// Makes these a copy of others. Memory is used again, that of a collection if the other has a
+    /// collection at the same index.
     ///
     /// # Errors
     ///
-    /// No memory for more than they had room for. Nothing is known of the variables then.
+    /// No memory for more than these have. Their contents are then unspecified.
     #[inline]
     pub fn copy_from(&mut self, other: &Variables) -> Result<(), AllocError>
         ensures { OnOk result (self.new ≡ other.now) }
@@ -265,7 +269,7 @@ impl Variables {
         }
     }
 
-    // The same of others that are more or fewer.
+    // The same for others that are more or fewer.
     #[inline(never)]
     fn copy_resized(&mut self, other: &Variables) -> Result<(), AllocError>
         ensures { OnOk result (self.new ≡ other.now) }
@@ -276,7 +280,8 @@ impl Variables {
         push_all(&mut self.data, rest)
     }
 
-    /// Each number of the variables, bags and queues is one of the language. It does nothing.
+    /// States that each number of the variables, bags and queues is a number of the language. Does
+    /// nothing.
     pub fn holds_numbers(&self)
         ensures { HoldsNumbers self.now }
     {
@@ -286,7 +291,7 @@ impl Variables {
     }
 }
 
-// Makes each datum a copy of the other one in its place.
+// Makes each datum a copy of the other one at its index.
 #[inline]
 fn copy_all(to: &mut [Datum], from: &[Datum]) -> Result<(), AllocError>
     requires { length to.old ≡ length from.now }
@@ -298,7 +303,7 @@ fn copy_all(to: &mut [Datum], from: &[Datum]) -> Result<(), AllocError>
     Ok(())
 }
 
-// Puts copies of so many data behind the others.
+// Appends copies of data.
 fn push_all(to: &mut SmallVec<Datum, 2>, more: &[Datum]) -> Result<(), AllocError>
     ensures { OnOk result (to.new.items ≡ to.old.items ++ more.now) }
 {
@@ -342,7 +347,7 @@ pub struct State {
 }
 
 impl State {
-    /// Each number of the state is one of the language. It does nothing.
+    /// States that each number of the state is a number of the language. Does nothing.
     pub fn holds_numbers(&self)
         ensures { HoldsNumbers self.now.variables }
     {
@@ -361,7 +366,8 @@ impl Clone for State {
     }
 }
 
-/// What a rule does: the state after it, what it sent by port, and the phase of its last `goto`, if one ran.
+/// The result of a rule: the state after it, what it sent by port, and the phase of its last
+/// `goto`, if one ran.
 #[derive(Drop, PartialEq, Eq)]
 pub struct Effect {
     /// The state after the rule.

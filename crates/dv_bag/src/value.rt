@@ -1,4 +1,4 @@
-//! What an expression gives.
+//! Values of expressions.
 
 /// The type of a value.
 #[derive(Clone, Copy, PartialEq, Eq)]

@@ -1,4 +1,4 @@
-//! Laws of inputs. Each function stands for the law in its contract; its body does nothing.
+//! Laws of inputs. Each function states a law in its contract; its body does nothing.
 
 ghost use Rattle.std.specs.Prelude.{◌≡◌, ℕ, ◌<◌, ◌≤◌, ◌++◌, ◌∷◌, List, [], ℤ, IfSome, count_by, replicate, length};
 ghost use Rattle.dv_time.specs.Time.{IsOfRun, rank, time_of};
@@ -8,7 +8,7 @@ ghost use Rattle.dv_bag.specs.BagLists.{AreBags};
 ghost use Rattle.dv_bag.specs.Inputs.{IsByTime, bags_at, inputs_at, inputs_before, is_of, next_from, start_of, time_at};
 ghost use Rattle.dv_bag.specs.declared.inputs.Input.{Input};
 
-/// A value comes in at a time and a port as often as inputs say so: equal inputs are copies.
+/// The number of copies of a value that come in at a time and a port is the number of its inputs.
 pub fn equal_inputs_are_copies()
     ensures ports { (ports : ℕ) (t : Time) (inputs : List Input)
         → length (bags_at ports inputs t) ≡ ports }
@@ -17,12 +17,13 @@ pub fn equal_inputs_are_copies()
         ≡ capped (count_by (is_of t port value) inputs) }
 {}
 
-/// What comes in at a rank stands in bags.
+/// What comes in at a rank is a list of bags.
 pub fn what_comes_in_stands_in_bags()
     ensures { (limit ports n : ℕ) (inputs : List Input) → AreBags (inputs_at limit ports inputs n) }
 {}
 
-/// Inputs come in at the ranks of their times. One whose microstep is above the limit has none and never comes in.
+/// Inputs come in at the ranks of their times. An input whose microstep is above the limit has no
+/// rank and never comes in.
 pub fn inputs_come_at_their_times()
     ensures at_rank { (limit ports : ℕ) (t : Time) (inputs : List Input) → IsOfRun limit t
         → inputs_at limit ports inputs (rank limit t) ≡ bags_at ports inputs t }
@@ -31,8 +32,8 @@ pub fn inputs_come_at_their_times()
         → inputs_at limit ports (front ++ i ∷ back) n ≡ inputs_at limit ports (front ++ back) n }
 {}
 
-/// The index of a rank is that of the first input that a run comes to there or later. It never falls, and is the same up
-/// to that input's rank.
+/// The index of a rank is that of the first input that a run reaches there or later. It never
+/// falls, and it stays the same up to that input's rank.
 pub fn indices_follow_times()
     ensures next { (limit : ℕ) (inputs : List Input) (t : Time)
         → time_at inputs (inputs_before limit inputs t) ≡ next_from limit inputs t }
@@ -49,7 +50,7 @@ pub fn indices_follow_times()
         ≡ inputs_before limit inputs (time_of limit n) }
 {}
 
-/// From a rank on nothing comes in before that of the next input to which a run comes.
+/// From a rank on nothing comes in before the rank of the next input that a run reaches.
 pub fn nothing_comes_in_between()
     ensures { (limit ports n m : ℕ) (inputs : List Input) → IsByTime inputs → n ≤ m
         → IfSome (next_from limit inputs (time_of limit n)) (λ t. m < rank limit t)

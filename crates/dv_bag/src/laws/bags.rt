@@ -15,8 +15,8 @@ pub fn bags_are_a_commutative_monoid()
         → union (union a b) c ≡ union a (union b c) }
 {}
 
-/// A bag is a map from values to counts: bags with the same counts are equal, an edit changes the count of its value
-/// alone, and union adds counts.
+/// A bag is a map from values to counts: bags with the same counts are equal, an edit changes only
+/// the count of its value, and union adds counts.
 pub fn bags_are_their_counts()
     ensures equal { (a b : Counts) → IsBag a → IsBag b → ((v : ℤ) → count_of v a ≡ count_of v b)
         → a ≡ b }
@@ -32,13 +32,14 @@ pub fn bags_are_their_counts()
         → count_of v (union a b) ≡ capped (count_of v a + count_of v b) }
 {}
 
-/// An edit of a bag leaves a bag.
+/// An edited bag is a bag.
 pub fn edits_leave_bags()
     ensures more { (v : ℤ) (n : ℕ) (b : Counts) → IsBag b → IsBag (with_copies v n b) }
     ensures less { (v : ℤ) (b : Counts) → IsBag b → IsBag (without_one v b) }
 {}
 
-/// Copies go in in either order, and copies of one value join, whatever the list of pairs.
+/// The order in which copies are inserted does not matter, and copies of one value are added up,
+/// for any list of pairs.
 pub fn copies_commute_and_join()
     ensures either { (v w : ℤ) (n m : ℕ) (b : Counts)
         → with_copies v n (with_copies w m b) ≡ with_copies w m (with_copies v n b) }
@@ -47,7 +48,7 @@ pub fn copies_commute_and_join()
     ensures capped { (v : ℤ) (n : ℕ) (b : Counts) → with_copies v (capped n) b ≡ with_copies v n b }
 {}
 
-/// Sizes add.
+/// The size of a union is the sum of the sizes.
 pub fn sizes_add()
     ensures size { (a b : Counts) → size (union a b) ≡ capped (size a + size b) }
     ensures total { (a b : Counts) → total a + total b < 2 ^ 64

@@ -5,7 +5,8 @@ ghost use Rattle.dv_time.specs.Time.{is_before};
 ghost use Rattle.dv_time.specs.declared.time.Time.{Time};
 ghost use Rattle.dv_bag.specs.Part.{IsByTime, PartOf, before, joined, nothing, since};
 
-/// A time cuts a part in two: what is before it and what is since then are the whole, and have nothing in common.
+/// A time cuts a part into two: what is before it and what is at it or later make up the whole, and
+/// have nothing in common.
 pub fn a_time_parts_a_part()
     ensures together { (c : Time) (p : PartOf) → IsByTime p → joined (before c p) (since c p) ≡ p }
     ensures none_since { (c : Time) (p : PartOf) → since c (before c p) ≡ nothing }
@@ -14,7 +15,7 @@ pub fn a_time_parts_a_part()
         → before c (before d p) ≡ before c p }
 {}
 
-/// A cut of joined parts joins their cuts.
+/// A cut of joined parts is the cuts of both, joined.
 pub fn cuts_of_joined_parts()
     ensures before { (c : Time) (p q : PartOf)
         → before c (joined p q) ≡ joined (before c p) (before c q) }
