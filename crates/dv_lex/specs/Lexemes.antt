@@ -10,7 +10,7 @@ use Rattle.dv_lex.specs.declared.token.Keyword.TheVariants as keyword
 use Rattle.dv_lex.specs.declared.token.Symbol.{Symbol}
 use Rattle.dv_lex.specs.declared.token.Symbol.TheVariants as symbol
 
--- a token before names are numbered, or what stands between tokens
+-- a token before names are numbered, or what is between tokens
 pub data Lexeme : Type 0 where
   Blank : Lexeme
   Comment : Lexeme
@@ -27,15 +27,15 @@ is_blank b = b == 32 || b == 9 || b == 13 || b == 10
 abbrev pub starts_name : ℕ → Bool
 starts_name c = is_xid_start c || c == 95
 
--- whether the character may stand in a name behind its first
+-- whether the character may follow the first one in a name
 abbrev pub continues_name : ℕ → Bool
 continues_name c = is_xid_continue c
 
--- whether the byte is a character of ASCII that may stand in a name behind its first
+-- whether the byte is an ASCII character that may follow the first one in a name
 abbrev pub is_name_byte : ℕ → Bool
 is_name_byte b = is_ascii_alphanumeric b || b == 95
 
--- how many line feeds are among the bytes
+-- the number of line feeds among the bytes
 abbrev pub line_feeds : List ℕ → ℕ
 line_feeds bytes = count_by (λ b. b == 10) bytes
 
@@ -48,7 +48,7 @@ IsComment (b ∷ bytes) = (b ≡ 35) × IsTrue (list_all (λ c. not (c == 10)) b
 abbrev pub IsWord : List ℕ → Type 0
 IsWord bytes = (c : ℕ) × (cs : List ℕ) × (bytes ≡ encode_utf8_all (c ∷ cs)) × IsTrue (starts_name c) × IsTrue (list_all continues_name cs)
 
--- how a keyword is written
+-- the spelling of a keyword
 abbrev pub keyword_text : Keyword → List ℕ
 keyword_text keyword.Atomic = codes "atomic"
 keyword_text keyword.Coupled = codes "coupled"
@@ -95,7 +95,7 @@ keyword_text keyword.Push = codes "push"
 keyword_text keyword.Pop = codes "pop"
 keyword_text keyword.Front = codes "front"
 
--- is the word never a name
+-- whether the word is never a name
 abbrev pub is_reserved : Keyword → Bool
 is_reserved keyword.Version = false
 is_reserved keyword.Queue = false
@@ -104,7 +104,7 @@ is_reserved keyword.Pop = false
 is_reserved keyword.Front = false
 is_reserved word = true
 
--- how a symbol is written
+-- the spelling of a symbol
 abbrev pub symbol_text : Symbol → List ℕ
 symbol_text symbol.Assign = codes ":="
 symbol_text symbol.Arrow = codes "->"

@@ -7,5 +7,5 @@ pub mod Versions
 pub mod Texts
 pub mod Order
 pub mod Words
--- What serves proofs.
+-- What proofs need.
 pub mod Steps

@@ -16,7 +16,7 @@ name_in _ = None
 abbrev pub names_of : List Located → List (List ℕ)
 names_of xs = first_appearances (filter_map (λ x. name_in x.lexeme) xs)
 
--- what token a lexeme is: a name by its offset in the table; blanks and comments are none
+-- the token of a lexeme: a name by its index in the table; blanks and comments are no tokens
 abbrev pub kind_of : List (List ℕ) → Lexeme → Option TokenKind
 kind_of names Blank = None
 kind_of names Comment = None

@@ -1,11 +1,11 @@
--- Which of several refusals of a text is its answer: the one at the least offset, and at one offset the one of the least number.
+-- Which of several refusals is the answer: the one at the least offset, and at one offset the one with the least number.
 use Rattle.std.specs.Prelude.{ℕ, Bool, ◌&&◌, ◌||◌, nat_eq, nat_lt, if◌then◌else◌, List, [], ◌∷◌, Option, Some, None}
 use Rattle.dv_lex.specs.declared.error.RefusalNumber.{RefusalNumber}
 use Rattle.dv_lex.specs.declared.error.RefusalNumber.TheVariants.{E1, E2, E3, E4, E5, E6, E7, E8, E9, E10, E11, E12, E13, E14}
 use Rattle.dv_lex.specs.declared.error.RefusalNumber.TheVariants.{E15, E16, E17}
 use Rattle.dv_lex.specs.declared.error.Refusal.{Refusal}
 
--- the number by which a refusal is told
+-- the number that is printed for a refusal
 abbrev pub ordinal : RefusalNumber → ℕ
 ordinal E1 = 1
 ordinal E2 = 2
@@ -29,7 +29,7 @@ ordinal E17 = 17
 abbrev pub precedes : Refusal → Refusal → Bool
 precedes a b = nat_lt a.offset b.offset || (nat_eq a.offset b.offset && nat_lt (ordinal a.number) (ordinal b.number))
 
--- the earlier of a refusal, if there is one, and another
+-- the earlier of two refusals, of which the first may be missing
 abbrev pub earlier : Option Refusal → Refusal → Refusal
 earlier None r = r
 earlier (Some first) r = if precedes r first then r else first

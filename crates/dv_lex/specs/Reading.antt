@@ -2,12 +2,12 @@
 use Rattle.std.specs.Prelude.{◌≡◌, ℕ, ◌+◌, ◌^◌, ◌<◌, ◌≤◌, List, [], ◌∷◌, ◌++◌, length}
 use Rattle.dv_lex.specs.Lexemes.{Lexeme, Numeral, Spells}
 
--- a lexeme, and how many bytes of the text stand before it
+-- a lexeme, and the number of bytes of the text before it
 pub record Located : Type 0 where
   pub lexeme : Lexeme
   pub offset : ℕ
 
--- the bytes begin with the lexeme, which `front` spells, and then come those of `rest`; no longer front spells a lexeme
+-- the bytes are `front`, which spells the lexeme, and then `rest`; no longer front spells a lexeme
 pub record IsFirst (bytes : List ℕ) (lexeme : Lexeme) (front rest : List ℕ) : Type 0 where
   pub whole : bytes ≡ front ++ rest
   pub spelled : Spells lexeme front
@@ -26,7 +26,7 @@ IsInRange _ = Unit {0}
 abbrev pub LargeNumberBegins : List ℕ → Type 0
 LargeNumberBegins bytes = (value : ℕ) × (front : List ℕ) × (rest : List ℕ) × IsFirst bytes (Numeral value) front rest × (2 ^ 63 ≤ value)
 
--- the bytes, which begin at an offset, are these lexemes and then `rest`, which begins at the offset `end`
+-- the bytes from one offset on are these lexemes and then `rest`, which begins at the offset `end`
 abbrev pub Reads : ℕ → List ℕ → List Located → ℕ → List ℕ → Type 0
 Reads offset bytes [] end rest = (end ≡ offset) × (rest ≡ bytes)
 Reads offset bytes (x ∷ xs) end rest =

@@ -14,7 +14,7 @@ use Rattle.dv_lex.specs.Numbering.{kind_of}
 abbrev pub BeginsWith : ℕ → List ℕ → Type 0
 BeginsWith c text = (rest : List ℕ) × (text ≡ encode_utf8 c ++ rest)
 
--- the text is its characters from the front on that pass, and then the rest
+-- the text is its characters at the front that satisfy a test, and then the rest
 pub record SplitsCharacters (passes : ℕ → Bool) (text run rest : List ℕ) : Type 0 where
   pub characters : List ℕ
   pub run_is : run ≡ encode_utf8_all characters
@@ -22,12 +22,12 @@ pub record SplitsCharacters (passes : ℕ → Bool) (text run rest : List ℕ) :
   pub each : list_all passes characters ≡ true
   pub ends : (c : ℕ) → BeginsWith c rest → passes c ≡ false
 
--- the rest does not go on with a run of bytes that pass
+-- the rest does not begin with a byte that satisfies a test
 abbrev pub Ends : (ℕ → Bool) → List ℕ → Type 0
 Ends passes [] = Unit {0}
 Ends passes (b ∷ bytes) = passes b ≡ false
 
--- the bytes are those from the front on that pass, and then the rest
+-- the bytes are those at the front that satisfy a test, and then the rest
 pub record SplitsRun (passes : ℕ → Bool) (bytes run rest : List ℕ) : Type 0 where
   pub whole : bytes ≡ run ++ rest
   pub each : list_all passes run ≡ true
@@ -39,12 +39,12 @@ pub record IsLongestSymbol (bytes : List ℕ) (sign : Symbol) (rest : List ℕ) 
   pub longest : (other : Symbol) (more : List ℕ) → bytes ≡ symbol_text other ++ more →
       length (symbol_text other) ≤ length (symbol_text sign)
 
--- the table after a lexeme: a name is added, unless it is there
+-- the table after a lexeme: a name is added if it is new
 abbrev pub with_lexeme : List (List ℕ) → Lexeme → List (List ℕ)
 with_lexeme names (Identifier text) = with_name names text
 with_lexeme names _ = names
 
--- the bytes begin with a lexeme within the range of numbers, which is this token at its offset; the table grows from old to new by it
+-- the bytes begin with a lexeme within the range of numbers, whose token at its offset is this one; it changes the table from old to new
 pub record ReadsToken (offset : ℕ) (bytes : List ℕ) (old new : List (List ℕ)) (token : Token) (rest : List ℕ) : Type 0 where
   pub lexeme : Lexeme
   pub front : List ℕ

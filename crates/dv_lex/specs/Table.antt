@@ -11,10 +11,10 @@ first_appearances (text ∷ texts) = text ∷ filter (λ other. not (bytes_eq te
 abbrev pub has_name : List (List ℕ) → List ℕ → Bool
 has_name names text = list_any (bytes_eq text) names
 
--- the table with the name at its end, unless it has it
+-- the table with the name at its end, if it is new
 abbrev pub with_name : List (List ℕ) → List ℕ → List (List ℕ)
 with_name names text = if has_name names text then names else names ++ text ∷ []
 
--- the number of a name is its offset in the table
+-- the number of a name is its index in the table
 abbrev pub number_of : List (List ℕ) → List ℕ → ℕ
 number_of names text = position_or_len (bytes_eq text) names

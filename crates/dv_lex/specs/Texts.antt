@@ -18,11 +18,11 @@ use Rattle.dv_lex.specs.Versions.{versioned}
 abbrev pub greatest_length : ℕ
 greatest_length = 16777216
 
--- the line of an offset of a text, counted from 1: the line feeds before it
+-- the line of an offset of a text, counted from 1: one more than the line feeds before it
 abbrev pub line_of : List ℕ → ℕ → ℕ
 line_of text offset = 1 + line_feeds (take offset text)
 
--- the text is not too long, and is UTF-8
+-- the text is not too long, and it is UTF-8
 pub record IsReadable (text : List ℕ) : Type 0 where
   pub short : length text ≤ greatest_length
   pub utf8 : IsUtf8 text
@@ -41,7 +41,7 @@ pub record ReadsUpTo (text : List ℕ) (offset : ℕ) (rest : List ℕ) : Type 0
   pub lexemes : List Located
   pub reads : Reads 0 text lexemes offset rest
 
--- what each refusal of a text says of it, and at which offset
+-- what each refusal says of a text, and at which offset
 abbrev pub IsRefusedAs : List ℕ → RefusalNumber → ℕ → Type 0
 -- the text is too long
 IsRefusedAs text E17 offset = (greatest_length < length text) × (offset ≡ 0)
@@ -53,7 +53,7 @@ IsRefusedAs text E2 offset = (rest : List ℕ) × ReadsUpTo text offset rest × 
 IsRefusedAs text E3 offset = (rest : List ℕ) × ReadsUpTo text offset rest × LargeNumberBegins rest
 IsRefusedAs text _ offset = ⊥
 
--- the text is refused so
+-- the text has this refusal
 abbrev pub IsRefused : List ℕ → Refusal → Type 0
 IsRefused text r = IsRefusedAs text r.number r.offset
 
@@ -62,7 +62,7 @@ abbrev pub IsNumbered : List (List ℕ) → TokenKind → Type 0
 IsNumbered names (Name number) = number < length names
 IsNumbered names _ = Unit {0}
 
--- an offset that a text can have, its end among them
+-- an offset of a text, or its end
 abbrev pub IsOffset : ℕ → Type 0
 IsOffset offset = offset ≤ greatest_length
 

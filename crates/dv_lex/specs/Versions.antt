@@ -16,16 +16,16 @@ header_words = keyword.Version ∷ []
 abbrev pub later_words : List Keyword
 later_words = keyword.Queue ∷ keyword.Push ∷ keyword.Pop ∷ keyword.Front ∷ []
 
--- the one among these words that is so written
+-- the one of these words with this spelling
 abbrev pub word_written : List Keyword → List ℕ → Option Keyword
 word_written words text = find (λ word. bytes_eq (keyword_text word) text) words
 
--- a word in the place of a name that is so written
+-- a keyword in place of a name with its spelling
 abbrev pub kind_or_word : TokenKind → Option Keyword → TokenKind
 kind_or_word k None = k
 kind_or_word k (Some word) = kind.Keyword word
 
--- how a name is written; of other tokens nothing
+-- the text of a name; empty for other tokens
 abbrev pub text_in : List (List ℕ) → TokenKind → List ℕ
 text_in names (kind.Name n) = unwrap_or (slice_get names n) []
 text_in names other = []
@@ -33,16 +33,16 @@ text_in names other = []
 abbrev pub kind_among : List (List ℕ) → List Keyword → TokenKind → TokenKind
 kind_among names words k = kind_or_word k (word_written words (text_in names k))
 
--- the same of a token, which keeps its offset
+-- the same for a token, which keeps its offset
 abbrev pub with_words : List (List ℕ) → List Keyword → Token → Token
 with_words names words t = record { kind = kind_among names words t.kind; offset = t.offset }
 
--- does the number of version 2 stand here
+-- whether the number of version 2 comes first
 abbrev pub is_second_version : TokenKind → Bool
 is_second_version (kind.Number n) = n == 2
 is_second_version other = false
 
--- what stands behind the word of a header
+-- the tokens behind the word of a header
 abbrev pub behind_header : List (List ℕ) → List Token → List Token
 behind_header names [] = []
 behind_header names (t ∷ ts) = t ∷ (if is_second_version t.kind then map (with_words names later_words) ts else ts)
@@ -51,8 +51,8 @@ abbrev pub headed : List (List ℕ) → Option Keyword → Token → List Token 
 headed names None t ts = t ∷ ts
 headed names (Some word) t ts = record { kind = kind.Keyword word; offset = t.offset } ∷ behind_header names ts
 
--- The tokens of a text: where the first is the name `version` it is the word of a header. Everywhere else `version` is a name.
--- Where the number 2 follows that word, the names behind it that are written as words of version 2 are these.
+-- The tokens of a text: if the first is the name `version` it is the word of a header. Everywhere else `version` is a name. If the number 2
+-- follows that word, the names behind it that are spelled like words of version 2 are these words.
 abbrev pub versioned : List (List ℕ) → List Token → List Token
 versioned names [] = []
 versioned names (t ∷ ts) = headed names (word_written header_words (text_in names t.kind)) t ts

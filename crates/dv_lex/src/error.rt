@@ -24,11 +24,11 @@ pub enum RefusalNumber {
     E6,
     /// An unknown model, part, port, variable, flag, bag or phase.
     E7,
-    /// A wrong type, or a name of another sort than its offset wants.
+    /// A wrong type, or a name of another sort than is wanted there.
     E8,
-    /// Something that is not allowed in this offset.
+    /// Something that is not allowed there.
     E9,
-    /// `phases`, `start` or a phase's `hold` is missing or stands twice.
+    /// `phases`, `start` or a phase's `hold` is missing or occurs twice.
     E10,
     /// An empty range, a start value outside its range, or a start hold that faults.
     E11,
@@ -38,11 +38,11 @@ pub enum RefusalNumber {
     E13,
     /// A repeated link.
     E14,
-    /// A part whose model reaches the model in which it stands.
+    /// A part whose model contains the model of the part itself.
     E15,
     /// The root is atomic.
     E16,
-    /// A limit on size is passed.
+    /// A limit on size is exceeded.
     E17,
 }
 
@@ -75,9 +75,9 @@ impl fmt::Display for RefusalNumber {
     }
 }
 
-/// What is wrong with a text, and where: the offset is that of the token which the refusal names, as the number of
-/// the bytes of the text before it. Of two refusals the one at the lesser offset comes first, and at one offset the one
-/// with the lesser number.
+/// What is wrong with a text, and where. `offset` is that of the token that the refusal names: the
+/// number of bytes of the text before it. Of two refusals the one at the lesser offset comes first,
+/// and at one offset the one with the lesser number.
 #[derive(Clone, Copy, Debug, PartialEq, Eq)]
 pub struct Refusal {
     /// The number of the refusal.
@@ -86,8 +86,8 @@ pub struct Refusal {
     pub offset: u32,
 }
 
-/// A refused text as it is answered: which refusal, the line, counted from 1, and the offset of the token that is named,
-/// as the number of the bytes of the text before it.
+/// The answer for a refused text: which refusal, its line, counted from 1, and the offset of the
+/// token that it names.
 #[derive(Clone, Copy, Debug, PartialEq, Eq)]
 pub struct TextError {
     /// The number of the refusal.
@@ -109,8 +109,8 @@ impl fmt::Display for TextError {
     }
 }
 
-/// The answer to a refusal of the text: its number, its offset, and the line of that. An offset past the text's end lies
-/// on the last line.
+/// The answer to a refusal: its number, its offset, and the line of the offset. An offset past the
+/// end of the text is on the last line.
 pub fn answer(text: &[u8], refusal: Refusal) -> TextError
     ensures { result ≡ answer_to text.now refusal }
 {
@@ -139,7 +139,7 @@ fn line_feeds(bytes: &[u8]) -> u64
     bytes.iter().filter(|byte| **byte == b'\n').count() as u64
 }
 
-/// Why a model could not be loaded.
+/// Why a model text has no tokens, or no file.
 #[derive(Clone, Copy, Debug, PartialEq, Eq)]
 pub enum LoadError {
     /// The text is refused.

@@ -5,7 +5,8 @@ ghost use Rattle.dv_lex.specs.Lexemes.{is_reserved, keyword_text};
 
 use crate::token::Keyword;
 
-/// The reserved word that the word is, if it is one. It is looked for among those of its length alone.
+/// The reserved word with this spelling, if there is one. Only those of the same length are
+/// compared.
 #[tactic(auto, using(crate::proofs::KeywordLengths::of_length, crate::proofs::KeywordLengths::of_no_length))]
 pub fn keyword(word: &str) -> Option<Keyword>
     ensures { MatchOption result
@@ -25,7 +26,7 @@ pub fn keyword(word: &str) -> Option<Keyword>
     }
 }
 
-// The reserved word of two bytes that the word is, if it is one.
+// The reserved word of two bytes with this spelling, if there is one.
 fn of_two(word: &str) -> Option<Keyword>
     ensures { MatchOption result ((k : Keyword) → length (keyword_text k) ≡ 2
         → IsTrue (is_reserved k) → word.now ≢ keyword_text k)
@@ -40,7 +41,7 @@ fn of_two(word: &str) -> Option<Keyword>
     }
 }
 
-// The reserved word of three bytes that the word is, if it is one.
+// The reserved word of three bytes with this spelling, if there is one.
 fn of_three(word: &str) -> Option<Keyword>
     ensures { MatchOption result ((k : Keyword) → length (keyword_text k) ≡ 3
         → IsTrue (is_reserved k) → word.now ≢ keyword_text k)
@@ -59,7 +60,7 @@ fn of_three(word: &str) -> Option<Keyword>
     }
 }
 
-// The reserved word of four bytes that the word is, if it is one.
+// The reserved word of four bytes with this spelling, if there is one.
 fn of_four(word: &str) -> Option<Keyword>
     ensures { MatchOption result ((k : Keyword) → length (keyword_text k) ≡ 4
         → IsTrue (is_reserved k) → word.now ≢ keyword_text k)
@@ -84,7 +85,7 @@ fn of_four(word: &str) -> Option<Keyword>
     }
 }
 
-// The reserved word of five bytes that the word is, if it is one.
+// The reserved word of five bytes with this spelling, if there is one.
 fn of_five(word: &str) -> Option<Keyword>
     ensures { MatchOption result ((k : Keyword) → length (keyword_text k) ≡ 5
         → IsTrue (is_reserved k) → word.now ≢ keyword_text k)
@@ -99,7 +100,7 @@ fn of_five(word: &str) -> Option<Keyword>
     }
 }
 
-// The reserved word of six bytes that the word is, if it is one.
+// The reserved word of six bytes with this spelling, if there is one.
 fn of_six(word: &str) -> Option<Keyword>
     ensures { MatchOption result ((k : Keyword) → length (keyword_text k) ≡ 6
         → IsTrue (is_reserved k) → word.now ≢ keyword_text k)
@@ -113,7 +114,7 @@ fn of_six(word: &str) -> Option<Keyword>
     }
 }
 
-// The reserved word of seven bytes that the word is, if it is one.
+// The reserved word of seven bytes with this spelling, if there is one.
 fn of_seven(word: &str) -> Option<Keyword>
     ensures { MatchOption result ((k : Keyword) → length (keyword_text k) ≡ 7
         → IsTrue (is_reserved k) → word.now ≢ keyword_text k)
@@ -127,7 +128,7 @@ fn of_seven(word: &str) -> Option<Keyword>
     }
 }
 
-// The reserved word of eight bytes that the word is, if it is one.
+// The reserved word of eight bytes with this spelling, if there is one.
 fn of_eight(word: &str) -> Option<Keyword>
     ensures { MatchOption result ((k : Keyword) → length (keyword_text k) ≡ 8
         → IsTrue (is_reserved k) → word.now ≢ keyword_text k)
@@ -140,7 +141,7 @@ fn of_eight(word: &str) -> Option<Keyword>
     }
 }
 
-// The reserved word of nine bytes that the word is, if it is one.
+// The reserved word of nine bytes with this spelling, if there is one.
 fn of_nine(word: &str) -> Option<Keyword>
     ensures { MatchOption result ((k : Keyword) → length (keyword_text k) ≡ 9
         → IsTrue (is_reserved k) → word.now ≢ keyword_text k)

@@ -1,4 +1,4 @@
-//! Laws of the definitions: what holds of every text.
+//! Laws of the tokens and refusals of every text.
 
 ghost use Rattle.std.specs.Prelude.{◌≡◌, ◌≤◌, ◌<◌, ◌⊎◌, ℕ, List, ◌∷◌, ◌++◌, All, bytes_eq, length};
 ghost use Rattle.std.specs.List.{IsDistinct};
@@ -55,7 +55,8 @@ pub fn offsets_count_bytes()
         × (offset ≡ length before) }
 {}
 
-/// Each token has a byte of the text at its offset, and each but the first has a greater offset than the one before.
+/// Each token has a byte of the text at its offset, and each but the first has a greater offset
+/// than the one before.
 pub fn tokens_have_offsets()
     ensures in_text { (text : List ℕ) (names : List (List ℕ)) (tokens : List Token) →
         IsTokensOf text names tokens → All (λ token. token.offset < length text) tokens }
@@ -76,8 +77,8 @@ pub fn other_texts_keep_their_tokens()
         → tokens ≡ tokens_of names t.lexemes }
 {}
 
-/// Where a text begins with the name `version` and is not of version 2, that name is a keyword, at its offset; the other tokens
-/// are those of its lexemes.
+/// If a text begins with the name `version` and is not of version 2, that name is a keyword, at its
+/// offset; the other tokens are those of its lexemes.
 pub fn version_two_alone_changes_what_follows_a_header()
     ensures { (text : List ℕ) (names : List (List ℕ)) (tokens : List Token)
         (t : IsTokensOf text names tokens) (first : Token) (others : List Token) →

@@ -24,7 +24,7 @@ use unicode_ident::{is_xid_continue, is_xid_start};
 /// The greatest length of a model text, in bytes.
 pub const GREATEST_LENGTH: usize = 16_777_216;
 
-/// Whether the character is a blank.
+/// Whether the character is a blank: a space, a tab, a carriage return or a line feed.
 fn is_blank(character: char) -> bool
     ensures { result ≡ is_blank character }
 {
@@ -38,14 +38,14 @@ fn starts_name(character: char) -> bool
     is_xid_start(character) || character == '_'
 }
 
-/// Whether the character may stand in a name behind its first.
+/// Whether the character may follow the first one in a name.
 fn continues_name(character: char) -> bool
     ensures { result ≡ continues_name character }
 {
     is_xid_continue(character)
 }
 
-/// How many digits there are from the front on.
+/// The number of digits at the front.
 fn digits_len(bytes: &[u8]) -> usize
     ensures { result ≡ length (take_while is_ascii_digit bytes.now) }
 {
@@ -55,7 +55,7 @@ fn digits_len(bytes: &[u8]) -> usize
         .count()
 }
 
-/// How many bytes there are up to the end of the line.
+/// The number of bytes before the end of the line.
 fn line_len(bytes: &[u8]) -> usize
     ensures { result ≡ length (take_while (λ b. not (b == 10)) bytes.now) }
 {
@@ -71,7 +71,8 @@ fn split_first(text: &str) -> Option<(char, &str)>
     Some((first, characters.as_str()))
 }
 
-/// How many bytes from the front on are characters of ASCII that may stand in a name.
+/// The number of bytes at the front that are ASCII characters which may follow the first one in a
+/// name.
 fn name_bytes_len(bytes: &[u8]) -> usize
     ensures { result ≡ length (take_while is_name_byte bytes.now) }
 {
@@ -81,14 +82,14 @@ fn name_bytes_len(bytes: &[u8]) -> usize
         .count()
 }
 
-/// The characters of ASCII from the front on that may stand in a name, and what follows them.
+/// Splits off the ASCII characters at the front that may follow the first one in a name.
 fn split_name_bytes(text: &str) -> (&str, &str)
     ensures { SplitsRun is_name_byte text.now result.0.now result.1.now }
 {
     text.split_at(name_bytes_len(text.as_bytes()))
 }
 
-/// Whether the first character, if there is one, is of ASCII.
+/// Whether there is a first character and it is ASCII.
 fn begins_with_ascii(text: &str) -> bool
     ensures { IsTrue result → (b : ℕ) (bytes : List ℕ) → text.now ≡ b ∷ bytes → b < 128 }
 {
@@ -98,8 +99,8 @@ fn begins_with_ascii(text: &str) -> bool
     }
 }
 
-/// The characters from the front on that may stand in a name, and what follows them. Each character is looked up only
-/// where those of ASCII do not end the word.
+/// Splits off the characters at the front that may follow the first one in a name. Characters are
+/// looked up one by one only if those of ASCII do not end the word.
 fn split_word(text: &str) -> (&str, &str)
     ensures { SplitsCharacters continues_name text.now result.0.now result.1.now }
 {
@@ -113,21 +114,21 @@ fn split_word(text: &str) -> (&str, &str)
     }
 }
 
-/// The digits from the front on, and what follows them.
+/// Splits off the digits at the front.
 fn split_digits(text: &str) -> (&str, &str)
     ensures { SplitsRun is_ascii_digit text.now result.0.now result.1.now }
 {
     text.split_at(digits_len(text.as_bytes()))
 }
 
-/// What is left of the line, and then its line feed and what follows it.
+/// Splits the text before the next line feed.
 fn split_line(text: &str) -> (&str, &str)
     ensures { SplitsRun (λ b. not (b == 10)) text.now result.0.now result.1.now }
 {
     text.split_at(line_len(text.as_bytes()))
 }
 
-/// The number that the digits write, if it is at most 2^63 - 1.
+/// The value of the digits, if it is at most 2^63 - 1.
 fn number(digits: &str) -> Option<Numeral>
     requires some { 0 < length digits.now }
     requires digits { IsTrue (list_all is_ascii_digit digits.now) }
@@ -140,7 +141,7 @@ fn number(digits: &str) -> Option<Numeral>
     }
 }
 
-/// What token a word is; a name is added to the table if it is new.
+/// The kind of the token of a word. A name is added to the table if it is new.
 fn word_kind(alloc: Global, names: &mut Names, word: &str) -> Result<TokenKind, AllocError>
     requires room { length names.old < 2 ^ 32 }
     requires word { IsWord word.now }
@@ -153,7 +154,7 @@ fn word_kind(alloc: Global, names: &mut Names, word: &str) -> Result<TokenKind, 
     }
 }
 
-/// The symbol at the front of the text, the longer of two, and what follows it.
+/// The symbol at the front of the text, of two characters if possible, and the rest.
 fn symbol(text: &str) -> Option<(Symbol, &str)>
     ensures { MatchOption result ((s : Symbol) (rest : List ℕ) → text.now ≢ symbol_text s ++ rest)
         (λ r. IsLongestSymbol text.now r.0 r.1.now) }
@@ -169,19 +170,19 @@ fn symbol(text: &str) -> Option<(Symbol, &str)>
     Some((single(*first)?, &text[1..]))
 }
 
-/// The refusal of a text.
+/// A refusal as an error.
 fn refused(number: RefusalNumber, offset: u32) -> LoadError
     ensures { result ≡ LoadError.Refused (record { number = number; offset = offset }) }
 {
     LoadError::Refused(Refusal { number, offset })
 }
 
-/// The number or the symbol at the front of the text, which begins with this character and at this offset, and what
-/// follows it. It takes no memory.
+/// The number or the symbol at the front of the text, whose first character and offset are given,
+/// and the rest. It takes no memory.
 ///
 /// # Errors
 ///
-/// E3 of a number above 2^63 - 1, E2 where no symbol begins, at this offset.
+/// E3 for a number above 2^63 - 1, and E2 if no symbol begins here, at this offset.
 fn number_or_symbol(first: char, text: &str, offset: u32) -> Result<(Token, &str), Refusal>
     requires first { BeginsWith first text.now }
     requires no_blank { is_blank first ≡ false }
@@ -212,7 +213,7 @@ fn number_or_symbol(first: char, text: &str, offset: u32) -> Result<(Token, &str
     Ok((Token { kind, offset }, rest))
 }
 
-/// The token at the front of the text, which begins with this character and at this offset, and what follows it.
+/// The token at the front of the text, whose first character and offset are given, and the rest.
 fn token<'a>(
     alloc: Global,
     names: &mut Names,
@@ -239,7 +240,7 @@ fn token<'a>(
     }
 }
 
-/// How many bytes of the text stand before a rest of it.
+/// The number of bytes of the text before `rest`, which is its end.
 fn offset_of(text: &str, rest: &str) -> u32
     requires short { length text.now ≤ greatest_length }
     requires part { length rest.now ≤ length text.now }
@@ -280,10 +281,10 @@ fn read(alloc: Global, text: &str) -> Result<Tokens, LoadError>
 /// The tokens of a model text.
 ///
 /// # Errors
-/// `Refused` where the text is too long, is not UTF-8, has a character with which no token begins, or a number
-/// above 2^63 - 1; the first of these that holds, in this order, the last two in reading order. A text that is too
-/// long is refused at its first byte, one that is not UTF-8 at the first byte of no whole character. `Memory` where
-/// an allocation was refused.
+/// `Refused` if the text is too long, is not UTF-8, has a character with which no token begins, or
+/// a number above 2^63 - 1. The first of these that applies is named, in this order, the last two
+/// in reading order. A text that is too long is refused at its first byte, one that is not UTF-8 at
+/// the first byte that begins no whole character. `Memory` if an allocation was refused.
 pub fn tokens(alloc: Global, text: &[u8]) -> Result<Tokens, LoadError>
     ensures tokens { IfOk result (λ r. IsTokensOf text.now r.names r.tokens.items) }
     ensures refused { (r : Refusal) → result ≡ Err (LoadError.Refused r) → IsRefused text.now r }

@@ -1,13 +1,14 @@
 //! The tokens of a model text, and the refusals of texts.
 //!
-//! `tokens` reads a text from its bytes in one pass, by the longest match. Names are numbered in the order in which
-//! they first appear, so that everything above compares names by their numbers; the table `Names` keeps the texts. It
-//! is a law that every text has tokens or one refusal, and not both. A `Refusal` is a number (E1 to E17) and how many
-//! bytes come before the token that it names, and of several the one that comes first in order is answered;
-//! `TextError` has its line too.
+//! `tokens` reads a text from its bytes in one pass, by the longest match. Names are numbered in
+//! the order of their first appearance, so that all crates above compare names by their numbers;
+//! the table `Names` keeps their texts. A law says that every text has either tokens or one
+//! refusal. A `Refusal` is a number (E1 to E17) and the offset of the token that it names, in
+//! bytes. Of several refusals the first is the answer, and `TextError` has its line too.
 //!
-//! The parser reads these tokens; `dv_check` and `dv_flat` refuse with these numbers, and `dv_explain` and `dv_hints`
-//! look at tokens to say what is wrong. What sequences of tokens are a file is not known here: that is `dv_syntax`.
+//! The parser reads these tokens. `dv_check` and `dv_flat` refuse with these numbers, and
+//! `dv_explain` and `dv_hints` look at tokens to say what is wrong. Which sequences of tokens are a
+//! file is not known here: that is in `dv_syntax`.
 #![tactic(auto)]
 
 /// Refusals, and the answer to a text.

@@ -7,7 +7,8 @@ use indexmap::IndexSet;
 use std::alloc::{AllocError, Global};
 use std::marker::Model;
 
-/// The names of a model text, each once, in the order of first appearance. A name's number is its offset here.
+/// The names of a model text, each once, in the order of first appearance. The number of a name is
+/// its index.
 #[derive(Drop)]
 pub struct Names {
     texts: IndexSet<String>,
@@ -31,21 +32,21 @@ impl Names {
         }
     }
 
-    /// How many names there are.
+    /// The number of names.
     pub fn len(&self) -> usize
         ensures { result ≡ length self.now }
     {
         self.texts.len()
     }
 
-    /// Whether there is no name.
+    /// Whether there are no names.
     pub fn is_empty(&self) -> bool
         ensures { IsTrue result ↔ (self.now ≡ []) }
     {
         self.texts.is_empty()
     }
 
-    /// The name of this number.
+    /// The text of the name with this number.
     pub fn text(&self, number: u32) -> Option<&str>
         ensures { option_copied result ≡ slice_get self.now number }
     {
@@ -55,11 +56,11 @@ impl Names {
         }
     }
 
-    /// The number of a name, which is added if it is new.
+    /// The number of a name. It is added if it is new.
     ///
     /// # Errors
     ///
-    /// No memory for the text of a new name. The table stays as it was.
+    /// No memory for the text of a new name. The table is as before.
     pub fn number(&mut self, alloc: Global, text: &str) -> Result<u32, AllocError>
         requires { length self.old < 2 ^ 32 }
         ensures number { IfOk result (λ n. n ≡ number_of self.new text.now) }

@@ -4,7 +4,7 @@ ghost use Rattle.std.specs.Prelude.{◌≡◌, ◌↔◌, ◌<◌, ◌^◌, IfSo
 
 use std::marker::Model;
 
-/// A number as a text writes it, from 0 to 2^63 - 1.
+/// A number of a text, from 0 to 2^63 - 1.
 #[derive(Clone, Copy, PartialEq, Eq)]
 pub struct Numeral {
     value: u64,
@@ -23,7 +23,7 @@ impl Model for Numeral {
 }
 
 impl Numeral {
-    /// The number as one of a text: `None` where it is above 2^63 - 1.
+    /// A value as a number of a text: `None` if it is above 2^63 - 1.
     pub fn new(value: u64) -> Option<Self>
         ensures in_range { IsSome result ↔ (value < 2 ^ 63) }
         ensures value { IfSome result (λ n. n ≡ value) }
@@ -35,7 +35,7 @@ impl Numeral {
         }
     }
 
-    /// The number as a number of the language.
+    /// The value as a number of the language.
     pub fn value(self) -> i64
         ensures value { result ≡ pos self }
     {

@@ -3,8 +3,9 @@
 use crate::names::Names;
 use crate::numeral::Numeral;
 
-/// A word of the language. `Version` is one where a text begins with it, and a name elsewhere; `Queue`, `Push`, `Pop` and `Front`
-/// are words behind a header of version 2, and names elsewhere; the others are never names.
+/// A word of the language. `Version` is a keyword only at the beginning of a text, and a name
+/// elsewhere. `Queue`, `Push`, `Pop` and `Front` are keywords behind a header of version 2, and
+/// names elsewhere. The others are never names.
 #[derive(Clone, Copy, PartialEq, Eq)]
 pub enum Keyword {
     /// `atomic`
@@ -146,29 +147,29 @@ pub enum Symbol {
     Percent,
 }
 
-/// What a token is.
+/// The kind of a token.
 #[derive(Clone, Copy, PartialEq, Eq)]
 pub enum TokenKind {
     /// A name, by its number in the table of names.
     Name(u32),
-    /// A number, with its value.
+    /// A number.
     Number(Numeral),
     /// A word of the language.
     Keyword(Keyword),
-    /// A sign.
+    /// A symbol.
     Symbol(Symbol),
 }
 
-/// A token, and its offset: the number of the bytes of the text before it.
+/// A token with its offset: the number of bytes of the text before it.
 #[derive(Clone, Copy, PartialEq, Eq)]
 pub struct Token {
-    /// What the token is.
+    /// The kind of the token.
     pub kind: TokenKind,
     /// The offset of its first byte, in bytes of the text.
     pub offset: u32,
 }
 
-/// The tokens of a model text, and the table by which its names are numbered.
+/// The tokens of a model text, and the table that numbers its names.
 #[derive(Drop)]
 pub struct Tokens {
     /// The names of the text, by their numbers.

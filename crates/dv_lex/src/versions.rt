@@ -6,7 +6,7 @@ ghost use Rattle.dv_lex.specs.Versions.{header_words, is_second_version, later_w
 use crate::names::Names;
 use crate::token::{Keyword, Token, TokenKind};
 
-// The word of a header, if it is so written.
+// The keyword of a header with this spelling, if there is one.
 fn header_word(text: &str) -> Option<Keyword>
     ensures { result ≡ word_written header_words text.now }
 {
@@ -16,7 +16,7 @@ fn header_word(text: &str) -> Option<Keyword>
     }
 }
 
-// The word of version 2 that is so written, if there is one.
+// The keyword of version 2 with this spelling, if there is one.
 fn later_word(text: &str) -> Option<Keyword>
     ensures { result ≡ word_written later_words text.now }
 {
@@ -29,7 +29,7 @@ fn later_word(text: &str) -> Option<Keyword>
     }
 }
 
-// How a name is written; of other tokens nothing.
+// The text of a name: empty for other tokens.
 fn text_of<'a>(names: &'a Names, kind: TokenKind) -> &'a str
     ensures { result.now ≡ text_in names.now kind }
 {
@@ -42,7 +42,7 @@ fn text_of<'a>(names: &'a Names, kind: TokenKind) -> &'a str
     }
 }
 
-// A token; where it is a name that is written as a word of version 2, that word.
+// The token, or if it is a name with the spelling of a word of version 2, that keyword.
 fn with_later_word(names: &Names, token: Token) -> Token
     ensures { result ≡ with_words names.now later_words token }
 {
@@ -55,7 +55,7 @@ fn with_later_word(names: &Names, token: Token) -> Token
     }
 }
 
-// Is a token the number of version 2.
+// Whether a token is the number of version 2.
 fn is_second_version(kind: TokenKind) -> bool
     ensures { result ≡ is_second_version kind }
 {
@@ -65,7 +65,7 @@ fn is_second_version(kind: TokenKind) -> bool
     number.value() == 2
 }
 
-// Makes words of names, from the third token on.
+// Replaces names by keywords of version 2, from the third token on.
 fn make_later_words(names: &Names, tokens: &mut Vec<Token>)
     requires { 2 ≤ length tokens.old.items }
     ensures { tokens.new.items ≡ take 2 tokens.old.items
@@ -76,8 +76,8 @@ fn make_later_words(names: &Names, tokens: &mut Vec<Token>)
     }
 }
 
-/// Makes a keyword of the name `version` where the tokens begin with it, and keywords of the names behind a header of version 2
-/// that are written as words of that version. It takes no memory.
+/// Replaces the name `version` by its keyword if the tokens begin with it, and behind a header of
+/// version 2 the names that are words of that version. It takes no memory.
 pub fn make_words(names: &Names, tokens: &mut Vec<Token>)
     ensures { tokens.new.items ≡ versioned names.now tokens.old.items }
 {
