@@ -44,7 +44,7 @@ use Rattle.dv_syntax.specs.Written.{Couples, WrittenModel, WrittenAtomic, Writte
 
 -- ---- Spellings
 
--- what a tree asks of a token: its kind, and its offset where the tree keeps that
+-- what a tree requires of a token: its kind, and its offset if the tree keeps it
 pub data Spelled : Type 0 where
   At : (kind : TokenKind) → (offset : ℕ) → Spelled
   Anywhere : (kind : TokenKind) → Spelled
@@ -53,7 +53,7 @@ abbrev pub IsSpelled : Token → Spelled → Type 0
 IsSpelled t (At k offset) = (t.kind ≡ k) × (t.offset ≡ offset)
 IsSpelled t (Anywhere k) = t.kind ≡ k
 
--- the tokens begin as it is spelled, and then the rest follows
+-- the tokens begin with the spelling, and then the rest follows
 abbrev pub Spells : List Spelled → List Token → List Token → Type 0
 Spells [] ts rest = ts ≡ rest
 Spells (s ∷ ss) [] rest = ⊥
@@ -80,7 +80,7 @@ braces inside = sign symbol.OpenBrace ∷ (inside ++ sign symbol.CloseBrace ∷ 
 
 -- ---- Limits on depth
 
--- how deep expressions, blocks and loops may lie in one another
+-- how deep expressions, blocks and loops may be nested
 pub record Limits : Type 0 where
   pub expression : ℕ
   pub block : ℕ
@@ -135,12 +135,12 @@ expression_spelling (Times offset e b) =
     word_at keyword.Times offset ∷ sign symbol.OpenParen
     ∷ (expression_spelling e ++ sign symbol.Comma ∷ name b ∷ sign symbol.CloseParen ∷ [])
 
--- how tightly an operator before its operand binds
+-- the rank of a prefix operator: the greater one binds more tightly
 abbrev pub prefix_rank : Prefix → ℕ
 prefix_rank prefix.Minus = 7
 prefix_rank prefix.Not = 3
 
--- how tightly an operator between two operands binds
+-- the rank of a binary operator
 abbrev pub operator_rank : Operator → ℕ
 operator_rank operator.Or = 1
 operator_rank operator.And = 2
@@ -156,7 +156,7 @@ operator_rank operator.AtMost = 4
 operator_rank operator.Greater = 4
 operator_rank operator.AtLeast = 4
 
--- the least rank of a left operand: chains of one rank group to the left, but a comparison is no operand of another
+-- the least rank of a left operand: chains of one rank group to the left, but a comparison may not be an operand of another
 abbrev pub left_rank : Operator → ℕ
 left_rank operator.Or = 1
 left_rank operator.And = 2
@@ -172,7 +172,7 @@ left_rank operator.AtMost = 5
 left_rank operator.Greater = 5
 left_rank operator.AtLeast = 5
 
--- how tightly an expression holds together: 8 where no operator stands at its top
+-- the rank of an expression: 8 if no operator is at its top
 abbrev pub rank : Expression → ℕ
 rank (Literal n) = 8
 rank (TruthValue offset value) = 8
@@ -222,7 +222,7 @@ change_word change.Add = keyword.Add
 change_word change.Drop = keyword.Drop
 change_word change.Push = keyword.Push
 
--- what stands between the value and the collection
+-- the word between the value and the collection
 abbrev pub change_preposition : Change → Keyword
 change_preposition change.Add = keyword.To
 change_preposition change.Drop = keyword.From
@@ -249,7 +249,7 @@ statements_spelling (Changes c offset e x rest) =
     word_at (change_word c) offset
     ∷ (expression_spelling e ++ word (change_preposition c) ∷ name x ∷ sign symbol.Semicolon ∷ statements_spelling rest)
 
--- how many blocks lie in one another here, the one that holds these statements counted
+-- how deep blocks are nested here, with the one of these statements
 abbrev pub block_depth : Statements → ℕ
 block_depth Done = 1
 block_depth (Assign n e rest) = block_depth rest
@@ -260,7 +260,7 @@ block_depth (IfElse offset e block other rest) = max (max (block_depth block + 1
 block_depth (For offset v b block rest) = max (block_depth block + 1) (block_depth rest)
 block_depth (Changes c offset e x rest) = block_depth rest
 
--- how many loops lie in one another in these statements
+-- how deep loops are nested in these statements
 abbrev pub loop_depth : Statements → ℕ
 loop_depth Done = 0
 loop_depth (Assign n e rest) = loop_depth rest
@@ -399,7 +399,7 @@ abbrev pub IsModel : Limits → WrittenModel → Type 0
 IsModel limits (WrittenAtomic n items) = AllByRecursion (IsItem limits) items
 IsModel limits (WrittenCoupled n items) = Unit {0}
 
--- the number by which a header says the version
+-- the number of a version in a header
 abbrev pub version_number : Version → ℕ
 version_number version.First = 1
 version_number version.Second = 2
@@ -412,7 +412,7 @@ abbrev pub file_spelling : WrittenFile → List Spelled
 file_spelling f =
     header_spelling f.header ++ (flat_map model_spelling f.models ++ word keyword.Root ∷ name f.root ∷ sign symbol.Semicolon ∷ [])
 
--- the tokens are those of the file as it is written, to the last one, and the file is one of the grammar within limits on depth
+-- the tokens are those of the file, to the last one, and the file is one of the grammar within limits on depth
 pub record IsWritten (limits : Limits) (ts : List Token) (f : WrittenFile) : Type 0 where
   pub spelled : Spells (file_spelling f) ts []
   pub models : AllByRecursion (IsModel limits) f.models

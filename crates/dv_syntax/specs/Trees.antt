@@ -1,5 +1,5 @@
--- Syntax trees without where they lie in memory, and the tree that a value of the code stands for. The items of a model are
--- sorted by what they say, each kind in the order of the text: every question about a model is asked of these lists.
+-- Syntax trees without their memory, and the tree of a value of the code. The items of a model are sorted by kind, each kind in the order
+-- of the text: every question about a model is asked of these lists.
 use Rattle.std.specs.Prelude.{ℕ, Bool, List, [], ◌∷◌, Option, Some, None, map}
 use Rattle.dv_bag.specs.declared.discipline.Change.{Change}
 use Rattle.dv_syntax.specs.declared.tree.Name.{Name}
@@ -57,7 +57,7 @@ pub record PhasesTree : Type 0 where
   pub offset : ℕ
   pub names : List Name
 
--- a hold; one of None is forever
+-- a hold; None is forever
 pub record HoldTree : Type 0 where
   pub offset : ℕ
   pub phase : Name
@@ -105,7 +105,7 @@ expression_of (expr.Elapsed offset) = Elapsed offset
 expression_of (expr.Times' offset p e b) = Times offset (expression_of e) b
 
 abbrev mutual
-  -- a statement of the code, before a rest
+  -- a statement of the code, before the rest
   pub statement_before : Stmt → Statements → Statements
   statement_before (stmt.Assign name e) rest = Assign name (expression_of e) rest
   statement_before (stmt.Command c offset name) rest = Does c offset name rest
@@ -120,7 +120,7 @@ abbrev mutual
   row_statements end_of-Stmt = Done
   row_statements (more_of-Stmt s rest) = statement_before s (row_statements rest)
 
--- the statements that a list of the code's stands for
+-- the statements of a list of the code
 abbrev pub statements_of : List Stmt → Statements
 statements_of [] = Done
 statements_of (s ∷ rest) = statement_before s (statements_of rest)
@@ -164,6 +164,6 @@ abbrev pub model_of : Model → ModelTree
 model_of (model.Atomic m) = AtomicModel (atomic_of m)
 model_of (model.Coupled m) = CoupledModel (coupled_of m)
 
--- the tree that a file of the code stands for
+-- the tree of a file of the code
 abbrev pub file_of : File → FileTree
 file_of f = record { models = map model_of f.models.items; root = f.root }

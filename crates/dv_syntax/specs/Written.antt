@@ -32,7 +32,7 @@ pub record WrittenFile : Type 0 where
   pub models : List WrittenModel
   pub root : Name
 
--- an item in front of the others of its kind
+-- an item before the others of its kind
 abbrev pub before_items : AtomicItem → AtomicTree → AtomicTree
 before_items (Declares d) m = record m { declarations = d ∷ m.declarations }
 before_items (Lists p) m = record m { phases = p ∷ m.phases }
@@ -58,6 +58,6 @@ abbrev pub sorted_model : WrittenModel → ModelTree
 sorted_model (WrittenAtomic name items) = AtomicModel (sorted_items name items)
 sorted_model (WrittenCoupled name items) = CoupledModel (sorted_coupled_items name items)
 
--- the tree of a file: its items sorted by what they say, each kind in the order of the text
+-- the tree of a file: its items sorted by kind, each kind in the order of the text
 abbrev pub sorted : WrittenFile → FileTree
 sorted f = record { models = map sorted_model f.models; root = f.root }

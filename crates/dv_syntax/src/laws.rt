@@ -1,4 +1,4 @@
-//! Laws of trees. Each function stands for the law in its contract; its body does nothing.
+//! Laws of trees. Each function states a law in its contract; its body does nothing.
 
 ghost use Rattle.std.specs.Prelude.{◌≡◌, ℕ};
 ghost use Rattle.dv_syntax.specs.Trees.{For, If, IfElse, Statements, block_of, expression_of, statement_before};

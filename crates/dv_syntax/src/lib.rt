@@ -1,11 +1,12 @@
 //! The syntax of model texts: the trees, and in `specs/` the grammar.
 //!
-//! A `File` has the models of a text in their order, and each model its items sorted by what they say. Trees keep
-//! parentheses, and of each node where it stands in the text, so that a refusal can name it. The grammar is a
-//! spelling: it says which tokens a file has as it is written, and so which files a list of tokens can stand for.
+//! A `File` has the models of a text in their order, and each model its items sorted by kind. Trees
+//! keep parentheses and the offset of each node, so that a refusal can name it. The grammar is a
+//! spelling: it says which tokens a file has, and so which files a list of tokens can be.
 //!
-//! `dv_parser` makes these trees, `dv_check` tests them, and `dv_eval`, `dv_gen`, `dv_bound` and the views read them.
-//! Nothing here reads tokens or tests a rule of the language: a tree may name what is nowhere declared.
+//! `dv_parser` makes these trees, `dv_check` tests them, and `dv_eval`, `dv_gen`, `dv_bound` and
+//! the views read them. Nothing here reads tokens or tests a rule of the language: a tree may name
+//! something that is not declared.
 #![tactic(auto)]
 
 /// Laws of trees.

@@ -1,5 +1,5 @@
-//! Syntax trees: what a model text says, its items sorted by what they say, with the parentheses and the offsets that
-//! refusals name. An offset is the number of the bytes of the text before a token.
+//! Syntax trees: what a model text says. Items are sorted by kind; parentheses are kept, and the
+//! offsets that refusals name. An offset is the number of bytes of the text before a token.
 
 use dv_bag::{Change, Discipline};
 use dv_lex::Numeral;
@@ -13,7 +13,7 @@ pub enum Version {
     Second,
 }
 
-/// A name where it stands: its number in the table of names, and its offset.
+/// An occurrence of a name: its number in the table of names, and its offset.
 #[derive(Clone, Copy, PartialEq, Eq)]
 pub struct Name {
     /// Its number in the table of names.
@@ -22,7 +22,7 @@ pub struct Name {
     pub offset: u32,
 }
 
-/// A number where it stands.
+/// An occurrence of a number.
 #[derive(Clone, Copy, PartialEq, Eq)]
 pub struct Number {
     /// The value.
@@ -86,16 +86,16 @@ pub enum BagCall {
     Front,
 }
 
-/// What a statement of a word and a name does.
+/// What a statement of a keyword and a name does.
 #[derive(Clone, Copy, PartialEq, Eq)]
 pub enum Command {
     /// It goes to a phase.
     Goto,
-    /// It takes the first value from a queue.
+    /// It removes the first value of a queue.
     Pop,
 }
 
-/// An expression. An offset is that of the node's first token where no operand has it.
+/// An expression. A node has the offset of its first token unless an operand has it.
 #[derive(Drop)]
 pub enum Expr {
     /// A number.
@@ -212,9 +212,9 @@ pub enum Stmt {
     For {
         /// The offset of `for`, in bytes of the text.
         offset: u32,
-        /// The variable that has each value in turn.
+        /// The variable that has each value, one after the other.
         variable: Name,
-        /// The collection or the input port whose values are walked.
+        /// The collection or the input port with the values.
         bag: Name,
         /// What is done for each value.
         block: Block,
@@ -269,12 +269,12 @@ impl Block {
     }
 }
 
-/// A bound of a range or a start value: a number, perhaps behind a minus sign whose offset is kept.
+/// A bound of a range or a start value: a number, with or without a minus sign.
 #[derive(Clone, Copy, PartialEq, Eq)]
 pub struct Bound {
-    /// The offset of the minus sign in bytes of the text, if there is one.
+    /// The offset of the minus sign, if there is one, in bytes of the text.
     pub minus: Option<u32>,
-    /// The number behind it.
+    /// The number without its sign.
     pub magnitude: Number,
 }
 
