@@ -1,5 +1,4 @@
--- Reading from left to right: a reader answers with what stands at the front of the tokens and the tokens after it, or
--- with what stops it.
+-- Reading from left to right: a reader gives what is at the front of the tokens and the tokens after it, or what stops it.
 use Rattle.std.specs.Prelude.{◌≡◌, ℕ, zero, suc, ◌+◌, ◌-◌, List, [], ◌∷◌, ◌++◌, length, Bool, true, false, ◌&&◌, Option, Some}
 use Rattle.std.specs.Prelude.{None, Result, Ok, Err, nat_lt, nat_le, ◌==◌, ◌||◌}
 use Rattle.dv_bag.specs.declared.discipline.Change.{Change}
@@ -58,8 +57,8 @@ use Rattle.dv_syntax.specs.Written.{sorted_coupled_items}
 use Rattle.dv_syntax.specs.Grammar.{Limits, the_limits, prefix_kind, prefix_rank, operator_rank, left_rank, rank, depth}
 use Rattle.dv_syntax.specs.Grammar.{call_word, command_word, change_word, change_preposition, discipline_word, sort_word}
 
--- What stops a reader: the token at an offset can't stand there, or what begins with it, or what it joins, lies too deep; or
--- more tokens have to follow.
+-- What stops a reader: the token at an offset is not allowed there, or what begins with it, or what it joins, is nested too deeply; or the
+-- tokens end too early.
 pub data Obstacle : Type 0 where
   Unexpected : (offset : ℕ) → Obstacle
   TooDeep : (offset : ℕ) → Obstacle
@@ -68,11 +67,11 @@ pub data Obstacle : Type 0 where
 abbrev pub Read : Type 0 → Type 0
 Read A = Result A Obstacle
 
--- a reader: from tokens to what stands at their front, and the tokens after it
+-- a reader: from tokens to what is at their front, and the tokens after it
 abbrev pub Reader : Type 0 → Type 0
 Reader A = List Token → Read (A × List Token)
 
--- what was read, and then a reader that uses it
+-- reads one thing, and goes on with a reader that uses it
 unfoldable pub read_then : {A B : Type 0} → Read A → (A → Read B) → Read B
 read_then (Ok x) f = f x
 read_then (Err o) f = Err o
@@ -83,12 +82,12 @@ obstacle_of (obstacle.Unexpected offset) = Unexpected offset
 obstacle_of (obstacle.TooDeep offset) = TooDeep offset
 obstacle_of obstacle.TooShort = TooShort
 
--- What a function that takes no memory returned, seen by `view`, is what reading gives.
+-- What a function that takes no memory returns, seen by `view`, is what reading gives.
 abbrev pub Reads : {X Y : Type 0} → (X → Y) → Result X CodeObstacle → Read Y → Type 0
 Reads view (Ok x) read = read ≡ Ok (view x)
 Reads view (Err o) read = read ≡ Err (obstacle_of o)
 
--- What a function returned, seen by `view`, is what reading gives, unless memory ran out.
+-- What a function returns, seen by `view`, is what reading gives, unless memory runs out.
 abbrev pub Fails : {Y : Type 0} → ParseError → Read Y → Type 0
 Fails parse_error.Memory read = Unit {0}
 Fails (parse_error.Stopped o) read = read ≡ Err (obstacle_of o)
@@ -188,7 +187,7 @@ same_kind (kind.Keyword a) (kind.Keyword b) = keyword_number a == keyword_number
 same_kind (kind.Symbol a) (kind.Symbol b) = symbol_number a == symbol_number b
 same_kind _ _ = false
 
--- a token of this kind comes first
+-- the first token is of this kind
 abbrev pub begins : TokenKind → List Token → Bool
 begins k [] = false
 begins k (t ∷ ts) = same_kind t.kind k
@@ -198,7 +197,7 @@ unfoldable pub offset_at : List Token → ℕ
 offset_at [] = 0
 offset_at (t ∷ ts) = t.offset
 
--- the first token can't stand there, or there is none
+-- the first token is not allowed there, or there is none
 unfoldable pub obstacle_at : List Token → Obstacle
 obstacle_at [] = TooShort
 obstacle_at (t ∷ ts) = Unexpected t.offset
@@ -233,7 +232,7 @@ truth_at ts = choose (begins (kind.Keyword keyword.True) ts)
     (after (kind.Keyword keyword.True) ts >>= λ rest. Ok (true, rest))
     (after (kind.Keyword keyword.False) ts >>= λ rest. Ok (false, rest))
 
--- the word of this call comes first
+-- the first token is the word of this call
 abbrev pub begins_word_of : BagCall → List Token → Bool
 begins_word_of c ts = begins (kind.Keyword (call_word c)) ts
 
@@ -281,7 +280,7 @@ operator_of (kind.Keyword k) = keyword_operator k
 operator_of (kind.Symbol s) = symbol_operator s
 operator_of _ = None
 
--- behind an expression, at a level: the operator goes on with it
+-- behind an expression, at a level: the operator continues it
 unfoldable pub goes_on : ℕ → Expression → Operator → Bool
 goes_on level left o = nat_le level (operator_rank o) && nat_le (left_rank o) (rank left)
 
@@ -297,7 +296,7 @@ abbrev pub begins_name : List Token → Bool
 begins_name [] = false
 begins_name (t ∷ ts) = is_name t.kind
 
--- a question about a collection
+-- a call that asks a collection
 unfoldable pub call_at : Reader Expression
 call_at ts = do
   c ← call_word_at ts
@@ -318,13 +317,13 @@ leaf_at ts = choose (begins_name ts) (name_at ts >>= λ n. Ok (Named n.0, n.1))
     (choose (begins (kind.Keyword keyword.Elapsed) ts) (elapsed_at ts)
     (number_at ts >>= λ n. Ok (Literal n.0, n.1)))))
 
--- what a reader reads where there is room for it, and else an obstacle at the offset of what owes it
+-- reads if the limit allows it; else the obstacle is the token at the offset
 unfoldable pub within : {A : Type 0} → (limit offset : ℕ) → Read A → Read A
 within zero offset read = Err (TooDeep offset)
 within (suc limit) offset read = read
 
--- An operand that no operator joins to another, at a level: `not` stands where no operator binds more tightly than it.
--- `operand` reads what lies behind an operator, in parentheses or in `times`, at a level, no deeper than the limit.
+-- An operand without binary operators, at a level: `not` is allowed if no operator binds more tightly than it. `operand` reads what is
+-- behind an operator, in parentheses or in `times`, at a level, within the limit on depth.
 unfoldable pub parens_at : (ℕ → Reader Expression) → ℕ → Reader Expression
 parens_at operand limit ts = do
   inside ← after (kind.Symbol symbol.OpenParen) ts
@@ -338,7 +337,7 @@ prefixed_at o operand limit ts = do
   e ← within limit (offset_at ts) (operand (prefix_rank o) behind)
   Ok (Prefixed o (offset_at ts) e.0, e.1)
 
--- how often a value is in a bag
+-- a `times` expression
 unfoldable pub times_at : (ℕ → Reader Expression) → ℕ → Reader Expression
 times_at operand limit ts = do
   behind ← after (kind.Keyword keyword.Times) ts
@@ -349,7 +348,7 @@ times_at operand limit ts = do
   rest ← after (kind.Symbol symbol.CloseParen) bag.1
   Ok (Times (offset_at ts) e.0 bag.0, rest)
 
--- a prefix comes first, and may stand at the level
+-- the first token is a prefix operator that is allowed at the level
 abbrev pub begins_prefix : Prefix → ℕ → List Token → Bool
 begins_prefix o level ts = begins (prefix_kind o) ts && nat_le level (prefix_rank o)
 
@@ -361,7 +360,7 @@ primary_at operand limit level ts =
     (choose (begins_prefix prefix.Not level ts) (prefixed_at prefix.Not operand limit ts)
     (leaf_at ts))))
 
--- What follows a left operand, as long as an operator of the level goes on with it. `more` counts the turns that are left.
+-- What follows a left operand, as long as an operator of the level continues it. `more` counts the iterations that are left.
 abbrev pub turns : (ℕ → Reader Expression) → (limit more level : ℕ) → Expression → Reader Expression
 turns operand limit zero level left ts = maybe (operator_at level left ts) (Ok (left, ts)) (λ o. Err (TooDeep (offset_at ts)))
 turns operand limit (suc more) level left ts = maybe (operator_at level left ts) (Ok (left, ts)) (λ o.
@@ -369,7 +368,7 @@ turns operand limit (suc more) level left ts = maybe (operator_at level left ts)
     (operand (operator_rank o.0 + 1) o.1 >>= λ right. turns operand limit more level (Binary o.0 left right.0) right.1)
     (Err (TooDeep (offset_at ts))))
 
--- An expression no deeper than the limit, at whose top no operator below the level stands
+-- An expression within the limit on depth, with no operator below the level at its top
 unfoldable pub expression_at : ℕ → ℕ → Reader Expression
 expression_at zero level ts = Err TooShort
 expression_at (suc limit) level ts =
@@ -381,7 +380,7 @@ more_at limit level left ts = turns (expression_at (limit - 1)) limit limit leve
 
 -- ---- Lists
 
--- As many as stand before a token of this kind. The number counts how many more may come.
+-- All before a token of this kind. The number counts how many more there may be.
 abbrev pub many : {A : Type 0} → Reader A → TokenKind → ℕ → Reader (List A)
 many one stop zero ts = Err TooShort
 many one stop (suc more) ts = choose (begins stop ts) (Ok ([], ts)) (one ts >>= λ x. many one stop more x.1 >>= λ xs. Ok (x.0 ∷ xs.0, xs.1))
@@ -389,7 +388,7 @@ many one stop (suc more) ts = choose (begins stop ts) (Ok ([], ts)) (one ts >>= 
 unfoldable pub many_at : {A : Type 0} → Reader A → TokenKind → Reader (List A)
 many_at one stop ts = many one stop (suc (length ts)) ts
 
--- what the list that is read becomes
+-- what becomes of the list that is read
 abbrev pub becoming : {A B : Type 0} → (List A → B) → Read (List A × List Token) → Read (B × List Token)
 becoming f read = read_then read (λ x. Ok (f x.0, x.1))
 
@@ -488,7 +487,7 @@ if_at limits block_at limit ts = do
   choose (begins (kind.Keyword keyword.Else) block.1) (else_at block_at (offset_at ts) e.0 block.0 block.1)
       (Ok (SingleIf (offset_at ts) e.0 block.0, block.1))
 
--- The limit is that of the blocks. `loops` is how many loops may lie in one another here; in the block it is one less.
+-- The limit is that of the blocks. `loops` counts the levels of loops that are left here; in the block it is one less.
 unfoldable pub for_at : (ℕ → Reader Statements) → (limit loops : ℕ) → Reader Single
 for_at block_at limit loops ts = do
   behind ← after (kind.Keyword keyword.For) ts
@@ -498,15 +497,15 @@ for_at block_at limit loops ts = do
   block ← block_at (loops - 1) bag.1
   Ok (SingleFor (offset_at ts) v.0 bag.0 block.0, block.1)
 
--- the word of this command comes first
+-- the first token is the word of this command
 abbrev pub begins_command : Command → List Token → Bool
 begins_command c ts = begins (kind.Keyword (command_word c)) ts
 
--- the word of this change comes first
+-- the first token is the word of this change
 abbrev pub begins_change : Change → List Token → Bool
 begins_change c ts = begins (kind.Keyword (change_word c)) ts
 
--- `block_at` reads a block, by how many loops may lie in one another in it.
+-- `block_at` reads a block, with the levels of loops that are left in it.
 unfoldable pub statement_at : Limits → (ℕ → Reader Statements) → (limit loops : ℕ) → Reader Single
 statement_at limits block_at limit loops ts =
     choose (begins_command command.Goto ts) (command_at command.Goto ts)
@@ -519,7 +518,7 @@ statement_at limits block_at limit loops ts =
     (choose (begins_change change.Push ts) (change_at limits change.Push ts)
     (assign_at limits ts))))))))
 
--- a block in which blocks lie in one another no deeper than the limit, and at most so many loops
+-- a block, with the levels of blocks and of loops that are left
 unfoldable pub block_at : Limits → (limit loops : ℕ) → Reader Statements
 block_at limits zero loops ts = Err TooShort
 block_at limits (suc limit) loops ts = braces_at (statement_at limits (block_at limits limit) limit loops) ts >>= λ x. Ok (joined x.0, x.1)
@@ -563,7 +562,7 @@ collection_at d ts = do
   rest ← after (kind.Symbol symbol.Semicolon) capacity.1
   Ok (record { discipline = d; name = n.0; capacity = capacity.0 }, rest)
 
--- the word of a collection of this discipline comes first
+-- the first token is the word of a collection of this discipline
 abbrev pub begins_collection : Discipline → List Token → Bool
 begins_collection d ts = begins (kind.Keyword (discipline_word d)) ts
 
@@ -607,7 +606,7 @@ rule_at limits sort ts = do
   body ← block_at limits limits.block limits.loop n.1
   Ok (Rules (record { sort = sort; phase = n.0; body = body.0 }), body.1)
 
--- the word of a rule of this sort comes first
+-- the first token is the word of a rule of this sort
 abbrev pub begins_rule : RuleSort → List Token → Bool
 begins_rule sort ts = begins (kind.Keyword (sort_word sort)) ts
 
@@ -619,7 +618,7 @@ any_rule_at limits ts =
     (choose (begins_rule sort.External ts) (rule_at limits sort.External ts)
     (rule_at limits sort.Confluent ts)))
 
--- a port behind a word: `in port;` or `out port;`
+-- a port with its word: `in port;` or `out port;`
 unfoldable pub port_at : Keyword → Reader Name
 port_at word ts = do
   behind ← after (kind.Keyword word) ts
@@ -728,7 +727,7 @@ file_at limits ts = do
   rest ← after (kind.Symbol symbol.Semicolon) n.1
   choose (is_end rest) (Ok (record { header = header.0; models = models.0; root = n.0 })) (Err (obstacle_at rest))
 
--- what stops a reader is answered by this refusal; `end` is the offset of the end of the text
+-- the refusal for what stops a reader; `end` is the offset of the end of the text
 abbrev pub refusal_of : Obstacle → ℕ → Refusal
 refusal_of (Unexpected offset) end = record { number = E4; offset = offset }
 refusal_of (TooDeep offset) end = record { number = E5; offset = offset }
@@ -742,17 +741,17 @@ refusal_in (Err o) end = Some (refusal_of o end)
 abbrev pub refusal_of_tokens : List Token → ℕ → Option Refusal
 refusal_of_tokens ts end = refusal_in (file_at the_limits ts) end
 
--- the answer to the tokens of a text that ends at this offset, by why the code could not read them
+-- the error for the tokens of a text that ends at this offset, by why the code could not read them
 abbrev pub answer_of : ParseError → ℕ → LoadError
 answer_of parse_error.Memory end = error.Memory
 answer_of (parse_error.Stopped o) end = error.Refused (refusal_of (obstacle_of o) end)
 
--- the error is the answer to the tokens, or out of memory
+-- the error is that of the tokens, or out of memory
 abbrev pub IsRefused : LoadError → List Token → ℕ → Type 0
 IsRefused error.Memory ts end = Unit {0}
 IsRefused (error.Refused r) ts end = refusal_of_tokens ts end ≡ Some r
 
--- ---- What the code reads: items are sorted as they are read
+-- ---- What the code reads: items are sorted while they are read
 
 abbrev pub item_of : CodeItem → AtomicItem
 item_of (item.Declares d) = Declares d

@@ -24,10 +24,10 @@ use dv_syntax::{
 };
 use std::alloc::{AllocError, Global};
 
-/// How deep the blocks of a rule may lie in one another.
+/// How deep the blocks of a rule may be nested.
 const BLOCK_LIMIT: u32 = 16;
 
-/// How many loops of a rule may lie in one another.
+/// How deep the loops of a rule may be nested.
 const LOOP_LIMIT: u32 = 3;
 
 /// An item of an atomic model.
@@ -45,7 +45,7 @@ pub enum AtomicItem {
     Rules(Rule),
 }
 
-/// A number, perhaps behind a minus sign.
+/// A number, with or without a minus sign.
 #[tactic(auto, unfolding(crate::specs::Reading::bound_at, crate::specs::Reading::read_then, crate::specs::Reading::choose))]
 fn bound(tokens: &[Token]) -> Result<(Bound, &[Token]), Obstacle>
     ensures { Reads (λ x. (x.0, x.1.now)) result (bound_at tokens.now) }
@@ -126,7 +126,7 @@ fn flag(tokens: &[Token]) -> Result<(Flag, &[Token]), Obstacle>
     Ok((Flag { name, start }, rest))
 }
 
-/// The word with which a collection of this discipline is declared.
+/// The word that declares a collection of this discipline.
 fn word_of_discipline(discipline: Discipline) -> Keyword
     ensures { result ≡ discipline_word discipline }
 {
@@ -136,7 +136,7 @@ fn word_of_discipline(discipline: Discipline) -> Keyword
     }
 }
 
-/// Whether the word of a collection of this discipline comes first.
+/// Whether the first token is the word of a collection of this discipline.
 fn begins_with_collection(tokens: &[Token], discipline: Discipline) -> bool
     ensures { result ≡ begins_collection discipline tokens.now }
 {
@@ -177,7 +177,7 @@ fn further_name(tokens: &[Token]) -> Result<(Name, &[Token]), Obstacle>
     name(rest)
 }
 
-/// Adds the names behind commas that stand before a semicolon.
+/// Adds the names behind commas, up to a semicolon.
 fn further_names(
     mut names: Vec<Name>,
     tokens: &[Token],
@@ -256,7 +256,7 @@ fn hold(alloc: Global, tokens: &[Token]) -> Result<(AtomicItem, &[Token]), Parse
     Ok((AtomicItem::Holds(hold), rest))
 }
 
-/// The word with which a rule of this sort begins.
+/// The first word of a rule of this sort.
 fn word_of(sort: RuleSort) -> Keyword
     ensures { result ≡ sort_word sort }
 {
@@ -283,7 +283,7 @@ fn rule(
     Ok((AtomicItem::Rules(Rule { sort, phase, body }), rest))
 }
 
-/// Whether the word of a rule of this sort comes first.
+/// Whether the first token is the word of a rule of this sort.
 fn begins_with_rule(tokens: &[Token], sort: RuleSort) -> bool
     ensures { result ≡ begins_rule sort tokens.now }
 {
@@ -306,7 +306,7 @@ fn any_rule(alloc: Global, tokens: &[Token]) -> Result<(AtomicItem, &[Token]), P
     }
 }
 
-/// A port behind a word: `in port;` or `out port;`
+/// A port with its word: `in port;` or `out port;`
 #[tactic(auto, unfolding(crate::specs::Reading::port_at, crate::specs::Reading::read_then))]
 pub fn port(tokens: &[Token], word: Keyword) -> Result<(Name, &[Token]), Obstacle>
     ensures { Reads (λ x. (x.0, x.1.now)) result (port_at word tokens.now) }
@@ -317,7 +317,7 @@ pub fn port(tokens: &[Token], word: Keyword) -> Result<(Name, &[Token]), Obstacl
     Ok((port, rest))
 }
 
-/// An item at the front.
+/// The item at the front.
 #[tactic(auto, unfolding(crate::specs::Reading::item_at, crate::specs::Reading::read_then, crate::specs::Reading::choose))]
 fn item(alloc: Global, tokens: &[Token]) -> Result<(AtomicItem, &[Token]), ParseError>
     ensures { Gives (λ x. (item_of x.0, x.1.now)) result (item_at the_limits tokens.now) }
@@ -360,7 +360,7 @@ fn item(alloc: Global, tokens: &[Token]) -> Result<(AtomicItem, &[Token]), Parse
     }
 }
 
-/// Adds an item to those of its kind.
+/// Adds an item to the list of its kind.
 fn add(atomic: &mut Atomic, item: AtomicItem) -> Result<(), ParseError>
     ensures added { OnOk result
         (atomic_of atomic.new ≡ with_item (atomic_of atomic.old) (item_of item)) }
@@ -376,7 +376,8 @@ fn add(atomic: &mut Atomic, item: AtomicItem) -> Result<(), ParseError>
     Ok(())
 }
 
-/// Gives back the room that no item of the model took: a text may have very many models of a few items each.
+/// Frees the memory that no item of the model needs: a text may have very many models of a few
+/// items each.
 fn trim(atomic: &mut Atomic)
     ensures { atomic_of atomic.new ≡ atomic_of atomic.old }
 {
@@ -387,7 +388,7 @@ fn trim(atomic: &mut Atomic)
     atomic.rules.shrink_to_fit();
 }
 
-/// Adds the items before the brace that closes their model.
+/// Adds the items before the closing brace of their model.
 fn items(
     alloc: Global,
     mut atomic: Atomic,
@@ -406,11 +407,11 @@ fn items(
     Ok((atomic, rest))
 }
 
-/// An atomic model without items, with room for the one list of phases and the one start phase that a model has.
+/// An atomic model without items, with memory for one item of phases and one start.
 ///
 /// # Errors
 ///
-/// No memory for this room.
+/// No memory for them.
 fn empty(alloc: Global, name: Name) -> Result<Atomic, AllocError>
     ensures { IfOk result (λ atomic. atomic_of atomic ≡ empty_atomic name) }
 {

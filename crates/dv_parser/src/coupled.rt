@@ -78,7 +78,7 @@ fn link(tokens: &[Token]) -> Result<(Link, &[Token]), Obstacle>
     Ok((Link { offset, from, to }, rest))
 }
 
-/// An item at the front.
+/// The item at the front.
 #[tactic(auto, unfolding(crate::specs::Reading::coupled_item_at, crate::specs::Reading::read_then, crate::specs::Reading::choose))]
 fn item(tokens: &[Token]) -> Result<(CoupledItem, &[Token]), Obstacle>
     ensures { Reads (λ x. (coupled_item_of x.0, x.1.now)) result (coupled_item_at tokens.now) }
@@ -98,7 +98,7 @@ fn item(tokens: &[Token]) -> Result<(CoupledItem, &[Token]), Obstacle>
     }
 }
 
-/// Adds an item to those of its kind.
+/// Adds an item to the list of its kind.
 fn add(coupled: &mut Coupled, item: CoupledItem) -> Result<(), ParseError>
     ensures added { OnOk result (coupled_of coupled.new
         ≡ with_coupled_item (coupled_of coupled.old) (coupled_item_of item)) }
@@ -113,7 +113,7 @@ fn add(coupled: &mut Coupled, item: CoupledItem) -> Result<(), ParseError>
     Ok(())
 }
 
-/// Gives back the room that no item of the model took.
+/// Frees the memory that no item of the model needs.
 fn trim(coupled: &mut Coupled)
     ensures { coupled_of coupled.new ≡ coupled_of coupled.old }
 {
@@ -123,7 +123,7 @@ fn trim(coupled: &mut Coupled)
     coupled.links.shrink_to_fit();
 }
 
-/// Adds the items before the brace that closes their model.
+/// Adds the items before the closing brace of their model.
 fn items(mut coupled: Coupled, tokens: &[Token]) -> Result<(Coupled, &[Token]), ParseError>
     ensures { Gives (λ x. (coupled_of x.0, x.1.now)) result
         (becoming (with_coupled_items (coupled_of coupled))

@@ -22,10 +22,10 @@ use std::alloc::Global;
 /// The greatest depth of an expression.
 const DEPTH_LIMIT: u32 = 64;
 
-/// How tightly an expression holds together with no operator at the top.
+/// The rank of an expression without an operator at its top.
 const SINGLE: u32 = 8;
 
-/// The operator that a token stands for between two operands.
+/// The binary operator of a token.
 #[tactic(auto, unfolding(crate::specs::Reading::operator_of))]
 fn operator(kind: TokenKind) -> Option<Operator>
     ensures { result ≡ operator_of kind }
@@ -66,7 +66,7 @@ fn operator_of_symbol(symbol: Symbol) -> Option<Operator>
     }
 }
 
-/// How tightly an operator binds.
+/// The rank of an operator: the greater one binds more tightly.
 fn rank_of_operator(operator: Operator) -> u32
     ensures value { result ≡ operator_rank operator }
     ensures small { result ≤ 6 }
@@ -85,7 +85,8 @@ fn rank_of_operator(operator: Operator) -> u32
     }
 }
 
-/// The least rank of an operator's left operand. A comparison is no operand of another.
+/// The least rank that the left operand of an operator may have. A comparison may not be an operand
+/// of another.
 fn least_left_rank(operator: Operator) -> u32
     ensures { result ≡ left_rank operator }
 {
@@ -97,7 +98,7 @@ fn least_left_rank(operator: Operator) -> u32
     }
 }
 
-/// The token of an operator before its operand.
+/// The token of a prefix operator.
 fn kind_of_prefix(operator: Prefix) -> TokenKind
     ensures { result ≡ prefix_kind operator }
 {
@@ -107,7 +108,7 @@ fn kind_of_prefix(operator: Prefix) -> TokenKind
     }
 }
 
-/// How tightly an operator before its operand binds.
+/// The rank of a prefix operator.
 fn rank_of_prefix(operator: Prefix) -> u32
     ensures value { result ≡ prefix_rank operator }
     ensures small { result ≤ 7 }
@@ -118,7 +119,7 @@ fn rank_of_prefix(operator: Prefix) -> u32
     }
 }
 
-/// How tightly an expression holds together.
+/// The rank of an expression: that of the operator at its top.
 fn rank_of(expression: &Expr) -> u32
     ensures { result ≡ rank (expression_of expression.now) }
 {
@@ -135,7 +136,7 @@ fn rank_of(expression: &Expr) -> u32
     }
 }
 
-/// The operator at the front that goes on with the left operand at this level, its offset, and what follows it.
+/// The operator at the front that continues an expression at this level, its offset, and the rest.
 #[tactic(auto, unfolding(crate::specs::Reading::operator_at, crate::specs::Reading::offset_at, crate::specs::Reading::goes_on, crate::specs::Reading::maybe, crate::specs::Reading::choose))]
 fn next_operator<'a>(
     tokens: &'a [Token],
@@ -158,7 +159,7 @@ fn next_operator<'a>(
     }
 }
 
-/// A question about a collection, and what follows it.
+/// A call that asks a collection, and the rest.
 #[tactic(auto, unfolding(crate::specs::Reading::call_at, crate::specs::Reading::read_then))]
 fn call(tokens: &[Token]) -> Result<(Expr, &[Token]), Obstacle>
     ensures gives { Reads (λ x. (expression_of x.0, x.1.now)) result (call_at tokens.now) }
@@ -172,7 +173,7 @@ fn call(tokens: &[Token]) -> Result<(Expr, &[Token]), Obstacle>
     Ok((Expr::Call { call, offset, bag }, rest))
 }
 
-/// `elapsed`, and what follows it.
+/// `elapsed`, and the rest.
 #[tactic(auto, unfolding(crate::specs::Reading::elapsed_at, crate::specs::Reading::read_then))]
 fn elapsed(tokens: &[Token]) -> Result<(Expr, &[Token]), Obstacle>
     ensures gives { Reads (λ x. (expression_of x.0, x.1.now)) result (elapsed_at tokens.now) }
@@ -183,7 +184,7 @@ fn elapsed(tokens: &[Token]) -> Result<(Expr, &[Token]), Obstacle>
     Ok((Expr::Elapsed { offset }, rest))
 }
 
-/// A name, a truth value, a call, `elapsed` or a number, and what follows it.
+/// A name, a truth value, a call, `elapsed` or a number, and the rest.
 #[tactic(auto, unfolding(crate::specs::Reading::leaf_at, crate::specs::Reading::read_then, crate::specs::Reading::choose))]
 fn leaf(tokens: &[Token]) -> Result<(Expr, &[Token]), Obstacle>
     ensures gives { Reads (λ x. (expression_of x.0, x.1.now)) result (leaf_at tokens.now) }
@@ -209,8 +210,8 @@ fn leaf(tokens: &[Token]) -> Result<(Expr, &[Token]), Obstacle>
     }
 }
 
-/// The parentheses that open at this offset, around what is inside them and before what closes them, their depth, and
-/// what follows them.
+/// The expression in parentheses that open at this offset, its depth, and the rest: `inner` is
+/// inside, and the tokens begin with what closes them.
 #[tactic(auto, unfolding(crate::specs::Reading::read_then))]
 fn closed_parens(
     offset: u32,
@@ -230,7 +231,7 @@ fn closed_parens(
     Ok((Expr::Parens { offset, inner }, inner_depth + 1, rest))
 }
 
-/// The tokens behind the parenthesis of a `times`, if the limit leaves room for its value.
+/// The tokens behind the parenthesis of a `times`, if the limit allows its value.
 #[tactic(auto, unfolding(crate::specs::Reading::within, crate::specs::Reading::read_then))]
 fn inside_times(tokens: &[Token], limit: u32) -> Result<&[Token], Obstacle>
     requires positive { 0 < limit }
@@ -246,7 +247,7 @@ fn inside_times(tokens: &[Token], limit: u32) -> Result<&[Token], Obstacle>
     after_symbol(behind, Symbol::OpenParen)
 }
 
-/// The `times` at this offset, of a value and of the bag that stands behind it, its depth, and what follows it.
+/// The `times` at this offset, of a value and the bag behind it, its depth, and the rest.
 #[tactic(auto, unfolding(crate::specs::Reading::read_then))]
 fn counted_times(
     offset: u32,
@@ -283,7 +284,7 @@ fn joined(alloc: Global, operator: Operator, left: Expr, right: Expr) -> Result<
     })
 }
 
-/// An operand of what stands at this offset, if the limit leaves room for it, its depth, and what follows it.
+/// The operand of the token at this offset, if the limit allows it, its depth, and the rest.
 #[cycle(expression)]
 #[tactic(auto, unfolding(crate::specs::Reading::within))]
 fn operand_within(
@@ -322,7 +323,7 @@ fn parens(alloc: Global, tokens: &[Token], limit: u32) -> Result<(Expr, u32, &[T
     Ok(closed_parens(offset, inner, depth, rest)?)
 }
 
-/// An operand behind its operator.
+/// An operand with its prefix operator.
 #[cycle(expression)]
 #[tactic(auto, unfolding(crate::specs::Reading::prefixed_at, crate::specs::Reading::read_then))]
 fn prefixed(
@@ -350,7 +351,7 @@ fn prefixed(
     Ok((expression, depth + 1, rest))
 }
 
-/// How often a value is in a bag.
+/// A `times` expression.
 #[cycle(expression)]
 #[tactic(auto, unfolding(crate::specs::Reading::times_at, crate::specs::Reading::within, crate::specs::Reading::read_then))]
 fn times(alloc: Global, tokens: &[Token], limit: u32) -> Result<(Expr, u32, &[Token]), ParseError>
@@ -367,14 +368,14 @@ fn times(alloc: Global, tokens: &[Token], limit: u32) -> Result<(Expr, u32, &[To
     Ok(counted_times(offset, value, depth, rest)?)
 }
 
-/// Whether an operator before its operand comes first, and may stand at the level.
+/// Whether the first token is a prefix operator that is allowed at the level.
 fn begins_with_prefix(tokens: &[Token], operator: Prefix, level: u32) -> bool
     ensures { result ≡ begins_prefix operator level tokens.now }
 {
     begins_with(tokens, kind_of_prefix(operator)) && level <= rank_of_prefix(operator)
 }
 
-/// An operand that no operator joins to another.
+/// An operand without binary operators at its top.
 #[cycle(expression)]
 #[tactic(auto, unfolding(crate::specs::Reading::primary_at, crate::specs::Reading::choose))]
 fn primary(
@@ -404,8 +405,8 @@ fn primary(
     }
 }
 
-/// The longest expression no deeper than the limit at whose top no operator below the level stands, its depth,
-/// and what follows it.
+/// The longest expression within the limit on depth that has no operator below the level at its
+/// top, its depth, and the rest.
 #[cycle(expression)]
 #[tactic(auto, using(crate::proofs::Climbing::climbing))]
 fn within(
@@ -433,7 +434,7 @@ fn within(
     Ok((left, depth, rest))
 }
 
-/// The longest expression at the front, and what follows it.
+/// The longest expression at the front, and the rest.
 pub fn expression(alloc: Global, tokens: &[Token]) -> Result<(Expr, &[Token]), ParseError>
     ensures { Gives (λ x. (expression_of x.0, x.1.now)) result (expression_at 64 0 tokens.now) }
 {

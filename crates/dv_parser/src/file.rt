@@ -1,4 +1,4 @@
-//! Files: perhaps a header, models one after the other, and the name of the root.
+//! Files: a header or none, models, and the name of the root.
 
 ghost use Rattle.std.specs.Prelude.{◌≡◌, IfOk, IfErr, map};
 ghost use Rattle.dv_syntax.specs.Trees.{model_of, file_of};
@@ -17,7 +17,7 @@ use dv_lex::{Keyword, LoadError, Refusal, RefusalNumber, Symbol, Token, TokenKin
 use dv_syntax::{File, Model, Version};
 use std::alloc::Global;
 
-/// A model at the front.
+/// The model at the front.
 #[tactic(auto, unfolding(crate::specs::Reading::tree_at, crate::specs::Reading::read_then, crate::specs::Reading::choose))]
 fn model(alloc: Global, tokens: &[Token]) -> Result<(Model, &[Token]), ParseError>
     ensures { Gives (λ x. (model_of x.0, x.1.now)) result (tree_at tokens.now) }
@@ -46,7 +46,7 @@ fn models(alloc: Global, tokens: &[Token]) -> Result<(Vec<Model>, &[Token]), Par
     Ok((models, rest))
 }
 
-/// The number of a version at the front, and what follows it.
+/// The number of a version at the front, and the rest.
 #[tactic(auto, unfolding(crate::specs::Reading::version_at, crate::specs::Reading::read_then, crate::specs::Reading::choose))]
 fn version(tokens: &[Token]) -> Result<(Version, &[Token]), Obstacle>
     ensures { Reads (λ x. (x.0, x.1.now)) result (version_at tokens.now) }
@@ -60,7 +60,7 @@ fn version(tokens: &[Token]) -> Result<(Version, &[Token]), Obstacle>
     }
 }
 
-/// The header at the front, if there is one, and what follows it.
+/// The header at the front, if there is one, and the rest.
 #[tactic(auto, unfolding(crate::specs::Reading::header_at, crate::specs::Reading::read_then, crate::specs::Reading::choose))]
 fn header(tokens: &[Token]) -> Result<(Option<Version>, &[Token]), Obstacle>
     ensures { Reads (λ x. (x.0, x.1.now)) result (header_at tokens.now) }
@@ -89,7 +89,7 @@ fn file(alloc: Global, tokens: &[Token]) -> Result<File, ParseError>
     Ok(File { models, root })
 }
 
-/// The refusal of the tokens of a text that ends at this offset, by what stops their reading.
+/// The refusal of the tokens of a text that ends at this offset, by what stopped the parser.
 fn refusal(obstacle: Obstacle, end: u32) -> Refusal
     ensures { result ≡ refusal_of (obstacle_of obstacle) end }
 {
@@ -109,7 +109,7 @@ fn refusal(obstacle: Obstacle, end: u32) -> Refusal
     }
 }
 
-/// The answer to the tokens of a text that ends at this offset, by why they could not be read.
+/// The error for the tokens of a text that ends at this offset, by why they could not be read.
 fn load_error(error: ParseError, end: u32) -> LoadError
     ensures { result ≡ answer_of error end }
 {
@@ -123,9 +123,9 @@ fn load_error(error: ParseError, end: u32) -> LoadError
 ///
 /// # Errors
 ///
-/// - `Refused` with E4 or E5: the tokens are those of no file. The offset is that of the first token with which the
-///   tokens no longer begin a file within the limits on depth: E5 where they still begin one without these limits,
-///   else E4. Where they end too early it is E4 at the end of the text.
+/// - `Refused` with E4 or E5: the tokens are those of no file. The offset is that of the first token
+///   after which the tokens begin no file within the limits on depth: E5 if they still begin one
+///   without these limits, else E4. If they end too early it is E4 at the end of the text.
 /// - `Memory`: no memory for the trees.
 pub fn parse(alloc: Global, tokens: &[Token], end: u32) -> Result<File, LoadError>
     ensures tree { IfOk result (λ file. IsFileOf tokens.now (file_of file)) }

@@ -1,4 +1,4 @@
-//! Laws of the grammar. Each function stands for the law in its contract; its body does nothing.
+//! Laws of the grammar. Each function states a law in its contract; its body does nothing.
 
 ghost use Rattle.std.specs.Prelude.{◌≡◌, ◌⊎◌, ℕ, List, Some, None};
 ghost use Rattle.dv_syntax.specs.Grammar.{IsFileOf};
@@ -7,12 +7,13 @@ ghost use Rattle.dv_parser.specs.Reading.{refusal_of_tokens};
 
 use dv_lex::{Refusal, Token};
 
-/// The tokens of a file are those of no other file.
+/// Tokens are those of at most one file.
 pub fn tokens_spell_one_file()
     ensures { (ts : List Token) (f g : FileTree) → IsFileOf ts f → IsFileOf ts g → f ≡ g }
 {}
 
-/// Tokens spell a file or have a refusal, and not both. The refusal is one, since `refusal_of_tokens` is a function.
+/// Tokens are those of a file or have a refusal, and not both. There is one refusal, since
+/// `refusal_of_tokens` is a function.
 pub fn tokens_have_one_answer()
     ensures some { (ts : List Token) (end : ℕ) →
         ((f : FileTree) × IsFileOf ts f) ⊎ ((r : Refusal) × (refusal_of_tokens ts end ≡ Some r)) }

@@ -1,15 +1,17 @@
 //! The parser: from tokens to syntax trees.
 //!
-//! `parse` gives the `File` that the tokens spell, or their refusal: E4 where the tokens so far begin no file, E5
-//! where they begin one that is too deep. It is a law that no list of tokens spells two files, and that each spells
-//! one or is refused. The parser goes down the grammar, one function for each form; operators are read by their rank.
+//! `parse` gives the `File` that the tokens spell, or their refusal: E4 if the tokens so far begin
+//! no file, E5 if they begin one that is nested too deeply. Laws say that no list of tokens spells
+//! two files, and that each spells one or is refused. The parser is a recursive descent with one
+//! function for each form; operators are read by their rank.
 //!
-//! `dv_job` and `dv_views` parse the text of a model, and `dv_hints` parses a refused text once more to find what is
-//! near. No name is looked up and no type is tested here: that is `dv_check`. That a refusal names the first token
-//! with which nothing goes on is a law of `law_dead_ends`.
+//! `dv_job` and `dv_views` parse the text of a model, and `dv_hints` parses a refused text again to
+//! find what is near. No name is looked up and no type is tested here: that is `dv_check`.
+//! `law_dead_ends` has the law that a refusal names the first token after which the tokens begin no
+//! file.
 #![tactic(auto)]
 
-/// A whole file: the door of the crate.
+/// A whole file, where parsing begins.
 pub mod file;
 /// Laws of the grammar and its refusals.
 pub mod laws;
@@ -20,9 +22,9 @@ mod atomic;
 mod coupled;
 /// Expressions, by the ranks of operators.
 mod expression;
-/// The test of a limit on depth.
+/// Limits on depth.
 mod limits;
-/// Why tokens are not read.
+/// Why tokens can't be read.
 mod parse_error;
 /// Statements and blocks.
 mod statement;

@@ -2,14 +2,14 @@
 
 use std::alloc::{AllocError, AllocFailed};
 
-/// What stops the reading of tokens. An offset is that of the token at which it shows.
+/// What stops the parser, with the offset of a token, in bytes of the text.
 #[derive(Clone, Copy)]
 pub enum Obstacle {
-    /// The token can't stand there.
+    /// The token is not allowed there.
     Unexpected(u32),
-    /// What begins with the token, or what it joins, lies too deep.
+    /// What begins with the token, or what it joins, is nested too deeply.
     TooDeep(u32),
-    /// More tokens have to follow.
+    /// The tokens end too early.
     TooShort,
 }
 
@@ -18,7 +18,7 @@ pub enum Obstacle {
 pub enum ParseError {
     /// An allocation was refused.
     Memory,
-    /// The tokens are not those of what was to be read.
+    /// The tokens are not what was to be read.
     Stopped(Obstacle),
 }
 

@@ -30,7 +30,7 @@ fn assign(alloc: Global, tokens: &[Token]) -> Result<(Stmt, &[Token]), ParseErro
     Ok((Stmt::Assign { variable, value }, rest))
 }
 
-/// The word of a command.
+/// The keyword of a command.
 fn word_of_command(command: Command) -> Keyword
     ensures { result ≡ command_word command }
 {
@@ -40,7 +40,7 @@ fn word_of_command(command: Command) -> Keyword
     }
 }
 
-/// Whether the word of this command comes first.
+/// Whether the first token is the word of this command.
 fn begins_with_command(tokens: &[Token], command: Command) -> bool
     ensures { result ≡ begins_command command tokens.now }
 {
@@ -86,7 +86,7 @@ fn send(alloc: Global, tokens: &[Token]) -> Result<(Stmt, &[Token]), ParseError>
     ))
 }
 
-/// The word of a change.
+/// The keyword of a change.
 fn word_of_change(change: Change) -> Keyword
     ensures { result ≡ change_word change }
 {
@@ -97,7 +97,7 @@ fn word_of_change(change: Change) -> Keyword
     }
 }
 
-/// The word between the value and the collection of a change.
+/// The keyword between the value and the collection of a change.
 fn preposition_of(change: Change) -> Keyword
     ensures { result ≡ change_preposition change }
 {
@@ -107,7 +107,7 @@ fn preposition_of(change: Change) -> Keyword
     }
 }
 
-/// Whether the word of this change comes first.
+/// Whether the first token is the word of this change.
 fn begins_with_change(tokens: &[Token], change: Change) -> bool
     ensures { result ≡ begins_change change tokens.now }
 {
@@ -141,7 +141,7 @@ fn change_statement(
     ))
 }
 
-/// The condition of an `if`, if the limit leaves room for its block, and what follows it.
+/// The condition of an `if`, if the limit allows its block, and the rest.
 #[tactic(auto, unfolding(crate::specs::Reading::within, crate::specs::Reading::read_then))]
 fn condition_of_if(
     alloc: Global,
@@ -187,7 +187,7 @@ fn if_with_else(offset: u32, condition: Expr, then_block: Block, else_block: Blo
     }
 }
 
-/// The block behind an `else`, and what follows it.
+/// The block behind an `else`, and the rest.
 #[cycle(block)]
 #[tactic(auto, unfolding(crate::specs::Reading::read_then))]
 fn after_else(
@@ -205,7 +205,7 @@ fn after_else(
     block(alloc, behind, limit, loops)
 }
 
-/// `if condition { .. }`, and its `else` where that follows.
+/// `if condition { .. }`, with its `else` if there is one.
 #[cycle(block)]
 #[tactic(auto, unfolding(crate::specs::Reading::if_at, crate::specs::Reading::within, crate::specs::Reading::else_at, crate::specs::Reading::read_then, crate::specs::Reading::choose))]
 fn if_statement(
@@ -232,7 +232,7 @@ fn if_statement(
     }
 }
 
-/// The variable and the collection of a `for`, if the limits leave room for its block, and what follows them.
+/// The variable and the collection of a `for`, if the limits allow its block, and the rest.
 #[tactic(auto, unfolding(crate::specs::Reading::within, crate::specs::Reading::read_then))]
 fn head_of_for(tokens: &[Token], limit: u32, loops: u32) -> Result<(Name, Name, &[Token]), Obstacle>
     requires { 0 < limit }
@@ -287,7 +287,7 @@ fn for_statement(
     Ok((for_loop(offset, variable, bag, block), rest))
 }
 
-/// A statement at the front.
+/// The statement at the front.
 #[cycle(block)]
 #[tactic(auto, unfolding(crate::specs::Reading::statement_at, crate::specs::Reading::choose))]
 fn statement(
@@ -321,7 +321,7 @@ fn statement(
     }
 }
 
-/// The statements before the brace that closes their block.
+/// The statements before the closing brace of their block.
 #[cycle(block)]
 fn statements(
     alloc: Global,
@@ -344,8 +344,8 @@ fn statements(
     Ok((statements, rest))
 }
 
-/// The block of these statements, behind which a brace closes it, and what follows it. The block has no room for more: most
-/// have one statement, and a text may have millions of them.
+/// The block of these statements, before its closing brace, and the rest. It has no memory to
+/// spare: most blocks have one statement, and a text may have millions of them.
 #[tactic(auto, using(crate::proofs::Rows::joined_items), unfolding(crate::specs::Reading::read_then))]
 fn closed_block(mut statements: Vec<Stmt>, tokens: &[Token]) -> Result<(Block, &[Token]), Obstacle>
     ensures { Reads {Y = Statements × List Token} (λ x. (block_of x.0, x.1.now)) result
@@ -357,8 +357,8 @@ fn closed_block(mut statements: Vec<Stmt>, tokens: &[Token]) -> Result<(Block, &
     Ok((Block { statements }, rest))
 }
 
-/// Statements in braces. The limit counts how deep blocks may lie in one another, this one too; `loops` counts how many
-/// loops may lie in one another in it.
+/// Statements in braces. `limit` counts the levels of blocks that are left, with this one; `loops`
+/// counts the levels of loops that are left in it.
 #[cycle(block)]
 pub fn block(
     alloc: Global,

@@ -16,7 +16,7 @@ fn is_same(first: TokenKind, second: TokenKind) -> bool
     first == second
 }
 
-/// Whether a token of this kind comes first.
+/// Whether the first token is of this kind.
 pub fn begins_with(tokens: &[Token], kind: TokenKind) -> bool
     ensures { result ≡ begins kind tokens.now }
 {
@@ -40,7 +40,7 @@ pub fn begins_with_keyword(tokens: &[Token], keyword: Keyword) -> bool
     begins_with(tokens, TokenKind::Keyword(keyword))
 }
 
-/// The kind of a number that is small.
+/// The kind of a small number.
 fn small(number: u32) -> TokenKind
     ensures { result ≡ TokenKind.Number number }
 {
@@ -73,14 +73,14 @@ pub fn begins_with_name(tokens: &[Token]) -> bool
     )
 }
 
-/// Whether `true` or `false` comes first.
+/// Whether the first token is `true` or `false`.
 pub fn begins_with_truth(tokens: &[Token]) -> bool
     ensures { result ≡ begins_truth tokens.now }
 {
     begins_with_keyword(tokens, Keyword::True) || begins_with_keyword(tokens, Keyword::False)
 }
 
-/// The word of a call.
+/// The keyword of a call.
 fn word_of_call(call: BagCall) -> Keyword
     ensures { result ≡ call_word call }
 {
@@ -93,14 +93,14 @@ fn word_of_call(call: BagCall) -> Keyword
     }
 }
 
-/// Whether the word of this call comes first.
+/// Whether the first token is the word of this call.
 fn begins_with_word_of(tokens: &[Token], call: BagCall) -> bool
     ensures { result ≡ begins_word_of call tokens.now }
 {
     begins_with_keyword(tokens, word_of_call(call))
 }
 
-/// Whether `size`, `sum`, `least`, `most` or `front` comes first.
+/// Whether the first token is `size`, `sum`, `least`, `most` or `front`.
 pub fn begins_with_call(tokens: &[Token]) -> bool
     ensures { result ≡ begins_call tokens.now }
 {
@@ -122,7 +122,7 @@ pub fn first_offset(tokens: &[Token]) -> u32
     }
 }
 
-/// What refuses the first token.
+/// The obstacle that the first token is.
 #[tactic(auto, unfolding(crate::specs::Reading::obstacle_at))]
 pub fn unexpected(tokens: &[Token]) -> Obstacle
     ensures { obstacle_of result ≡ obstacle_at tokens.now }
@@ -133,11 +133,11 @@ pub fn unexpected(tokens: &[Token]) -> Obstacle
     }
 }
 
-/// Whether the tokens end here.
+/// Tests that there are no more tokens.
 ///
 /// # Errors
 ///
-/// What refuses the first token, where there is one.
+/// The first token as an obstacle, if there is one.
 pub fn test_end(tokens: &[Token]) -> Result<(), Obstacle>
     ensures end { OnOk result (is_end tokens.now ≡ true) }
     ensures more { IfErr result (λ o. (obstacle_of o ≡ obstacle_at tokens.now)
@@ -182,7 +182,7 @@ pub fn after_keyword(tokens: &[Token], keyword: Keyword) -> Result<&[Token], Obs
     after_kind(tokens, TokenKind::Keyword(keyword))
 }
 
-/// The name at the front, and what follows it.
+/// The name at the front, and the rest.
 #[tactic(auto, unfolding(crate::specs::Reading::name_at, crate::specs::Reading::obstacle_at))]
 pub fn name(tokens: &[Token]) -> Result<(Name, &[Token]), Obstacle>
     ensures { Reads (λ x. (x.0, x.1.now)) result (name_at tokens.now) }
@@ -205,7 +205,7 @@ pub fn name(tokens: &[Token]) -> Result<(Name, &[Token]), Obstacle>
     }
 }
 
-/// The number at the front, and what follows it.
+/// The number at the front, and the rest.
 #[tactic(auto, unfolding(crate::specs::Reading::number_at, crate::specs::Reading::obstacle_at))]
 pub fn number(tokens: &[Token]) -> Result<(Number, &[Token]), Obstacle>
     ensures { Reads (λ x. (x.0, x.1.now)) result (number_at tokens.now) }
@@ -228,7 +228,7 @@ pub fn number(tokens: &[Token]) -> Result<(Number, &[Token]), Obstacle>
     }
 }
 
-/// The truth value at the front, and what follows it.
+/// The truth value at the front, and the rest.
 #[tactic(auto, unfolding(crate::specs::Reading::truth_at, crate::specs::Reading::read_then, crate::specs::Reading::choose))]
 pub fn truth(tokens: &[Token]) -> Result<(bool, &[Token]), Obstacle>
     ensures { Reads (λ x. (x.0, x.1.now)) result (truth_at tokens.now) }
@@ -242,7 +242,7 @@ pub fn truth(tokens: &[Token]) -> Result<(bool, &[Token]), Obstacle>
     }
 }
 
-/// This call, whose word is at the front, and what follows the word.
+/// This call, if its word is at the front, and the rest.
 #[tactic(auto, unfolding(crate::specs::Reading::word_of_at, crate::specs::Reading::read_then))]
 fn word_of(tokens: &[Token], call: BagCall) -> Result<(BagCall, &[Token]), Obstacle>
     ensures { Reads (λ x. (x.0, x.1.now)) result (word_of_at call tokens.now) }
@@ -251,7 +251,7 @@ fn word_of(tokens: &[Token], call: BagCall) -> Result<(BagCall, &[Token]), Obsta
     Ok((call, rest))
 }
 
-/// The call whose word is at the front, and what follows the word.
+/// The call whose word is at the front, and the rest.
 #[tactic(auto, unfolding(crate::specs::Reading::call_word_at, crate::specs::Reading::choose))]
 pub fn call_word(tokens: &[Token]) -> Result<(BagCall, &[Token]), Obstacle>
     ensures { Reads (λ x. (x.0, x.1.now)) result (call_word_at tokens.now) }
