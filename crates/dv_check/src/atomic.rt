@@ -40,7 +40,7 @@ pub fn check_atomic(alloc: Global, model: &Atomic, found: &mut Findings) -> Resu
     Ok(())
 }
 
-// Names that are declared twice or too often.
+// Names that are declared twice, and too many names.
 fn check_names(alloc: Global, model: &Atomic, found: &mut Findings) -> Result<(), AllocError>
     ensures { OnOk result (found.new ≡ with_refusals found.old
         (names_refusals (atomic_of model.now))) }
@@ -58,7 +58,7 @@ fn check_names(alloc: Global, model: &Atomic, found: &mut Findings) -> Result<()
     Ok(())
 }
 
-// Two declarations of one name.
+// Names that are declared twice.
 fn check_declared(
     alloc: Global,
     declarations: &[Declaration],
@@ -75,7 +75,7 @@ fn check_declared(
     )
 }
 
-// Too many ports. Few declarations have no more of them.
+// Too many ports. If there are few declarations, they are not counted.
 #[tactic(auto, using(crate::proofs::Lists::few_ports))]
 fn check_ports(
     alloc: Global,
@@ -91,7 +91,7 @@ fn check_ports(
     Ok(())
 }
 
-// Too many variables, flags and bags. Few declarations have no more of them.
+// Too many variables, flags and collections. If there are few declarations, they are not counted.
 #[tactic(auto, using(crate::proofs::Lists::few_variables))]
 fn check_state_variables(
     alloc: Global,
@@ -130,7 +130,7 @@ fn check_ruled(
     )
 }
 
-// `phases`, `start` and the holds, each of which has to stand once.
+// `phases`, `start` and the holds, each of which must occur once.
 fn check_standing(alloc: Global, model: &Atomic, found: &mut Findings) -> Result<(), AllocError>
     ensures { OnOk result (found.new ≡ with_refusals found.old
         (standing_refusals (atomic_of model.now))) }
@@ -233,7 +233,7 @@ fn check_start_hold(
     Ok(())
 }
 
-// Whether the hold of a phase can be asked, and faults in the start state.
+// Whether the hold of a phase can be evaluated, and faults in the start state.
 fn is_start_fault(
     alloc: Global,
     declarations: &Declarations,
@@ -253,8 +253,8 @@ fn is_start_fault(
     }
 }
 
-// Whether the ticks of a hold are the same in each state: forever, or a number as it stands. No such hold faults, so
-// no start state is made for it.
+// Whether the ticks of a hold are the same in each state: forever, or a literal. Such a hold never
+// faults, so no start state is made for it.
 fn are_constant(ticks: Option<&Ticks>) -> bool
     ensures { IsTrue result → NeverFaults (ticks_found (option_copied ticks.entry)) }
 {
@@ -274,7 +274,7 @@ fn faults_at_start(alloc: Global, model: &Atomic, phase: &Name) -> Result<bool, 
     faults_at_start_in(alloc, model, phase, &scope)
 }
 
-// The same, where the names of the model are in this scope.
+// The same for a scope of the names of the model.
 fn faults_at_start_in(
     alloc: Global,
     model: &Atomic,
@@ -290,7 +290,7 @@ fn faults_at_start_in(
     Ok(phase_hold(model, phase.number, &state, scope).is_err())
 }
 
-// Whether nothing is wrong with the hold of a phase, nor with the variables, flags and bags that it names.
+// Whether nothing is wrong with the hold of a phase and with the state variables that it names.
 fn can_ask_hold(
     alloc: Global,
     declarations: &Declarations,

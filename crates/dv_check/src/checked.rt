@@ -8,7 +8,8 @@ ghost use Rattle.dv_check.specs.Tree.{components_of};
 use dv_lex::Names;
 use dv_syntax::File;
 
-/// A file that breaks no rule, and the texts of its names, both of one model text; its type keeps that.
+/// A file that breaks no rule, and the texts of its names. The type keeps that both are of one
+/// model text.
 #[derive(Drop)]
 pub struct Checked {
     /// The tree of the text.
@@ -22,7 +23,8 @@ pub struct Checked {
 }
 
 impl Checked {
-    /// The number of components: the atomic models inside the root, each as often as it stands there.
+    /// The number of components: the atomic models inside the root, each counted as often as it is
+    /// a part.
     pub fn components(&self) -> u32
         ensures { result ≡ components_of (file_of self.now.file) }
     {

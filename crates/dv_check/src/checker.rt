@@ -29,13 +29,13 @@ use dv_lex::{LoadError, Names, Refusal, RefusalNumber};
 use dv_syntax::{Coupled, File, Model, Name};
 use std::alloc::{AllocError, Global};
 
-/// Tests a file of a model text, whose names are in this table.
+/// Checks the file of a model text with this table of names.
 ///
 /// # Errors
 ///
-/// `Refused` has the file's refusal: of all rules that the file breaks the one at the least offset, and there the one
-/// of the least number. The limits on the whole tree are asked only where no other rule is broken. `Memory`: no memory
-/// for the tables of names and of models.
+/// `Refused` has the refusal of the file: of all rules that it breaks, the one at the least offset,
+/// and there the one with the least number. The limits on the whole tree are tested only if no
+/// other rule is broken. `Memory`: no memory for the tables of names and of models.
 pub fn check(alloc: Global, file: File, names: Names) -> Result<Checked, LoadError>
     requires { AreOfOneText names (file_of file) }
     ensures file { IfOk result (λ c. c.file ≡ file) }
@@ -61,7 +61,7 @@ fn components_of(alloc: Global, file: &File) -> Result<u32, LoadError>
     components_within_limits(alloc, file)
 }
 
-// Whether no rule is broken, by the first that is.
+// Tests that no rule is broken.
 fn test_rules(first: Option<Refusal>) -> Result<(), Refusal>
     ensures none { OnOk result (first ≡ None) }
     ensures refused { IfErr result (λ refusal. first ≡ Some refusal) }
@@ -72,7 +72,7 @@ fn test_rules(first: Option<Refusal>) -> Result<(), Refusal>
     }
 }
 
-// The first rule that a file breaks.
+// The first refusal of a file, if it breaks a rule.
 fn broken_rule(alloc: Global, file: &File) -> Result<Option<Refusal>, AllocError>
     ensures { IfOk result (λ first. first ≡ first_refusal (refusals (file_of file.now))) }
 {
@@ -81,7 +81,7 @@ fn broken_rule(alloc: Global, file: &File) -> Result<Option<Refusal>, AllocError
     Ok(found.first)
 }
 
-// The number of components of a file whose whole tree passes no limit.
+// The number of components of a file whose tree is within the limits.
 fn components_within_limits(alloc: Global, file: &File) -> Result<u32, LoadError>
     ensures within { OnOk result (limit_refusals (file_of file.now) ≡ []) }
     ensures counted { IfOk result (λ count. count ≡ components_of (file_of file.now)) }
@@ -94,7 +94,7 @@ fn components_within_limits(alloc: Global, file: &File) -> Result<u32, LoadError
     }
 }
 
-// The number of components of a root whose tree passes no limit. An atomic root has none inside.
+// The number of components of a root whose tree is within the limits. An atomic root has none.
 fn components_of_root(
     alloc: Global,
     models: &[Model],
@@ -115,7 +115,7 @@ fn components_of_root(
     }
 }
 
-// The number of components of a coupled model whose tree passes no limit.
+// The number of components of a coupled model whose tree is within the limits.
 fn components_inside(
     alloc: Global,
     models: &[Model],
@@ -134,7 +134,8 @@ fn components_inside(
     Ok(test_limits(within, offset)?)
 }
 
-// The number of components of a root whose name stands at this offset, if its tree passes no limit.
+// The number of components of a root whose name is at this offset, if its tree is within the
+// limits.
 fn test_limits(within: Option<u32>, offset: u32) -> Result<u32, Refusal>
     ensures within { IfOk result (λ count. within ≡ Some count) }
     ensures refused { IfErr result (λ r. (r ≡ refusal E17 offset) × (within ≡ None)) }

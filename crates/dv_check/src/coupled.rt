@@ -23,7 +23,7 @@ use dv_lex::RefusalNumber;
 use dv_syntax::{Coupled, Link, Name, Part};
 use std::alloc::{AllocError, Global};
 
-/// Tests a coupled model. `faces` says what the names of the text's models stand for.
+/// Tests a coupled model. `faces` has the ports of the models of the text.
 pub fn check_coupled(
     alloc: Global,
     faces: &Directory<Directory<NameSort>>,
@@ -54,7 +54,7 @@ fn check_within(
     Ok(())
 }
 
-// Ports that are declared twice or too often.
+// Ports that are declared twice, and too many ports.
 fn check_ports(alloc: Global, model: &Coupled, found: &mut Findings) -> Result<(), AllocError>
     ensures { OnOk result (found.new ≡ with_refusals found.old
         (kind_refusals (map name_of_declaration (ports_of (coupled_of model.now))))) }
@@ -64,7 +64,7 @@ fn check_ports(alloc: Global, model: &Coupled, found: &mut Findings) -> Result<(
     check_kind(alloc, &names, found)
 }
 
-// Parts that are declared twice or too often.
+// Parts that are declared twice, and too many parts.
 fn check_part_names(alloc: Global, parts: &[Part], found: &mut Findings) -> Result<(), AllocError>
     ensures { OnOk result (found.new ≡ with_refusals found.old
         (kind_refusals (map name_of_part parts.now))) }

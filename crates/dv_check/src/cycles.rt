@@ -17,8 +17,8 @@ use dv_lex::RefusalNumber;
 use dv_syntax::{Model, Part};
 use std::alloc::{AllocError, Global};
 
-/// Tests that no model of a text contains itself: notes each part whose model leads back to the model around it. Of the
-/// parts of one name the first counts.
+/// Tests that no model of a text contains itself: notes each part whose model contains the model
+/// around it. Of the parts of one name only the first counts.
 pub fn check_cycles(alloc: Global, models: &[Model], found: &mut Findings) -> Result<(), AllocError>
     ensures { OnOk result (found.new
         ≡ with_refusals found.old (cycle_refusals (map model_of models.now))) }
@@ -29,7 +29,7 @@ pub fn check_cycles(alloc: Global, models: &[Model], found: &mut Findings) -> Re
     find_cycles(alloc, &positions, &numbers, models, found)
 }
 
-// The graph of the models: each leads to the models of its parts that count.
+// The graph of the models: an edge from each to the models of its parts that count.
 fn containment(
     alloc: Global,
     positions: &Directory<usize>,
@@ -63,8 +63,7 @@ fn inside(
     }
 }
 
-// Notes the parts whose models have the number of the model around them: the models that lead to each other have one
-// number, and a model leads to that of each of its parts that count.
+// Notes the parts whose models are in the strong component of the model around them.
 fn find_cycles(
     alloc: Global,
     positions: &Directory<usize>,
@@ -134,7 +133,7 @@ fn check_part(
     }
 }
 
-// The number of the model at a position.
+// The number of the strong component of the model at a position.
 fn number_at(numbers: &[usize], position: usize) -> usize
     ensures { result ≡ slice_index_or numbers.now position 0 }
 {

@@ -22,7 +22,7 @@ use dv_lex::RefusalNumber;
 use dv_syntax::{Atomic, Declaration, Hold, Name, Rule, Start, StateCollection, Ticks, Variable};
 use std::alloc::{AllocError, Global};
 
-/// What a name stands for at an offset of an atomic model.
+/// What a name denotes at an offset of an atomic model.
 #[derive(Clone, Copy, PartialEq, Eq)]
 pub enum NameSort {
     /// A variable of the state, which holds a number.
@@ -35,16 +35,16 @@ pub enum NameSort {
     Input,
     /// An output port.
     Output,
-    /// The variable of a loop around.
+    /// The variable of a loop around the offset.
     LoopVariable,
 }
 
 /// The names that an atomic model declares.
 #[derive(Drop)]
 pub struct Declarations {
-    /// What the name of each port, variable, flag, bag or queue stands for, by its first declaration.
+    /// What the name of each port, variable, flag, bag or queue denotes, by its first declaration.
     pub sorts: Directory<NameSort>,
-    /// Where the first declaration of each name of a port, variable, flag, bag or queue stands.
+    /// The offset of the first declaration of each name of a port, variable, flag, bag or queue.
     pub offsets: Directory<u32>,
     /// The names of the phases.
     pub phases: NumberSet,
@@ -62,7 +62,7 @@ fn sort_of(declaration: &Declaration) -> NameSort
     }
 }
 
-/// What the names of ports, variables, flags, bags and queues stand for.
+/// What the names of ports, variables, flags, bags and queues denote.
 #[tactic(auto, using(crate::proofs::Firsts::first_of_none))]
 pub fn sorts_of(
     alloc: Global,
@@ -78,7 +78,7 @@ pub fn sorts_of(
     Ok(sorts)
 }
 
-// Where the names of ports, variables, flags, bags and queues are declared first.
+// The offsets of the first declarations of the names of ports, variables, flags, bags and queues.
 #[tactic(auto, using(crate::proofs::Firsts::first_of_none))]
 fn offsets_of(alloc: Global, declarations: &[Declaration]) -> Result<Directory<u32>, AllocError>
     ensures { IfOk result (λ offsets. value_for offsets ≡ offset_in declarations.now) }
@@ -104,7 +104,7 @@ impl Declarations {
         })
     }
 
-    /// Tests the items of a model, each by itself.
+    /// Tests the items of a model, one by one.
     pub fn check_items(&self, model: &Atomic, found: &mut Findings)
         ensures { found.new ≡ with_refusals found.old
             (items_refusals (known_by self.now) (atomic_of model.now)) }
@@ -165,7 +165,7 @@ impl Declarations {
         }
     }
 
-    /// Tests that a phase is known.
+    /// Tests that a phase is declared.
     pub fn check_phase(&self, phase: &Name, found: &mut Findings)
         ensures { found.new ≡ with_refusals found.old
             (phase_refusals (known_by self.now) phase.now) }
@@ -176,7 +176,7 @@ impl Declarations {
     }
 }
 
-/// Whether a range is empty, or the start value outside of it.
+/// Whether a range is empty, or does not contain the start value.
 pub fn is_out_of_range(range: VariableRange) -> bool
     ensures { result ≡ is_out_of_range range }
 {
@@ -184,7 +184,7 @@ pub fn is_out_of_range(range: VariableRange) -> bool
     high < low || start < low || high < start
 }
 
-/// Whether a bag or a queue may be declared to hold at most so many values.
+/// Whether a bag or a queue may have this capacity.
 pub fn is_capacity(values: u64) -> bool
     ensures { result ≡ is_capacity values }
 {

@@ -1,4 +1,4 @@
-//! What names stand for, where the first declaration counts.
+//! What names denote: the first declaration of a name counts.
 
 ghost use Rattle.std.specs.Prelude.{◌≡◌, is_none, IfOk, OnOk};
 ghost use Rattle.std.specs.Option.{option_copied};
@@ -7,22 +7,22 @@ ghost use Rattle.dv_check.specs.Tables.{entry_for, no_value, value_for, with_fir
 use crate::table::Table;
 use std::alloc::{AllocError, Global};
 
-/// The greatest number of values that are looked for one after the other.
+/// The greatest number of values in a list that is searched from the front.
 const GREATEST_FEW: usize = 8;
 
-/// For each number the value that was added for it first. Most lists of names are short, and a short list is searched
-/// sooner than a table is made for it.
+/// For each number the value that was added first. Most lists of names are short, and searching a
+/// short list is faster than making a table.
 #[derive(Drop)]
 pub enum Directory<V: Drop> {
-    /// At most eight numbers with their values, which are looked for one after the other.
+    /// At most eight numbers with their values, which are searched from the front.
     Few(Vec<(u32, V)>),
-    /// A table of more.
+    /// A table of more values.
     Many(Box<Table<V>>),
 }
 
 #[tactic(auto, unfolding(crate::specs::Tables::value_for))]
 impl<V: Drop> Directory<V> {
-    /// No values, and made for so many.
+    /// An empty directory for `count` values.
     #[tactic(auto, using(crate::proofs::Tables::entry_none), unfolding(crate::specs::Tables::value_for))]
     pub fn with_room(alloc: Global, count: usize) -> Result<Self, AllocError>
         ensures { IfOk result (λ directory. value_for directory ≡ no_value) }
@@ -34,7 +34,7 @@ impl<V: Drop> Directory<V> {
         }
     }
 
-    /// Adds a value, unless there is one for the number, and answers whether there was none.
+    /// Adds a value if there is none for the number. Returns whether it was added.
     pub fn add(&mut self, number: u32, value: V) -> Result<bool, AllocError>
         ensures new { IfOk result (λ is_new. is_new ≡ is_none (value_for self.old number)) }
         ensures added { OnOk result
@@ -46,7 +46,7 @@ impl<V: Drop> Directory<V> {
         }
     }
 
-    /// The value of a number.
+    /// The value of a number, if there is one.
     pub fn get(&self, number: u32) -> Option<&V>
         ensures { option_copied result ≡ value_for self.now number }
     {
@@ -57,7 +57,8 @@ impl<V: Drop> Directory<V> {
     }
 }
 
-// Adds a value to a list of values by their numbers, unless there is one for the number.
+// Adds a value to a list of numbers with values if there is none for the number. Returns whether it
+// was added.
 #[tactic(auto, using(crate::proofs::Tables::entry_more, crate::proofs::Tables::stays_first))]
 fn add_entry<V: Drop>(
     entries: &mut Vec<(u32, V)>,

@@ -1,4 +1,4 @@
-//! What names stand for at an offset of an atomic model.
+//! What names denote at an offset of an atomic model.
 
 ghost use Rattle.std.specs.Prelude.{◌≡◌};
 ghost use Rattle.dv_check.specs.Rules.{known_at};
@@ -6,27 +6,27 @@ ghost use Rattle.dv_check.specs.Rules.{known_at};
 use crate::declarations::{Declarations, NameSort};
 use dv_syntax::{Name, RuleSort};
 
-/// What names stand for at an offset of an atomic model.
+/// What names denote at an offset of an atomic model.
 #[derive(Clone, Copy)]
 pub enum Environment<'a> {
-    /// Outside of all loops: what the model declares, in a rule of this sort; in a hold there is none.
+    /// Outside of all loops: in a rule of this sort, or in a hold.
     Model {
         /// What the model declares.
         declarations: &'a Declarations,
-        /// The sort of the rule; none in a hold.
+        /// The sort of the rule: none in a hold.
         rule: Option<RuleSort>,
     },
-    /// In the block of a loop, whose variable hides what else has its name.
+    /// In the block of a loop. Its variable hides other meanings of its name.
     Loop {
         /// The variable of the loop.
         variable: Name,
-        /// What names stand for around the loop.
+        /// The environment of the loop.
         outer: &'a Environment<'a>,
     },
 }
 
 impl<'a> Environment<'a> {
-    /// What a name stands for.
+    /// What a name denotes, if it is declared.
     pub fn sort(&self, name: u32) -> Option<NameSort>
         ensures { result ≡ (known_at self.now).sort name }
     {
@@ -42,7 +42,7 @@ impl<'a> Environment<'a> {
         }
     }
 
-    /// The offset at which a name is declared.
+    /// The offset at which a name is declared, if it is.
     pub fn offset(&self, name: u32) -> Option<u32>
         ensures { result ≡ (known_at self.now).offset name }
     {
@@ -58,7 +58,7 @@ impl<'a> Environment<'a> {
         }
     }
 
-    /// Whether a phase is known.
+    /// Whether a phase is declared.
     pub fn has_phase(&self, phase: u32) -> bool
         ensures { result ≡ (known_at self.now).has_phase phase }
     {
@@ -68,7 +68,7 @@ impl<'a> Environment<'a> {
         }
     }
 
-    /// The sort of the rule around; a hold stands in none.
+    /// The sort of the rule around: none in a hold.
     pub fn rule(&self) -> Option<RuleSort>
         ensures { result ≡ (known_at self.now).rule }
     {

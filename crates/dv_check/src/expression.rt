@@ -19,16 +19,16 @@ use dv_bag::ValueType;
 use dv_lex::RefusalNumber;
 use dv_syntax::{Expr, Name, Operator, Prefix, RuleSort};
 
-/// The type of an expression, unless it is refused, and the offset of its first token.
+/// The type of an expression, if it is not refused, and the offset of its first token.
 #[derive(Clone, Copy)]
 pub struct Typed {
-    /// The type; none where the expression is refused.
+    /// The type: none if the expression is refused.
     pub value_type: Option<ValueType>,
     /// The offset of the first token, in bytes of the text.
     pub offset: u32,
 }
 
-/// Tests an expression in an offset that wants a type.
+/// Tests an expression of which a type is wanted.
 pub fn check_offset(
     wanted: ValueType,
     environment: &Environment,
@@ -42,7 +42,7 @@ pub fn check_offset(
     want(wanted, given, found);
 }
 
-/// Tests an expression whose value goes where this type is wanted, or where nothing is wanted of it.
+/// Tests an expression of which a type is wanted, or none.
 pub fn check_value(
     wanted: Option<ValueType>,
     environment: &Environment,
@@ -139,7 +139,7 @@ fn check_expression(environment: &Environment, expression: &Expr, found: &mut Fi
     }
 }
 
-/// The type of what a name stands for, if it has one.
+/// The type of the values that a name denotes, if it has one.
 pub fn type_of_name(sort: Option<NameSort>) -> Option<ValueType>
     ensures { result ≡ type_of_name sort }
 {
@@ -150,7 +150,7 @@ pub fn type_of_name(sort: Option<NameSort>) -> Option<ValueType>
     }
 }
 
-// What an operator before its operand wants, and gives.
+// The type of the operand and of the result of a prefix operator.
 fn type_of_prefix(operator: Prefix) -> ValueType
     ensures { result ≡ type_of_prefix operator }
 {
@@ -160,7 +160,7 @@ fn type_of_prefix(operator: Prefix) -> ValueType
     }
 }
 
-// A name where a value is wanted: that of a variable, a flag or a loop variable.
+// A name where a value is wanted: it must be a variable, a flag or a loop variable.
 fn check_value_name(
     environment: &Environment,
     name: &Name,
@@ -181,7 +181,7 @@ fn check_value_name(
     type_of_name(sort)
 }
 
-// Tests that `elapsed` is known, and answers whether it is.
+// Tests that `elapsed` is known, and returns whether it is.
 fn check_elapsed(environment: &Environment, offset: u32, found: &mut Findings) -> bool
     ensures known { result ≡ knows_elapsed (known_at environment.now).rule }
     ensures found { found.new ≡ with_refusals found.old
@@ -194,7 +194,7 @@ fn check_elapsed(environment: &Environment, offset: u32, found: &mut Findings) -
     knows_elapsed
 }
 
-// Tests that what came to an input port can be read, and answers whether it can.
+// Tests that the values at an input port can be read, and returns whether they can.
 fn check_input(environment: &Environment, port: &Name, found: &mut Findings) -> bool
     ensures seen { result ≡ sees_inputs (known_at environment.now).rule }
     ensures found { found.new ≡ with_refusals found.old
@@ -207,7 +207,7 @@ fn check_input(environment: &Environment, port: &Name, found: &mut Findings) -> 
     sees_inputs
 }
 
-// Whether what came to input ports can be read.
+// Whether the values at input ports can be read.
 fn sees_inputs(rule: Option<RuleSort>) -> bool
     ensures { result ≡ sees_inputs rule }
 {
@@ -218,7 +218,7 @@ fn sees_inputs(rule: Option<RuleSort>) -> bool
     }
 }
 
-// Tests an input port where this is wanted, and answers whether it can be read.
+// Tests an input port where a collection is wanted, and returns whether it can be read.
 fn check_port(wanted: Wanted, environment: &Environment, port: &Name, found: &mut Findings) -> bool
     ensures readable { result ≡ (suits_port wanted && sees_inputs (known_at environment.now).rule) }
     ensures found { found.new ≡ with_refusals found.old
@@ -232,7 +232,7 @@ fn check_port(wanted: Wanted, environment: &Environment, port: &Name, found: &mu
     }
 }
 
-/// Tests a name where this is wanted, to be read, and answers whether it can be.
+/// Tests a name where a collection is wanted, and returns whether it can be read.
 pub fn check_held(
     wanted: Wanted,
     environment: &Environment,
@@ -265,7 +265,7 @@ pub fn check_held(
     }
 }
 
-// What an operator makes of its operands.
+// The type of the result of an operator, if its operands have the right types.
 fn check_operands(operator: Operator, a: Typed, b: Typed, found: &mut Findings) -> Option<ValueType>
     ensures value_type { result ≡ type_of_operator operator a.value_type b.value_type }
     ensures found { found.new ≡ with_refusals found.old
@@ -305,7 +305,7 @@ fn want_both(wanted: ValueType, a: Typed, b: Typed, found: &mut Findings)
     want(wanted, b, found);
 }
 
-// Notes an expression of another type than its offset wants.
+// Notes an expression of another type than is wanted.
 fn want(wanted: ValueType, given: Typed, found: &mut Findings)
     ensures { found.new ≡ with_refusals found.old
         (type_refusals wanted given.value_type given.offset) }

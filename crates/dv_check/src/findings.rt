@@ -1,4 +1,4 @@
-//! What has been found wrong so far.
+//! The first refusal that was found so far.
 
 ghost use Rattle.std.specs.Prelude.{◌≡◌, is_none};
 ghost use Rattle.dv_lex.specs.Order.{ordinal, precedes};
@@ -7,7 +7,7 @@ ghost use Rattle.dv_check.specs.Names.{refusal};
 
 use dv_lex::{Refusal, RefusalNumber};
 
-/// What has been found wrong so far: the first of the refusals.
+/// The first of the refusals that were found so far.
 #[derive(Clone, Copy)]
 pub struct Findings {
     /// The refusal that comes first of those found so far.
@@ -15,14 +15,14 @@ pub struct Findings {
 }
 
 impl Findings {
-    /// Nothing yet.
+    /// No refusals.
     pub fn new() -> Self
         ensures { result ≡ nothing_found }
     {
         Findings { first: None }
     }
 
-    /// Whether nothing was found.
+    /// Whether there is no refusal.
     pub fn is_empty(&self) -> bool
         ensures { result ≡ is_none self.now.first }
     {
@@ -49,7 +49,7 @@ fn precedes(one: Refusal, other: Refusal) -> bool
         || (one.offset == other.offset && ordinal(one.number) < ordinal(other.number))
 }
 
-// The number of a refusal.
+// The number of a refusal as an integer.
 fn ordinal(number: RefusalNumber) -> u8
     ensures { result ≡ ordinal number }
 {

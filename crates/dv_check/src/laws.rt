@@ -1,4 +1,5 @@
-//! Laws of refusals and of checked files. Each function stands for the law in its contract; its body does nothing.
+//! Laws of refusals and of checked files. Each function states a law in its contract; its body does
+//! nothing.
 
 ghost use Rattle.std.specs.Prelude.{◌≡◌, ℕ, ◌≤◌, true, false, List, Some, None, [], ◌∷◌, Contains};
 ghost use Rattle.std.specs.List.{All};
@@ -24,22 +25,24 @@ ghost use Rattle.dv_check.specs.Relays.{link_at, wrong_links};
 ghost use Rattle.dv_check.specs.Tree.{parts_to, tree_of};
 ghost use Rattle.dv_check.specs.Limits.{greatest_depth};
 
-/// A checked file has a coupled root. Of each of its coupled models the parts have known models, and each link leads
-/// between two parts, or between a part and the model itself: from an output that the model of a part shows or an input
-/// of the model to an input of a part or an output of the model. The root's whole tree has at least one component and
-/// at most 4,096, at most 8,192 instances with the root, and coupled models lie at most 16 deep, the root counted.
+/// A checked file has a coupled root. The parts of each of its coupled models have known models.
+/// Each link leads between two parts, or between a part and the model itself: from an output of a
+/// part or an input of the model to an input of a part or an output of the model. The tree of the
+/// root has 1 to 4,096 components and at most 8,192 instances with the root, and coupled models are
+/// nested at most 16 deep, the root counted.
 pub fn checked_files()
     ensures { (f : FileTree) → refusal_of f ≡ None → IsCheckedFile f }
 {}
 
-/// The tree of a checked file is whole: taken down to more levels than there may be, it stays the same.
+/// The tree of a checked file is complete: with more levels than the limit it stays the same.
 pub fn trees_are_whole()
     ensures { (f : FileTree) (m : CoupledTree) (levels : ℕ) → refusal_of f ≡ None
         → model_named f.root.number f.models ≡ Some (CoupledModel m)
         → greatest_depth ≤ levels → parts_to levels f.models m ≡ tree_of f.models m }
 {}
 
-/// The first refusal is one of the refusals, and none of them precedes it; where there is none, there are no refusals.
+/// The first refusal is one of the refusals, and none precedes it; if there is none, there are no
+/// refusals.
 pub fn first_refusal_is_the_least()
     ensures contained { (rs : List Refusal) (r : Refusal) → first_refusal rs ≡ Some r
         → Contains rs r }
@@ -56,15 +59,16 @@ pub fn refusals_are_ordered()
     ensures total { (a b : Refusal) → precedes a b ≡ false → precedes b a ≡ false → a ≡ b }
 {}
 
-/// No link of a checked file leads from a coupled model itself to the model itself: no input of a model is routed to
-/// its own output.
+/// No link of a checked file leads from a coupled model itself to the model itself: no input is
+/// routed to an output of the same model.
 pub fn no_link_leads_through()
     ensures { (f : FileTree) (m : CoupledTree) (l : Link) → refusal_of f ≡ None →
         Contains f.models (CoupledModel m) → Contains m.links l → IsThrough l → ⊥ }
 {}
 
-/// The variable of a loop has a name of its own: where an item of the model has it too, or the variable of a loop
-/// around, the second one in the text is refused. Loops side by side may share a name.
+/// The name of a loop's variable is its own: if an item of the model has it too, or the variable of
+/// a loop around it, the second one in the text is refused. Loops one after the other may share a
+/// name.
 pub fn loop_variables_have_names_of_their_own()
     ensures item_before { wrong_inside (flag_at 1 30 ∷ []) (loop_at 100 1 2 Done Done)
         ≡ refusal number.E6 104 ∷ [] }
@@ -75,8 +79,9 @@ pub fn loop_variables_have_names_of_their_own()
     ensures side_by_side { wrong_inside [] (loop_at 100 1 2 Done (loop_at 113 1 2 Done Done)) ≡ [] }
 {}
 
-/// The variable of a loop is known in the loop's block alone: not in the name of the bag that the loop walks, and not
-/// behind the loop. In the block it is a number that no statement assigns, whatever the rule is for.
+/// The variable of a loop is known only in the loop's block: not in the name of the bag that the
+/// loop is over, and not behind the loop. In the block it is a number that no statement assigns, in
+/// each sort of rule.
 pub fn loop_variables_are_known_in_their_blocks()
     ensures not_in_front { wrong_inside [] (loop_at 100 1 1 Done Done)
         ≡ refusal number.E7 109 ∷ [] }
@@ -92,8 +97,8 @@ pub fn loop_variables_are_known_in_their_blocks()
         (one_at 118) Done) Done) ≡ refusal number.E9 113 ∷ [] }
 {}
 
-/// An output rule changes no bag and no queue: `add`, `drop`, `push` and `pop` are refused there at their first word, which
-/// comes before what else is wrong.
+/// An output rule changes no bag and no queue: `add`, `drop`, `push` and `pop` are refused there at
+/// their first word, before anything else that is wrong.
 pub fn output_rules_change_no_collection()
     ensures added { wrong_inside [] (Changes Add 100 (one_at 104) (name_at 2 109) Done) ≡ [] }
     ensures added_outside { wrong_outside [] (Changes Add 100 (one_at 104) (name_at 2 109) Done)
@@ -107,8 +112,8 @@ pub fn output_rules_change_no_collection()
         ∷ (refusal number.E8 105 ∷ (refusal number.E8 110 ∷ [])) }
 {}
 
-/// What wants a bag takes no queue, and what wants a queue no bag, no input port and nothing else. `size` and a loop take
-/// either.
+/// Where a bag is wanted, a queue is refused; where a queue is wanted, everything else is. `size`
+/// and loops take both.
 pub fn queues_are_no_bags()
     ensures pushed { wrong_queued (Changes Push 100 (Call Front 105 (name_at 1 111)) (name_at 1 117)
         (Does Pop 119 (name_at 1 123) Done)) ≡ [] }
@@ -133,7 +138,7 @@ pub fn queues_are_no_bags()
         ≡ refusal number.E7 104 ∷ [] }
 {}
 
-/// A bag or a queue holds at least one value and at most 4,096: any other capacity is refused at its number.
+/// The capacity of a bag or a queue is from 1 to 4,096: any other number is refused.
 pub fn capacities_have_bounds()
     ensures nothing { wrong_inside (bag_at 1 30 0 ∷ []) Done ≡ refusal number.E17 32 ∷ [] }
     ensures one { wrong_inside (bag_at 1 30 1 ∷ []) Done ≡ [] }
@@ -143,14 +148,15 @@ pub fn capacities_have_bounds()
         ≡ refusal number.E17 32 ∷ [] }
 {}
 
-/// A queue is empty at the start: the hold of the start's phase has a fault there if it asks for the first value.
+/// A queue is empty at the start: the hold of the start phase faults if it reads the first value.
 pub fn queues_are_empty_at_the_start()
     ensures sized { wrong_held (queue_at 1 30 8 ∷ []) (Call Size 68 (name_at 1 73)) ≡ [] }
     ensures front { wrong_held (queue_at 1 30 8 ∷ []) (Call Front 68 (name_at 1 74))
         ≡ refusal number.E11 56 ∷ [] }
 {}
 
-/// `elapsed` is known in external rules alone, and so is a number there; elsewhere it is refused and has no type.
+/// `elapsed` is known only in external rules, where it is a number; elsewhere it is refused and has
+/// no type.
 pub fn elapsed_is_known_in_external_rules()
     ensures external { wrong_under rule.External [] (Changes Add 100 (Elapsed 104) (name_at 2 115)
         Done) ≡ [] }
@@ -164,7 +170,8 @@ pub fn elapsed_is_known_in_external_rules()
         (TruthValue 115 true)) Done Done) ≡ refusal number.E9 103 ∷ [] }
 {}
 
-/// What came to an input port can be read in external and confluent rules, and is changed by none.
+/// The values at an input port can be read in external and confluent rules, and no rule changes
+/// them.
 pub fn inputs_are_read_where_they_come()
     ensures external { wrong_under rule.External (input_at 1 30 ∷ []) (Changes Add 100
         (Call Size 104 (name_at 1 109)) (name_at 2 115) Done) ≡ [] }
@@ -176,8 +183,9 @@ pub fn inputs_are_read_where_they_come()
         (name_at 1 109) Done) ≡ refusal number.E8 109 ∷ [] }
 {}
 
-/// A link leads from an input of the model itself or an output of a part to an output of the model itself or an input
-/// of a part. A link between two ends of one part is refused, and so is one between two of the model itself.
+/// A link leads from an input of the model itself or an output of a part to an output of the model
+/// itself or an input of a part. A link between two ends at one part is refused, and so is one
+/// between two ends at the model itself.
 pub fn links_lead_on()
     ensures between { wrong_links (link_at 200 (Some 4) 3 (Some 5) 2 ∷ []) ≡ [] }
     ensures entry { wrong_links (link_at 200 None 6 (Some 4) 2 ∷ []) ≡ [] }
@@ -200,7 +208,7 @@ pub fn ends_have_directions()
         ≡ refusal number.E12 225 ∷ [] }
 {}
 
-/// A coupled part shows its ports as an atomic one does: a link leads to its inputs and from its outputs.
+/// A coupled part has ports as an atomic one has: a link leads to its inputs and from its outputs.
 pub fn coupled_parts_show_their_ports()
     ensures to_its_input { wrong_links (link_at 200 (Some 4) 3 (Some 9) 2 ∷ []) ≡ [] }
     ensures from_its_output { wrong_links (link_at 200 (Some 9) 3 (Some 4) 2 ∷ []) ≡ [] }
@@ -210,8 +218,8 @@ pub fn coupled_parts_show_their_ports()
         ≡ refusal number.E12 210 ∷ [] }
 {}
 
-/// No model contains itself: a part whose model leads back to the model around it is refused at the name of its model.
-/// A part that leads to such models without lying among them is fine.
+/// No model contains itself: a part whose model contains the model around it is refused at the name
+/// of its model. A part that leads to such models without being on a cycle is accepted.
 pub fn no_model_contains_itself()
     ensures itself { refusal_of (rooted (around 1 (part_at 22 0 1 ∷ []) ∷ []) 1)
         ≡ Some (refusal number.E15 30) }
@@ -224,7 +232,8 @@ pub fn no_model_contains_itself()
         ∷ (around 2 [] ∷ [])) ≡ [] }
 {}
 
-/// Of the parts of one name the first counts: a second one contains nothing, and is refused at its name.
+/// Of the parts of one name only the first counts: a second one contains nothing, and is refused at
+/// its name.
 pub fn parts_of_a_repeated_name_contain_nothing()
     ensures second_leads_back { refusal_of (rooted (around 1 (part_at 22 0 2 ∷ [])
         ∷ (around 2 (part_at 42 0 3 ∷ (part_at 52 0 1 ∷ [])) ∷ (around 3 [] ∷ []))) 1)
@@ -234,7 +243,8 @@ pub fn parts_of_a_repeated_name_contain_nothing()
         ≡ Some (refusal number.E15 30) }
 {}
 
-/// Coupled models lie at most 16 deep, the root counted, and a root has a component; else its name is refused.
+/// Coupled models are nested at most 16 deep, the root counted, and a root has a component; else
+/// its name is refused.
 pub fn trees_have_limits()
     ensures sixteen_deep { limit_refusals (rooted (tower 16) 16) ≡ [] }
     ensures seventeen_deep { limit_refusals (rooted (tower 17) 17) ≡ refusal number.E17 90 ∷ [] }

@@ -1,22 +1,23 @@
-//! The static checks of a model text: names, types, phases and holds, links, models that contain themselves, limits.
+//! The static checks of a model text: names, types, phases and holds, links, models that contain
+//! themselves, limits.
 //!
-//! Each test is a function that notes in the `Findings` what it finds wrong, and goes on; the findings keep the
-//! refusal that comes first. What a list of names stands for is looked up in tables, so that a text is tested in a
-//! time linear in its length. `check` accepts a file exactly where it breaks no rule, and hands it back as a
-//! `Checked`, whose type keeps that; else it answers the first refusal by where it stands, and at one token the least
-//! number (E6 to E17).
+//! Each check is a function that notes in the `Findings` what is wrong, and goes on; the findings
+//! keep the first refusal. Names are looked up in tables, so that the time is linear in the length
+//! of the text. `check` accepts a file if and only if it breaks no rule, and returns it as a
+//! `Checked`, whose type keeps that. Else its error is the refusal at the least offset, and at one
+//! token the one with the least number (E6 to E17).
 //!
-//! `dv_tree`, `dv_flat`, `dv_gen` and `dv_bound` rest on what acceptance says, and so do all runs. The limit on links
-//! is not tested here but in `dv_flat`, which counts them.
+//! `dv_tree`, `dv_flat`, `dv_gen` and `dv_bound` rely on what is true of checked files, and so do
+//! all runs. The limit on links is not tested here but in `dv_flat`, which counts them.
 #![tactic(auto)]
 
-/// The checks of a whole text: the door of the crate.
+/// The checks of a whole text.
 mod checker;
 
 /// A model text that breaks no rule.
 pub mod checked;
 
-/// What is so of a checked file, and which refusal is answered.
+/// Laws of checked files and of refusals.
 pub mod laws;
 
 /// The limits on a model text.
@@ -34,22 +35,22 @@ mod declarations;
 /// Models that contain themselves.
 mod cycles;
 
-/// What names stand for, where the first declaration counts.
+/// What names denote: a short list, or a table.
 mod directory;
 
-/// What names stand for at an offset of an atomic model.
+/// What names denote at an offset of an atomic model.
 mod environment;
 
 /// The types of expressions.
 mod expression;
 
-/// What has been found wrong so far.
+/// The first refusal that was found so far.
 mod findings;
 
 /// Sets of links.
 mod link_set;
 
-/// The models of a text as links see them.
+/// The models of a text, as links see them.
 mod models;
 
 /// The names in the lists of an atomic model.
@@ -64,7 +65,7 @@ mod parts;
 /// The ports of a coupled model in the order of the text.
 mod ports;
 
-/// Where the models of a text stand among one another.
+/// The positions of the models of a text.
 mod positions;
 
 /// Names that are declared twice or too often.
@@ -79,10 +80,10 @@ mod starts;
 /// The statements of rules.
 mod statements;
 
-/// What names stand for, in a table by their numbers.
+/// What names denote, in a table by their numbers.
 mod table;
 
-/// What is read of a collection.
+/// Which collection can be read where.
 mod wanted;
 
 pub use checked::Checked;

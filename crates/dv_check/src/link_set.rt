@@ -51,7 +51,7 @@ impl EndKey {
     }
 }
 
-/// A set of links, by their names.
+/// A set of links. Links with the same names are equal.
 #[derive(Drop)]
 pub struct LinkSet {
     keys: HashSet<LinkKey>,
@@ -68,7 +68,7 @@ impl LinkSet {
         }
     }
 
-    /// Adds a link, and answers whether it is new.
+    /// Adds a link, and returns whether it is new.
     pub fn insert(&mut self, link: &Link) -> Result<bool, AllocError>
         ensures new { IfOk result (λ is_new. is_new ≡ not (has_link self.old link.now)) }
         ensures added { OnOk result (has_link self.new ≡ with_link (has_link self.old) link.now) }

@@ -1,4 +1,4 @@
-//! The models of a text as links see them.
+//! The models of a text, as links see them.
 
 ghost use Rattle.std.specs.Prelude.{◌≡◌, map, IfOk};
 ghost use Rattle.dv_syntax.specs.Trees.{model_of};
@@ -22,7 +22,7 @@ pub fn name_of(model: &Model) -> Name
     }
 }
 
-// What the names of a model stand for, of which only ports can be coupled.
+// What the names of a model denote: only ports can be coupled.
 fn face_of(alloc: Global, model: &Model) -> Result<Directory<NameSort>, AllocError>
     ensures { IfOk result (λ face. value_for face ≡ face_of (model_of model.now)) }
 {
@@ -35,7 +35,7 @@ fn face_of(alloc: Global, model: &Model) -> Result<Directory<NameSort>, AllocErr
     }
 }
 
-/// What the names of each model stand for, by the names of the models, where the first model of a name counts.
+/// What the names of each model denote, by the name of the model. The first model of a name counts.
 pub fn faces_of(
     alloc: Global,
     models: &[Model],

@@ -41,7 +41,7 @@ fn port_of(declaration: &Declaration) -> Option<Name>
     }
 }
 
-/// The input and output ports together.
+/// The names of all input and output ports.
 pub fn ports(alloc: Global, declarations: &[Declaration]) -> Result<Vec<Name>, AllocError>
     ensures { IfOk result (λ names. names.items ≡ ports_in declarations.now) }
 {
@@ -51,7 +51,7 @@ pub fn ports(alloc: Global, declarations: &[Declaration]) -> Result<Vec<Name>, A
         .collect(alloc)
 }
 
-/// The variables, flags, bags and queues: the name of each, and what it may hold.
+/// The variables, flags, bags and queues: the name and the domain of each.
 pub fn state_variables(
     alloc: Global,
     declarations: &[Declaration],
@@ -85,7 +85,7 @@ pub fn phases(alloc: Global, items: &[Phases]) -> Result<Vec<Name>, AllocError>
     Ok(names)
 }
 
-/// The phases of the first item of phases.
+/// The phases of the first item of phases, if there is one.
 pub fn first_phases(items: &[Phases]) -> &[Name]
     ensures { result.now ≡ first_phases (map phases_of items.now) }
 {
@@ -105,7 +105,7 @@ fn ruled_phase(sort: RuleSort, rule: &Rule) -> Option<Name>
     }
 }
 
-/// The phases that have rules of a sort, one for each rule.
+/// The phases of the rules of a sort, one for each rule.
 #[tactic(auto, using(crate::proofs::Lists::filter_map_of_map))]
 pub fn ruled_phases(alloc: Global, sort: RuleSort, rules: &[Rule]) -> Result<Vec<Name>, AllocError>
     ensures { IfOk result (λ names. names.items ≡ ruled_phases sort (map rule_of rules.now)) }
@@ -125,7 +125,7 @@ fn held_phase(hold: &Hold) -> Name
     }
 }
 
-/// The phases that are held, each at the offset of the word `hold`.
+/// The phases of the holds, each at the offset of the word `hold`.
 #[tactic(auto, using(crate::proofs::Lists::map_of_map))]
 pub fn held_phases(alloc: Global, holds: &[Hold]) -> Result<Vec<Name>, AllocError>
     ensures { IfOk result (λ names. names.items ≡ held_phases (map hold_of holds.now)) }

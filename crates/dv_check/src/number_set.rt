@@ -15,7 +15,7 @@ pub struct NumberSet {
 }
 
 impl NumberSet {
-    /// The empty set, made for so many numbers.
+    /// An empty set for `count` numbers.
     #[tactic(auto, using(crate::proofs::Tables::set_of_none))]
     pub fn with_room(alloc: Global, count: usize) -> Result<Self, AllocError>
         ensures { IfOk result (λ set. has set ≡ no_number) }
@@ -37,7 +37,7 @@ impl NumberSet {
         Ok(set)
     }
 
-    /// Adds a number, and answers whether it is new.
+    /// Adds a number, and returns whether it is new.
     #[tactic(auto, unfolding(crate::specs::Tables::has))]
     pub fn insert(&mut self, number: u32) -> Result<bool, AllocError>
         ensures new { IfOk result (λ is_new. is_new ≡ not (has self.old number)) }

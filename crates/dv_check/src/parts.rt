@@ -23,15 +23,15 @@ use dv_lex::RefusalNumber;
 use dv_syntax::{Coupled, End, Link, Name, Part};
 use std::alloc::{AllocError, Global};
 
-/// What a link of a coupled model can name: the model's own ports, its parts, and what the names of the models of the
-/// text stand for.
+/// What a link of a coupled model can name: the model's own ports, its parts, and the ports of
+/// their models.
 #[derive(Drop)]
 pub struct Interior<'a> {
-    /// What the names of the model's own ports stand for.
+    /// What the names of the model's own ports denote.
     pub ports: Directory<NameSort>,
     /// The first part of each name.
     pub parts: Directory<Part>,
-    /// For the name of each model, what the names of its ports stand for.
+    /// For the name of each model, what the names of its ports denote.
     pub faces: &'a Directory<Directory<NameSort>>,
 }
 
@@ -59,7 +59,7 @@ fn directory_of(alloc: Global, parts: &[Part]) -> Result<Directory<Part>, AllocE
 }
 
 impl<'a> Interior<'a> {
-    /// What a model declares, in a text whose models' names stand for this.
+    /// What a model declares, in a text whose models have these ports.
     pub fn of(
         alloc: Global,
         model: &Coupled,
@@ -91,7 +91,8 @@ pub fn check_part_model(interior: &Interior, part: &Part, found: &mut Findings)
     }
 }
 
-/// Tests the ends of a link, and where they are known that it does not lead back.
+/// Tests the ends of a link, and if they are known, that they are not both at one part or at the
+/// model itself.
 pub fn check_link(interior: &Interior, link: &Link, found: &mut Findings)
     ensures { found.new ≡ with_refusals found.old
         (link_refusals (interior_by interior.now) link.now) }
@@ -175,7 +176,7 @@ fn check_part_target(interior: &Interior, part: &Part, port: &Name, found: &mut 
     }
 }
 
-// A port where an input is wanted.
+// Tests that a port is an input.
 fn check_input(sort: Option<&NameSort>, port: &Name, found: &mut Findings)
     ensures { found.new ≡ with_refusals found.old
         (input_refusals (option_copied sort.entry) port.now.offset) }
@@ -187,7 +188,7 @@ fn check_input(sort: Option<&NameSort>, port: &Name, found: &mut Findings)
     }
 }
 
-// A port where an output is wanted.
+// Tests that a port is an output.
 fn check_output(sort: Option<&NameSort>, port: &Name, found: &mut Findings)
     ensures { found.new ≡ with_refusals found.old
         (output_refusals (option_copied sort.entry) port.now.offset) }
@@ -217,7 +218,7 @@ fn is_output(sort: Option<&NameSort>) -> bool
     }
 }
 
-/// Whether both ends of a link are known and of the right direction.
+/// Whether both ends of a link are known and have the right directions.
 pub fn has_ends(interior: &Interior, link: &Link) -> bool
     ensures { result ≡ has_ends (interior_by interior.now) link.now }
 {

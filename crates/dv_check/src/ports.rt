@@ -8,7 +8,8 @@ ghost use Rattle.dv_check.specs.Ports.{names_before, names_from, ports_by_offset
 use dv_syntax::{Coupled, Declaration, Name};
 use std::alloc::{AllocError, Global};
 
-/// The input and output ports of a model in the order of the text, which the list of each direction has.
+/// The input and output ports of a model in the order of the text, merged from the lists of both
+/// directions.
 pub fn ports_of(alloc: Global, model: &Coupled) -> Result<Vec<Declaration>, AllocError>
     ensures { IfOk result (λ ports. ports.items ≡ ports_of (coupled_of model.now)) }
 {
@@ -32,7 +33,7 @@ fn ports_by_offset(
     Ok(ports)
 }
 
-// The outputs before an offset, up to the first that does not stand there; the others are returned.
+// Adds the output ports before an offset, and returns the others.
 fn push_before<'a>(
     offset: u32,
     outputs: &'a [Name],

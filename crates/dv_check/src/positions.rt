@@ -1,4 +1,4 @@
-//! Where the models of a text stand among one another.
+//! The positions of the models of a text.
 
 ghost use Rattle.std.specs.Prelude.{◌≡◌, filter_map, map, IfOk};
 ghost use Rattle.dv_syntax.specs.Trees.{model_of};
@@ -10,7 +10,7 @@ use crate::models::name_of;
 use dv_syntax::{Model, Part};
 use std::alloc::{AllocError, Global};
 
-/// The positions of the models by their names, where the first model of a name counts.
+/// The positions of the models by name. The first model of a name counts.
 pub fn positions_of(alloc: Global, models: &[Model]) -> Result<Directory<usize>, AllocError>
     ensures { IfOk result
         (λ positions. value_for positions ≡ position_of (map model_of models.now)) }
@@ -22,7 +22,7 @@ pub fn positions_of(alloc: Global, models: &[Model]) -> Result<Directory<usize>,
     Ok(positions)
 }
 
-/// The positions of the models of parts, in their order; a part whose model is unknown has none.
+/// The positions of the models of parts, in their order. A part whose model is unknown is left out.
 pub fn positions_inside(
     alloc: Global,
     positions: &Directory<usize>,

@@ -11,8 +11,8 @@ use dv_lex::RefusalNumber;
 use dv_syntax::{Name, Part};
 use std::alloc::{AllocError, Global};
 
-/// Notes each name that stands again behind an earlier one. A name alone stands behind none, and most lists that are
-/// asked are that short, so no set is made for them.
+/// Notes each name that occurs before in the list. Most lists have at most one name, and no set is
+/// made for them.
 #[tactic(auto, using(crate::proofs::Lists::no_repeats))]
 pub fn find_repeats(
     alloc: Global,
@@ -45,7 +45,7 @@ fn find_repeats_by_set(
     Ok(())
 }
 
-/// The parts that count: of each name the first, in their order.
+/// The parts that count, in their order: the first of each name.
 pub fn first_parts(alloc: Global, parts: &[Part]) -> Result<Vec<Part>, AllocError>
     ensures { IfOk result (λ firsts. firsts.items ≡ first_parts parts.now) }
 {
@@ -59,7 +59,7 @@ pub fn first_parts(alloc: Global, parts: &[Part]) -> Result<Vec<Part>, AllocErro
     Ok(firsts)
 }
 
-/// Notes the first name past the greatest number of names of a kind.
+/// Notes the first name past the greatest number of names of one kind.
 pub fn find_excess(names: &[Name], found: &mut Findings)
     ensures { found.new ≡ with_refusals found.old (excess names.now) }
 {
@@ -75,7 +75,7 @@ fn find_past(limit: usize, names: &[Name], found: &mut Findings)
     }
 }
 
-/// What stands within a limit.
+/// The items within a limit.
 #[tactic(auto, unfolding(crate::specs::Names::within_limit))]
 pub fn within_limit<T>(limit: usize, items: &[T]) -> &[T]
     ensures { result.now ≡ within_limit limit items.now }

@@ -13,24 +13,23 @@ use crate::positions::{positions_inside, positions_of};
 use dv_syntax::{Coupled, Model};
 use std::alloc::{AllocError, Global};
 
-/// What is inside a model: the rules of an atomic one, or the parts of a coupled one by the positions of their models.
+/// What is inside a model.
 #[derive(Drop)]
 pub enum Contents {
-    /// The rules of an atomic model.
+    /// Rules, in an atomic model.
     Rules,
-    /// The parts of a coupled model: for each the position of its model.
+    /// Parts, in a coupled model: the position of the model of each.
     Parts(Vec<usize>),
 }
 
-/// The size of a model, itself counted: how deep coupled models lie in one another, how many atomic models and how many
-/// models there are. A number past the greatest `usize` is kept as that one.
+/// The size of a model with itself. Counts saturate at the greatest `usize`.
 #[derive(Clone, Copy)]
 pub struct Size {
-    /// How many coupled models lie in one another, this one counted.
+    /// How deep coupled models are nested, with this one.
     pub depth: usize,
-    /// How many components there are.
+    /// The number of components.
     pub components: usize,
-    /// How many models there are, atomic and coupled, each as often as it is used.
+    /// The number of atomic and coupled models, each counted as often as it is a part.
     pub instances: usize,
 }
 
@@ -57,7 +56,7 @@ impl Size {
         }
     }
 
-    // A model with one part more.
+    // A model with one more part.
     fn with_part(self, part: Size) -> Self
         ensures { result ≡ with_part self part }
     {
@@ -68,7 +67,7 @@ impl Size {
         }
     }
 
-    // A model with one part more, whose model stands at a position.
+    // A model with one more part, whose model is at a position.
     fn with_part_at(self, sizes: &[Size], position: usize) -> Self
         ensures { result ≡ with_part_at sizes.now self position }
     {
@@ -78,7 +77,7 @@ impl Size {
         }
     }
 
-    // The number of components, where the size passes no limit.
+    // The number of components, if the size is within the limits.
     fn components_within(self) -> Option<u32>
         ensures { MatchOption result (size_passes_limit self ≡ true)
             (λ count. (size_passes_limit self ≡ false) × (count ≡ self.components)) }
@@ -100,8 +99,9 @@ impl Size {
     }
 }
 
-/// The number of components of a root's tree, where that passes no limit: it has a component and not too many, not too
-/// many instances, and coupled models that do not lie too deep.
+/// The number of components in the tree of a root, if it is within the limits: there is a
+/// component, there are not too many components or instances, and coupled models are not nested too
+/// deeply.
 pub fn components_within(
     alloc: Global,
     models: &[Model],
@@ -114,9 +114,9 @@ pub fn components_within(
     Ok(size.components_within())
 }
 
-// The size of a root whose parts show down to so many levels. The sizes of all models are counted level by level, those
-// of one level from those of the level before: the work is in the length of the text, however often models stand in the
-// tree.
+// The size of a root, down to a number of levels. The sizes of all models are computed level by
+// level, each level from the one before: the time depends on the length of the text, not on how
+// often models occur in the tree.
 fn size_of_tree(
     alloc: Global,
     levels: usize,
@@ -165,7 +165,7 @@ fn contents_of_model(
     }
 }
 
-// The sizes of the models whose parts show down to fewer levels than this.
+// The sizes of the models, down to fewer levels than this.
 fn sizes_below(alloc: Global, levels: usize, contents: &[Contents]) -> Result<Vec<Size>, AllocError>
     ensures { IfOk result (λ sizes. sizes.items
         ≡ sizes_below levels (map contents_by contents.now)) }
@@ -177,7 +177,7 @@ fn sizes_below(alloc: Global, levels: usize, contents: &[Contents]) -> Result<Ve
     Ok(sizes)
 }
 
-// The sizes of the models by those that they have one level less deep.
+// The sizes of the models with one more level.
 fn sizes_over(alloc: Global, sizes: &[Size], contents: &[Contents]) -> Result<Vec<Size>, AllocError>
     ensures { IfOk result (λ over. over.items
         ≡ map (size_by sizes.now) (map contents_by contents.now)) }
@@ -198,7 +198,7 @@ fn size_by(sizes: &[Size], contents: &Contents) -> Size
     }
 }
 
-// The size of a coupled model with parts whose models stand at these positions.
+// The size of a coupled model whose parts have models at these positions.
 fn size_with_parts(sizes: &[Size], inside: &[usize]) -> Size
     ensures { result ≡ fold (with_part_at sizes.now) alone inside.now }
 {

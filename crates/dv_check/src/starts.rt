@@ -18,15 +18,15 @@ use dv_eval::Domain;
 use dv_syntax::{Declaration, Expr, Name, Ticks};
 use std::alloc::{AllocError, Global};
 
-/// What the first declarations of the variables, flags, bags and queues of an atomic model say that they may hold,
-/// within the limit.
+/// What the state variables, flags and collections of an atomic model may hold, by their first
+/// declarations that are within the limit.
 #[derive(Drop)]
 pub struct Starts {
-    /// What each name may hold, and what it holds at the start.
+    /// The domain of each name, and its start value.
     pub domains: Directory<Domain>,
 }
 
-// What the first declaration of each variable, flag, bag and queue says that it may hold.
+// The domain of each variable, flag, bag and queue, by its first declaration.
 #[tactic(auto, using(crate::proofs::Firsts::first_of_none))]
 fn directory_of(
     alloc: Global,
@@ -43,7 +43,7 @@ fn directory_of(
 }
 
 impl Starts {
-    /// The variables, flags, bags and queues that these items declare.
+    /// The variables, flags, bags and queues of these declarations.
     #[tactic(auto, unfolding(crate::specs::Rules::is_start_known, crate::specs::Rules::is_start_known_by))]
     pub fn of(alloc: Global, declarations: &[Declaration]) -> Result<Self, AllocError>
         ensures { IfOk result (λ starts. is_start_known_by starts

@@ -122,7 +122,7 @@ fn check_assigned(environment: &Environment, variable: &Name, found: &mut Findin
     }
 }
 
-// The name of a command: a phase to go to, or a queue that loses its first value.
+// The name of a command: a phase for `goto`, or a queue for `pop`.
 fn check_command_name(
     command: Command,
     environment: &Environment,
@@ -158,7 +158,8 @@ fn check_sent_port(environment: &Environment, port: &Name, found: &mut Findings)
     }
 }
 
-// The variable of a loop has a name of its own: of two equal ones the second in the text is refused.
+// The name of a loop's variable must be its own: of two equal names the second in the text is
+// refused.
 fn check_loop_variable(environment: &Environment, variable: &Name, found: &mut Findings)
     ensures { found.new ≡ with_refusals found.old (loop_variable_refusals
         ((known_at environment.now).offset variable.now.number) variable.now.offset) }
@@ -168,7 +169,7 @@ fn check_loop_variable(environment: &Environment, variable: &Name, found: &mut F
     }
 }
 
-// A collection is changed with a value.
+// A change of a collection by a value.
 fn check_change(
     change: Change,
     environment: &Environment,
@@ -206,7 +207,7 @@ fn check_changed(
     }
 }
 
-// What changes a state has no offset in an output rule.
+// Refuses a statement that changes the state in an output rule.
 fn deny_in_output(environment: &Environment, offset: u32, found: &mut Findings)
     ensures { found.new ≡ with_refusals found.old
         (refusal_if (is_output_rule (known_at environment.now).rule) E9 offset) }
@@ -216,7 +217,7 @@ fn deny_in_output(environment: &Environment, offset: u32, found: &mut Findings)
     }
 }
 
-// `send` has no place outside of an output rule.
+// Refuses `send` outside of output rules.
 fn deny_outside_output(environment: &Environment, offset: u32, found: &mut Findings)
     ensures { found.new ≡ with_refusals found.old
         (refusal_if (not (is_output_rule (known_at environment.now).rule)) E9 offset) }

@@ -1,4 +1,4 @@
-//! What names stand for, in a table by their numbers.
+//! What names denote, in a table by their numbers.
 
 ghost use Rattle.std.specs.Prelude.{◌≡◌, ℕ, ◌<◌, ◌==◌, if◌then◌else◌, is_none, length, Some, IfOk, OnOk};
 ghost use Rattle.std.specs.Option.{option_copied};
@@ -7,11 +7,12 @@ ghost use Rattle.dv_check.specs.Tables.{no_value, table_value, value_at, with_fi
 use std::alloc::{AllocError, Global};
 use std::collections::HashMap;
 
-/// How many entries the list of a table may have for each value that it is made for.
+/// How long the list of a table may be for each value that the table is made for.
 const ENTRIES_FOR_EACH: usize = 4;
 
-/// For each number the value that was added for it first. The names of a text have the numbers from 0 on, so a list of
-/// many names has many small numbers: their values lie in a list by number, and only those of the others in a map.
+/// For each number the value that was added first. Names of a text are numbered from 0 on, so that
+/// of many names many have small numbers: their values are in a list by number, and the others in a
+/// map.
 #[derive(Drop)]
 pub struct Table<V: Drop> {
     /// The number at which the map begins.
@@ -21,8 +22,8 @@ pub struct Table<V: Drop> {
 }
 
 impl<V: Drop> Table<V> {
-    /// No values, and made for so many. A number past the end of the list is looked up in the map, so that few names
-    /// with great numbers make no long list.
+    /// An empty table for `count` values. A number past the end of the list is looked up in the
+    /// map, so that a few great numbers make no long list.
     #[tactic(auto, using(crate::proofs::Tables::table_none))]
     pub fn with_room(alloc: Global, count: usize) -> Self
         ensures { table_value result ≡ no_value }
@@ -34,7 +35,7 @@ impl<V: Drop> Table<V> {
         }
     }
 
-    /// Adds a value, unless there is one for the number, and answers whether there was none.
+    /// Adds a value if there is none for the number. Returns whether it was added.
     pub fn add(&mut self, number: u32, value: V) -> Result<bool, AllocError>
         ensures new { IfOk result (λ is_new. is_new ≡ is_none (table_value self.old number)) }
         ensures added { OnOk result
@@ -51,7 +52,7 @@ impl<V: Drop> Table<V> {
         Ok(is_new)
     }
 
-    /// The value of a number.
+    /// The value of a number, if there is one.
     #[tactic(auto, unfolding(crate::specs::Tables::table_value))]
     pub fn get(&self, number: u32) -> Option<&V>
         ensures { option_copied result ≡ table_value self.now number }
@@ -64,7 +65,7 @@ impl<V: Drop> Table<V> {
     }
 }
 
-// The value at an index of a list, in which entries may be empty.
+// The value at an index of a list, in which values may be missing.
 #[tactic(auto, unfolding(crate::specs::Tables::value_at))]
 fn value_at<V>(entries: &[Option<V>], index: usize) -> Option<&V>
     ensures { option_copied result ≡ value_at entries.now index }
@@ -75,7 +76,7 @@ fn value_at<V>(entries: &[Option<V>], index: usize) -> Option<&V>
     }
 }
 
-// Puts a value at an index, with empty entries before it where the list is too short.
+// Puts a value at an index, with empty entries before it if the list is too short.
 fn put_at<V: Drop>(entries: &mut Vec<Option<V>>, index: usize, value: V) -> Result<(), AllocError>
     ensures { OnOk result ((q : ℕ) → value_at entries.new.items q
         ≡ (if index == q then Some value else value_at entries.old.items q)) }

@@ -1,4 +1,4 @@
-//! What is read of a collection.
+//! Which collection can be read where.
 
 ghost use Rattle.std.specs.Prelude.{◌≡◌};
 ghost use Rattle.dv_check.specs.Types.{suits, suits_port, wanted_by};
@@ -6,14 +6,14 @@ ghost use Rattle.dv_check.specs.Types.{suits, suits_port, wanted_by};
 use dv_bag::Discipline;
 use dv_syntax::BagCall;
 
-/// What a name has to stand for where it is read as a collection.
+/// What a name must denote where a collection is read.
 #[derive(Clone, Copy, PartialEq, Eq)]
 pub enum Wanted {
-    /// The values of a bag or of a queue.
+    /// A bag or a queue.
     Values,
-    /// The values of a bag.
+    /// A bag.
     Bag,
-    /// The values of a queue.
+    /// A queue.
     Queue,
 }
 
@@ -29,7 +29,7 @@ impl Wanted {
         }
     }
 
-    /// Whether a collection of a discipline is what is wanted.
+    /// Whether a collection of a discipline is suitable.
     pub fn suits(self, discipline: Discipline) -> bool
         ensures { result ≡ suits self discipline }
     {
@@ -40,7 +40,7 @@ impl Wanted {
         }
     }
 
-    /// Whether an input port is, which is a bag.
+    /// Whether an input port is suitable: its values are a bag.
     pub fn suits_port(self) -> bool
         ensures { result ≡ suits_port self }
     {
