@@ -1,4 +1,4 @@
--- What stands around a statement, the moment, and the collection, that values of the code stand for.
+-- The context of a statement, the moment, and the collection of values of the code.
 use Rattle.std.specs.Prelude.{[]}
 use Rattle.dv_bag.specs.declared.collection.Collection.{Collection}
 use Rattle.dv_bag.specs.declared.collection.Collection.TheVariants as collection
@@ -9,7 +9,7 @@ use Rattle.dv_eval.specs.declared.moment.Moment as declared
 use Rattle.dv_eval.specs.Meaning.{Context, Moment, in_loop, moment_in, outermost}
 use Rattle.dv_eval.specs.declared.moment.Context.TheVariants as at
 
--- what has arrived, and the loops around with their variables' values
+-- what arrived, and the loops around with the values of their variables
 abbrev pub context_of : DeclaredContext → Context
 context_of (at.Outermost arrivals) = outermost arrivals.now
 context_of (at.Within' variable value p outer) = in_loop (variable, value) (context_of outer)

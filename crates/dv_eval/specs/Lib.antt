@@ -1,8 +1,8 @@
--- What a reader believes: what names stand for, and what expressions, rules and holds do.
+-- What a reader believes: what names denote, and what expressions, rules and holds do.
 pub mod Scope
 pub mod Meaning
 pub mod Contexts
--- What serves proofs and worked rows.
+-- What proofs and worked rows need.
 pub mod Steps
 pub mod Edges
 pub mod Rows

@@ -1,6 +1,6 @@
--- The meaning of expressions, rules and holds, by recursion on the tree: a value or an effect, or the first fault from the left.
--- A checked model knows its names and gives every operator what it wants; for all others a name that is not known counts
--- as 0 or as an empty bag, a bag as an empty queue and a queue as an empty bag, and a truth value as 0 or 1.
+-- The meaning of expressions, rules and holds, by recursion on the tree: a value or an effect, or the first fault from the left. A checked
+-- model declares its names and gives every operator the right types. In other models an unknown name counts as 0 or as an empty bag, a bag
+-- as an empty queue and a queue as an empty bag, and a truth value as 0 or 1.
 use Rattle.std.specs.Prelude.{ℕ, ℤ, pos, negsuc, neg_ℤ, ◌+ℤ◌, ◌-ℤ◌, ◌*ℤ◌, Bool, true, false, not, ◌&&◌, ◌||◌, if◌then◌else◌, ◌==◌}
 use Rattle.std.specs.Prelude.{nat_le, int_lt, List, [], ◌∷◌, length, replicate, slice_get, slice_set, Option, Some, None, Result}
 use Rattle.std.specs.Prelude.{Ok, Err}
@@ -56,18 +56,18 @@ same (Number a) (Number b) = int_eq a b
 same (Number a) (Truth b) = int_eq a (number_of (Truth b))
 same (Truth a) b = int_eq (number_of (Truth a)) (number_of b)
 
--- what an operator before its operand gives
+-- the result of a prefix operator
 abbrev pub prefix_result : Prefix → Value → Result Value Fault
 prefix_result Minus v = number_or_overflow (neg_ℤ (number_of v))
 prefix_result Not v = Ok (Truth (not (truth_of v)))
 
--- whether the left operand is all that an operator asks for: false and .., true or ..
+-- whether the left operand decides: false and .., true or ..
 abbrev pub is_decided : Operator → Value → Bool
 is_decided And v = not (truth_of v)
 is_decided Or v = truth_of v
 is_decided operator v = false
 
--- what an operator gives
+-- the result of a binary operator
 abbrev pub operator_result : Operator → Value → Value → Result Value Fault
 operator_result Or a b = Ok (Truth (truth_of a || truth_of b))
 operator_result And a b = Ok (Truth (truth_of a && truth_of b))
@@ -93,8 +93,7 @@ abbrev pub datum_at : List Datum → Option ℕ → Option Datum
 datum_at contents None = None
 datum_at contents (Some index) = slice_get contents index
 
--- what is known beside the state where a statement stands: what has arrived, and the values of the enclosing loops'
--- variables by name, the innermost first
+-- what a statement can read beside the state: what arrived, and the values of the enclosing loops' variables by name, the innermost first
 pub record Context : Type 0 where
   pub arrivals : Arrivals
   pub loops : List (ℕ × ℤ)
@@ -103,11 +102,11 @@ pub record Context : Type 0 where
 abbrev pub outermost : Arrivals → Context
 outermost arrivals = record { arrivals = arrivals; loops = [] }
 
--- within one loop more
+-- within one more loop
 abbrev pub in_loop : ℕ × ℤ → Context → Context
 in_loop l context = record { arrivals = context.arrivals; loops = l ∷ context.loops }
 
--- what is known where an expression stands
+-- what an expression can read
 pub record Moment : Type 0 where
   pub state : State
   pub context : Context
@@ -120,7 +119,7 @@ abbrev pub loop_value : ℕ → List (ℕ × ℤ) → Option ℤ
 loop_value name [] = None
 loop_value name (l ∷ loops) = if l.0 == name then Some l.1 else loop_value name loops
 
--- what the state variable of a name holds
+-- the state variable of a name
 abbrev pub datum_of_name : Scope → State → ℕ → Option Datum
 datum_of_name scope s name = datum_at s.variables (index_of name (names_of scope.variables))
 
@@ -128,31 +127,30 @@ abbrev pub value_in_loop : Option ℤ → Value → Value
 value_in_loop None v = v
 value_in_loop (Some n) v = Number n
 
--- what a name stands for: the innermost loop variable of that name, else the state variable
+-- what a name denotes: the innermost loop variable of that name, else the state variable
 abbrev pub value_of_name : Scope → Moment → ℕ → Value
 value_of_name scope m name = value_in_loop (loop_value name m.context.loops) (value_of_datum (datum_of_name scope m.state name))
 
--- the bag that arrived at an input port; where there is no port, the empty one
+-- the bag that arrived at an input port; the empty bag if there is no such port
 abbrev pub bag_received : Arrivals → Option ℕ → Counts
 bag_received arrivals None = []
 bag_received arrivals (Some port) = bag_at arrivals.received port
 
--- the collection of the state variable at an index; where there is no variable, the bag that arrived at a port
+-- the collection of the state variable at an index; if there is no variable, the bag that arrived at a port
 abbrev pub collection_between : Moment → Option ℕ → Option ℕ → Collection
 collection_between m (Some index) port = held_at m.state.variables index
 collection_between m None port = collection.Bag (bag_received m.context.arrivals port)
 
--- the collection that a name stands for: a state variable's, else an input port's bag; a name of no collection stands for an
--- empty bag
+-- the collection that a name denotes: a state variable's, else an input port's bag; the empty bag if there is neither
 abbrev pub collection_of_name : Scope → Moment → ℕ → Collection
 collection_of_name scope m name = collection_between m (index_of name (names_of scope.variables)) (index_of name scope.inputs)
 
--- a bag's counts; a queue stands for the empty bag
+-- the counts of a bag; a queue is read as the empty bag
 abbrev pub bag_or_none : Collection → Counts
 bag_or_none (collection.Bag b) = b
 bag_or_none (collection.Queue q) = []
 
--- a queue's values; a bag stands for the empty queue
+-- the values of a queue; a bag is read as the empty queue
 abbrev pub queue_or_none : Collection → List ℤ
 queue_or_none (collection.Bag b) = []
 queue_or_none (collection.Queue q) = q
@@ -161,8 +159,8 @@ abbrev pub first : List ℤ → Option ℤ
 first [] = None
 first (n ∷ ns) = Some n
 
--- what a call gives: the number of the values of a bag or a queue; of a bag their exact sum, the least and the greatest; of a
--- queue the first
+-- the result of a call: the number of values of a bag or a queue; the exact sum, the least or the greatest value of a bag; the first value
+-- of a queue
 abbrev pub call_result : BagCall → Collection → Result Value Fault
 call_result Size c = Ok (Number (pos (count_in c)))
 call_result Sum c = sum_or_overflow (bag_or_none c) >>= λ n. Ok (Number n)
@@ -170,7 +168,7 @@ call_result Least c = number_or_empty (least (bag_or_none c))
 call_result Most c = number_or_empty (most (bag_or_none c))
 call_result Front c = number_or_empty (first (queue_or_none c))
 
--- the value of an expression at a moment; where the left operand decides, the right one is not asked
+-- the value of an expression at a moment; if the left operand decides, the right one is not evaluated
 abbrev pub meaning : Scope → Moment → Expression → Result Value Fault
 meaning scope m (Literal n) = Ok (Number (pos n.value))
 meaning scope m (TruthValue offset b) = Ok (Truth b)
@@ -185,12 +183,12 @@ meaning scope m (Elapsed offset) = number_or_overflow (pos m.context.arrivals.el
 meaning scope m (Times offset e b) =
     meaning scope m e >>= λ v. Ok (Number (pos (count_of (number_of v) (bag_or_none (collection_of_name scope m b.number)))))
 
--- a number into the variable at an index, where it is within the variable's range
+-- a number is assigned to the variable at an index, if it is within the range
 abbrev pub assignment_in_range : VariableRange → ℕ → ℤ → Effect → Result Effect Fault
 assignment_in_range range index n e =
     if is_within range.low range.high n then Ok (with_state e (with_datum e.state index (datum.Number n))) else Err Range
 
--- a value into the state variable at an index; a flag takes the truth value
+-- a value is assigned to the state variable at an index; a flag gets the truth value
 abbrev pub assignment_in_domain : Domain → ℕ → Value → Effect → Result Effect Fault
 assignment_in_domain (domain.Number range) index v e = assignment_in_range range index (number_of v) e
 assignment_in_domain (domain.Flag start) index v e = Ok (with_state e (with_datum e.state index (datum.Flag (truth_of v))))
@@ -208,19 +206,19 @@ assignment_at scope (Some index) v e = assignment_to (slice_get scope.variables 
 abbrev pub assignment : Scope → ℕ → Value → Effect → Result Effect Fault
 assignment scope name v e = assignment_at scope (index_of name (names_of scope.variables)) v e
 
--- one value more at a port
+-- one more value is sent at a port
 abbrev pub with_value_at : Option ℕ → ℤ → Effect → Effect
 with_value_at None n e = e
 with_value_at (Some port) n e =
     record { state = e.state; sent = slice_set e.sent port (with_copies n 1 (bag_at e.sent port)); goto = e.goto }
 
--- a number sent by an output port; the 4,097th of one output is a flood
+-- a number is sent at an output port; the 4,097th of one output is a flood
 abbrev pub sending : Scope → ℕ → Value → Effect → Result Effect Fault
 sending scope port v e =
     if nat_le greatest_count (total_of_all e.sent) then Err Flood
     else Ok (with_value_at (index_of port scope.outputs) (number_of v) e)
 
--- how many values a bag or a queue of the state may hold
+-- the number of values that a bag or a queue of the state may hold
 abbrev pub capacity_in : Domain → Option ℕ
 capacity_in (domain.Number range) = None
 capacity_in (domain.Flag start) = None
@@ -230,13 +228,12 @@ abbrev pub capacity_of : Option (ℕ × Domain) → Option ℕ
 capacity_of None = None
 capacity_of (Some variable) = capacity_in variable.1
 
--- what is made of the collection at an index; where that is nothing, nothing changes
+-- the collection at an index is replaced; if the new one is missing, nothing changes
 abbrev pub with_made : ℕ → Effect → Option (Result Collection Fault) → Result Effect Fault
 with_made index e None = Ok e
 with_made index e (Some r) = r >>= λ c. Ok (with_collection e index c)
 
--- a number changes the collection at an index, which may hold so many values; where there is none of the discipline that the
--- change wants, nothing changes
+-- a number changes the collection at an index, which has a capacity; if there is none of the right discipline, nothing changes
 abbrev pub changing_to : Change → Option ℕ → Option Datum → ℕ → ℤ → Effect → Result Effect Fault
 changing_to c (Some capacity) (Some (datum.Held held)) index n e = with_made index e (changed c capacity n held)
 changing_to c capacity content index n e = Ok e
@@ -250,7 +247,7 @@ changing_at scope c (Some index) n e =
 abbrev pub changing : Scope → Change → ℕ → ℤ → Effect → Result Effect Fault
 changing scope c name n e = changing_at scope c (index_of name (names_of scope.variables)) n e
 
--- the queue at an index loses its first value; where there is no queue, nothing changes
+-- the first value of the queue at an index is removed; if there is no queue, nothing changes
 abbrev pub popping_from : Option Datum → ℕ → Effect → Result Effect Fault
 popping_from (Some (datum.Held held)) index e = with_made index e (popped held)
 popping_from content index e = Ok e
@@ -259,7 +256,7 @@ abbrev pub popping_at : Option ℕ → Effect → Result Effect Fault
 popping_at None e = Ok e
 popping_at (Some index) e = popping_from (slice_get e.state.variables index) index e
 
--- a queue of the state loses its first value
+-- the first value of a queue of the state is removed
 abbrev pub popping : Scope → ℕ → Effect → Result Effect Fault
 popping scope name e = popping_at (index_of name (names_of scope.variables)) e
 
@@ -267,22 +264,22 @@ abbrev pub with_goto : Option ℕ → Effect → Effect
 with_goto None e = e
 with_goto (Some phase) e = record { state = e.state; sent = e.sent; goto = Some phase }
 
--- what a command does with a name
+-- the effect of a command with a name
 abbrev pub command_effect : Scope → Command → ℕ → Effect → Result Effect Fault
 command_effect scope command.Goto name e = Ok (with_goto (index_of name scope.phases) e)
 command_effect scope command.Pop name e = popping scope name e
 
--- a step for each of some values, one after the other; the first fault ends it
+-- a step for each of several values, one after the other; the first fault ends it
 abbrev pub repetition : (ℤ → Effect → Result Effect Fault) → List ℤ → Effect → Result Effect Fault
 repetition step [] e = Ok e
 repetition step (n ∷ ns) e = step n e >>= repetition step ns
 
--- the value of an expression in the state that an effect has left
+-- the value of an expression in the state of an effect
 abbrev pub value_within : Scope → Context → Effect → Expression → Result Value Fault
 value_within scope context e value = meaning scope (moment_in context e.state) value
 
--- What a list of statements does, one after the other; the last goto that ran counts. A loop walks the values of its bag or
--- its queue as it stood when the loop began: those of a bag in ascending order, each copy once, those of a queue from the first on.
+-- The effect of a list of statements, one after the other; the last goto that ran counts. A loop goes over the values that its bag or queue
+-- had when the loop began: those of a bag in ascending order, each copy once, those of a queue from the first on.
 abbrev pub run : Scope → Context → Statements → Effect → Result Effect Fault
 run scope context Done e = Ok e
 run scope context (Assign variable value rest) e =
@@ -302,12 +299,12 @@ run scope context (For offset v b block rest) e =
 run scope context (Changes c offset value x rest) e =
     value_within scope context e value >>= λ v. changing scope c x.number (number_of v) e >>= run scope context rest
 
--- the effect of a rule on a state, with what has arrived
+-- the effect of a rule on a state, with what arrived
 abbrev pub effect_of : Scope → Statements → Arrivals → State → Result Effect Fault
 effect_of scope body arrivals s =
     run scope (outermost arrivals) body (record { state = s; sent = replicate (length scope.outputs) []; goto = None })
 
--- ticks, unless they are below 0
+-- ticks, which must not be below 0
 abbrev pub ticks_from : ℤ → Result (Option ℕ) Fault
 ticks_from (pos n) = Ok (Some n)
 ticks_from (negsuc n) = Err BelowZero

@@ -58,7 +58,7 @@ tally_and d = record {
 abbrev pub holding : ℤ → Collection → State
 holding count c = record { phase = 0; variables = datum.Number count ∷ datum.Held c ∷ [] }
 
--- the value and the effect in a state with this collection, with what has arrived
+-- the value and the effect in a state with this collection, with what arrived
 abbrev pub value_over : Collection → Arrivals → Expression → Result Value Fault
 value_over c arrivals e = meaning (tally_and (discipline_of c)) (moment_in (outermost arrivals) (holding (pos 0) c)) e
 
@@ -69,7 +69,7 @@ effect_over c arrivals body = effect_of (tally_and (discipline_of c)) body arriv
 abbrev pub left_over : ℤ → Collection → Counts → Effect
 left_over count c sent = record { state = holding count c; sent = sent ∷ []; goto = None }
 
--- the same where the bag has such values
+-- the same for a bag with these values
 abbrev pub value_with : Counts → Expression → Result Value Fault
 value_with values e = value_over (collection.Bag values) nothing_arrived e
 
@@ -79,7 +79,7 @@ effect_with values body = effect_over (collection.Bag values) nothing_arrived bo
 abbrev pub left : ℤ → Counts → Counts → Effect
 left count values sent = left_over count (collection.Bag values) sent
 
--- and where the queue has them
+-- and for a queue with them
 abbrev pub value_queued : List ℤ → Expression → Result Value Fault
 value_queued values e = value_over (collection.Queue values) nothing_arrived e
 
@@ -93,7 +93,7 @@ queued count values = left_over count (collection.Queue values) []
 abbrev pub two_threes : Counts
 two_threes = (pos 2, 1) ∷ (pos 3, 2) ∷ []
 
--- so many ones, in a queue
+-- a number of ones, in a queue
 abbrev pub ones : ℕ → List ℤ
 ones n = replicate n (pos 1)
 
@@ -144,19 +144,19 @@ turn_over = digit_before (push_it pop_one)
 abbrev pub nested : Statements
 nested = for_each (for_each next_digit)
 
--- such values at the input port, so many ticks after the last transition
+-- these values at the input port, and the ticks since the last transition
 abbrev pub arrived : Counts → ℕ → Arrivals
 arrived values ticks = record { received = values ∷ []; elapsed = ticks }
 
--- the value where the bag has one set of values, and another arrived
+-- the value if the bag of the state has some values, and others arrived
 abbrev pub value_when : Counts → Counts → Expression → Result Value Fault
 value_when values received e = value_over (collection.Bag values) (arrived received 1) e
 
--- the ticks since the last transition, where there are so many
+-- the ticks since the last transition
 abbrev pub elapsed_when : ℕ → Result Value Fault
 elapsed_when ticks = value_over (collection.Bag []) (arrived [] ticks) (Elapsed 1)
 
--- the effect where the bag has one set of values, and another arrived
+-- the effect if the bag of the state has some values, and others arrived
 abbrev pub effect_when : Counts → Counts → Statements → Result Effect Fault
 effect_when values received body = effect_over (collection.Bag values) (arrived received 1) body
 

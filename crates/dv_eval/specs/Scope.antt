@@ -20,7 +20,7 @@ use Rattle.dv_eval.specs.declared.scope.VariableRange.{VariableRange}
 use Rattle.dv_eval.specs.declared.scope.Domain.{Domain}
 use Rattle.dv_eval.specs.declared.scope.Domain.TheVariants as domain
 
--- variables, flags, bags and queues with what they may hold, phases and ports, each in the order of declaration
+-- variables, flags, bags and queues with their domains, phases and ports, each in the order of declaration
 pub record Scope : Type 0 where
   pub variables : List (ℕ × Domain)
   pub phases : List ℕ
@@ -67,7 +67,7 @@ names_of entries = map (λ e. e.0) entries
 abbrev pub is_declared : ℕ → List ℕ → Bool
 is_declared name names = list_any (λ n. n == name) names
 
--- one name more, unless it is there already
+-- one more name, if it is new
 abbrev pub with_name : List ℕ → Name → List ℕ
 with_name names name = if is_declared name.number names then names else names ++ name.number ∷ []
 
@@ -86,7 +86,7 @@ bound_value b = signed b.minus b.magnitude.value
 abbrev pub range_of : Variable → VariableRange
 range_of v = record { low = bound_value v.low; high = bound_value v.high; start = bound_value v.start }
 
--- the state variable that a declaration declares, a variable, a flag, a bag or a queue: its name, and what it may hold
+-- the name and the domain of the state variable that a declaration declares: a variable, a flag, a bag or a queue
 abbrev pub state_variable_of : Declaration → Option (Name × Domain)
 state_variable_of (In port) = None
 state_variable_of (Out port) = None
@@ -104,7 +104,7 @@ abbrev pub with_variables : List (ℕ × Domain) → List (Name × Domain) → L
 with_variables entries [] = entries
 with_variables entries (v ∷ more) = with_variables (with_variable entries v) more
 
--- what a model declares: of a name that is declared twice the first declaration counts
+-- what a model declares: if a name is declared twice, the first declaration counts
 abbrev pub scope_of : AtomicTree → Scope
 scope_of m = record {
   variables = with_variables [] (state_variables_in m.declarations);
@@ -123,7 +123,7 @@ same_sort External External = true
 same_sort Confluent Confluent = true
 same_sort a b = false
 
--- what a state variable holds at the start; a bag or a queue is empty
+-- the value of a state variable at the start; a bag or a queue is empty
 abbrev pub start_datum : Domain → Datum
 start_datum (domain.Number range) = datum.Number range.start
 start_datum (domain.Flag start) = datum.Flag start
@@ -137,7 +137,7 @@ abbrev pub start_phase : Scope → List Start → ℕ
 start_phase scope [] = 0
 start_phase scope (s ∷ starts) = unwrap_or (index_of s.phase.number scope.phases) 0
 
--- the state in which a component begins
+-- the start state of a component
 abbrev pub start_state : AtomicTree → State
 start_state m = record { phase = start_phase (scope_of m) m.starts; variables = start_data (scope_of m).variables }
 

@@ -1,4 +1,4 @@
--- Steps of a rule: what takes the value of an expression, and what is done for each of the copies of a value.
+-- Steps of a rule: a step with the value of an expression, and a step for each copy of a value.
 use Rattle.std.specs.Prelude.{ℕ, zero, suc, Result, Ok}
 use Rattle.dv_syntax.specs.Trees.{Expression}
 use Rattle.dv_bag.specs.Outcome.{◌>>=◌}
@@ -12,7 +12,7 @@ use Rattle.dv_eval.specs.Scope.{Scope}
 abbrev pub with_value : Scope → Context → Expression → (Value → Effect → Result Effect Fault) → Effect → Result Effect Fault
 with_value scope context value step e = value_within scope context e value >>= λ v. step v e
 
--- a step so many times
+-- a step, repeated
 abbrev pub repeated : (Effect → Result Effect Fault) → ℕ → Effect → Result Effect Fault
 repeated step zero e = Ok e
 repeated step (suc n) e = step e >>= repeated step n

@@ -1,4 +1,4 @@
-//! The collections that names stand for.
+//! The collections that names denote.
 
 ghost use Rattle.std.specs.Prelude.{◌≡◌, ◌≤◌, [], pos, unwrap_or, IfOk, IfSome};
 ghost use Rattle.std.specs.Option.{option_copied};
@@ -15,14 +15,14 @@ use crate::scope::Scope;
 use dv_bag::{Bag, Collection, DatumView, Fault, Queue, State};
 use std::alloc::{AllocError, Global};
 
-/// What a name stands for where a collection is asked for.
+/// What a name denotes where a collection is read.
 #[derive(Clone, Copy)]
 pub(crate) enum CollectionView<'a> {
-    /// A bag of the state, or one that has arrived.
+    /// A bag of the state, or one that arrived.
     Bag(&'a Bag),
     /// A queue of the state.
     Queue(&'a Queue),
-    /// Nothing, which stands for an empty bag.
+    /// No collection: read as an empty bag.
     Nothing,
 }
 
@@ -43,7 +43,7 @@ impl CollectionView<'_> {
     ///
     /// # Errors
     ///
-    /// `Overflow` where the exact sum is outside -2^63..2^63-1.
+    /// `Overflow` if the exact sum is outside -2^63..2^63-1.
     pub(crate) fn sum(&self) -> Result<i64, Fault>
         requires { count_in (collection_seen self.now) ≤ greatest_count }
         ensures { result ≡ sum_or_overflow (bag_or_none (collection_seen self.now)) }
@@ -97,7 +97,7 @@ impl CollectionView<'_> {
         }
     }
 
-    /// The values as they stand, in the order in which a loop walks them, each with the number of its copies.
+    /// The values in the order of a loop, each with its number of copies.
     ///
     /// # Errors
     ///
@@ -115,7 +115,7 @@ impl CollectionView<'_> {
     }
 }
 
-// The same pairs in memory of their own.
+// A copy of the pairs.
 fn copied(alloc: Global, pairs: &[(i64, u64)]) -> Result<Vec<(i64, u64)>, AllocError>
     ensures { IfOk result (λ copied. copied.items ≡ pairs.now) }
 {
@@ -124,7 +124,7 @@ fn copied(alloc: Global, pairs: &[(i64, u64)]) -> Result<Vec<(i64, u64)>, AllocE
     Ok(copied)
 }
 
-/// The collection that a name stands for.
+/// The collection that a name denotes.
 pub(crate) fn collection_of_name<'a>(
     name: u32,
     moment: &'a Moment,

@@ -23,8 +23,8 @@ use dv_syntax::{BagCall, Expr, Operator, Prefix};
 ///
 /// # Errors
 ///
-/// The first fault from the left: `Overflow`, `Divide`, or `Empty` of the least or the greatest value of a bag, or the
-/// first value of a queue, that has none.
+/// The first fault from the left: `Overflow`, `Divide`, or `Empty` for the least or greatest value
+/// of an empty bag or the first value of an empty queue.
 pub fn eval(expression: &Expr, moment: &Moment, scope: &Scope) -> Result<Value, Fault>
     ensures { result ≡ meaning scope.now (moment_of moment.now) (expression_of expression.now) }
 {
@@ -62,7 +62,7 @@ pub fn eval(expression: &Expr, moment: &Moment, scope: &Scope) -> Result<Value, 
     }
 }
 
-// What a name stands for.
+// The value that a name denotes.
 fn value_of_name(name: u32, moment: &Moment, scope: &Scope) -> Value
     ensures { result ≡ value_of_name scope.now (moment_of moment.now) name }
 {
@@ -76,7 +76,7 @@ fn value_of_name(name: u32, moment: &Moment, scope: &Scope) -> Value
     }
 }
 
-// What the state variable of a name holds.
+// The state variable of a name, if there is one.
 fn datum_of_name<'a>(name: u32, state: &'a State, scope: &Scope) -> Option<DatumView<'a>>
     ensures datum { option_map datum_of result ≡ datum_of_name scope.now state.now name }
     ensures few { IfSome result (λ view. HoldsFew view) }
@@ -85,7 +85,7 @@ fn datum_of_name<'a>(name: u32, state: &'a State, scope: &Scope) -> Option<Datum
     state.variables.get(index)
 }
 
-// What a call gives.
+// The result of a call.
 fn call_result(call: BagCall, collection: &CollectionView) -> Result<Value, Fault>
     requires { count_in (collection_seen collection.now) ≤ greatest_count }
     ensures { result ≡ call_result call (collection_seen collection.now) }
@@ -99,7 +99,7 @@ fn call_result(call: BagCall, collection: &CollectionView) -> Result<Value, Faul
     }
 }
 
-// What an operator before its operand gives.
+// The result of a prefix operator.
 fn prefix_result(operator: Prefix, operand: Value) -> Result<Value, Fault>
     ensures { result ≡ prefix_result operator operand }
 {
@@ -109,7 +109,7 @@ fn prefix_result(operator: Prefix, operand: Value) -> Result<Value, Fault>
     }
 }
 
-// Whether the left operand is all that an operator asks for.
+// Whether the left operand decides the result, so that the right one is not evaluated.
 fn is_decided(operator: Operator, left: Value) -> bool
     ensures { result ≡ is_decided operator left }
 {
@@ -120,7 +120,7 @@ fn is_decided(operator: Operator, left: Value) -> bool
     }
 }
 
-// What an operator gives.
+// The result of a binary operator.
 fn operator_result(operator: Operator, left: Value, right: Value) -> Result<Value, Fault>
     ensures { result ≡ operator_result operator left right }
 {

@@ -1,4 +1,4 @@
-//! Laws of the language. Each function stands for the law in its contract; its body does nothing.
+//! Laws of the language. Each function states a law in its contract; its body does nothing.
 
 ghost use Rattle.std.specs.Prelude.{◌≡◌, true, false, pos, negsuc, [], ◌∷◌, Ok, Err};
 ghost use Rattle.dv_syntax.specs.Trees.{Binary, Call, Changes, Done, Elapsed, Prefixed, Times};
@@ -14,8 +14,8 @@ ghost use Rattle.dv_eval.specs.Rows.{for_each_request, great, least_is_one, left
 ghost use Rattle.dv_eval.specs.Rows.{queue, queued, requests, send_it, some_there, turn_over, two_threes, value_queued};
 ghost use Rattle.dv_eval.specs.Rows.{value_when, value_with};
 
-/// Numbers have 64 bits and a sign. A quotient is rounded towards 0, and a remainder is what the exact quotient
-/// leaves. Of two operands with faults the left one's fault is the expression's.
+/// Numbers have 64 bits and a sign. A quotient is rounded towards 0, and a remainder is what is
+/// left of the division. If both operands fault, the fault of the left one counts.
 pub fn expressions_at_the_edges()
     ensures greatest { value greatest ≡ Ok (outcome.Number (pos 9223372036854775807)) }
     ensures least { value least ≡ Ok (outcome.Number (negsuc 9223372036854775807)) }
@@ -35,8 +35,8 @@ pub fn expressions_at_the_edges()
     ensures right_fault { value (Binary operator.Add too_great by_nothing) ≡ Err fault.Overflow }
 {}
 
-/// A left operand that decides is the only one that is asked: a fault of the right one does not count then. A fault
-/// of the left operand is the expression's, whatever the right one gives.
+/// If the left operand decides, the right one is not evaluated, and its fault does not count. A
+/// fault of the left operand is the fault of the expression, for any right one.
 pub fn decided_operators_stop_early()
     ensures and_stops { value (Binary operator.And failing faulty) ≡ Ok (outcome.Truth false) }
     ensures and_goes_on { value (Binary operator.And holding faulty) ≡ Err fault.Divide }
@@ -48,8 +48,8 @@ pub fn decided_operators_stop_early()
     ensures not_holding { value (Prefixed prefix.Not 1 holding) ≡ Ok (outcome.Truth false) }
 {}
 
-/// Calls count copies. An empty bag has no least and no greatest value, and none is asked for where the left operand
-/// decides.
+/// Calls count copies. An empty bag has no least and no greatest value, and none is read if the
+/// left operand decides.
 pub fn bags_in_expressions()
     ensures size { value_with two_threes (Call call.Size 1 bag) ≡ Ok (outcome.Number (pos 3)) }
     ensures sum { value_with two_threes (Call call.Sum 1 bag) ≡ Ok (outcome.Number (pos 8)) }
@@ -69,7 +69,7 @@ pub fn bags_in_expressions()
     ensures past_the_greatest { value_with great (Call call.Sum 1 bag) ≡ Err fault.Overflow }
 {}
 
-/// A bag takes values until it is full, and gives back what it has.
+/// A bag takes values until it is full, and drops only values that it has.
 pub fn bags_in_statements()
     ensures one_more { effect_with two_threes (Changes Add 1 (number 2) bag Done)
         ≡ Ok (left (pos 0) ((pos 2, 2) ∷ (pos 3, 2) ∷ []) []) }
@@ -85,7 +85,7 @@ pub fn bags_in_statements()
         ≡ Ok (left (pos 0) two_threes []) }
 {}
 
-/// Of a queue the values are counted, and the first one is read. An empty queue has no first value.
+/// The values of a queue are counted, and the first one is read. An empty queue has no first value.
 pub fn queues_in_expressions()
     ensures size { value_queued (pos 7 ∷ pos 3 ∷ pos 7 ∷ []) (Call call.Size 1 queue)
         ≡ Ok (outcome.Number (pos 3)) }
@@ -94,8 +94,8 @@ pub fn queues_in_expressions()
     ensures no_front { value_queued [] (Call call.Front 1 queue) ≡ Err fault.Empty }
 {}
 
-/// A queue takes values behind those that it has until it is full, and loses the first one, if there is one. A fault of
-/// the value comes before one of the queue.
+/// A queue takes values at its end until it is full, and `pop` removes the first one, if there is
+/// one. A fault of the value comes before one of the queue.
 pub fn queues_in_statements()
     ensures pushed { effect_queued (pos 7 ∷ pos 3 ∷ []) (Changes Push 1 (number 5) queue Done)
         ≡ Ok (queued (pos 0) (pos 7 ∷ pos 3 ∷ pos 5 ∷ [])) }
@@ -109,8 +109,8 @@ pub fn queues_in_statements()
     ensures none_popped { effect_queued [] pop_one ≡ Err fault.Empty }
 {}
 
-/// A loop takes the values in ascending order, each copy once, of its bag as it stood when the loop began. The first
-/// fault ends it. Of two loop variables of one name the inner one counts.
+/// A loop goes over the values that its bag had when the loop began, in ascending order, each copy
+/// once. The first fault ends it. Of two loop variables with one name the inner one counts.
 pub fn loops_walk_bags()
     ensures sends { effect_with two_threes (for_each send_it)
         ≡ Ok (left (pos 0) two_threes two_threes) }
@@ -124,8 +124,8 @@ pub fn loops_walk_bags()
         ≡ Ok (left (pos 1212) ((pos 1, 1) ∷ (pos 2, 1) ∷ []) []) }
 {}
 
-/// A loop over a queue takes the values from the first on, of the queue as it stood when the loop began, whatever the loop
-/// does with it.
+/// A loop goes over the values that its queue had when the loop began, from the first on, even if
+/// its block changes the queue.
 pub fn loops_walk_queues()
     ensures in_order { effect_queued (pos 2 ∷ pos 1 ∷ pos 2 ∷ []) (for_each next_digit)
         ≡ Ok (queued (pos 212) (pos 2 ∷ pos 1 ∷ pos 2 ∷ [])) }
@@ -136,8 +136,8 @@ pub fn loops_walk_queues()
     ensures nothing { effect_queued [] (for_each pop_one) ≡ Ok (queued (pos 0) []) }
 {}
 
-/// A rule sees the bags that have arrived and the ticks since the last transition, and changes neither. What arrived is
-/// not in a bag of the state.
+/// A rule reads the bags that arrived and the ticks since the last transition, and changes neither.
+/// What arrived is not in a bag of the state.
 pub fn rules_see_what_arrived()
     ensures elapsed { elapsed_when 7 ≡ Ok (outcome.Number (pos 7)) }
     ensures last_number { elapsed_when 9223372036854775807

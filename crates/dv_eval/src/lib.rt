@@ -1,16 +1,17 @@
 //! The meaning of expressions, rules and holds, on trees.
 //!
-//! A `Scope` has the names that an atomic model declares, and a `Moment` what else an expression may read: the state,
-//! what has arrived, and the variables of the loops around. `eval` gives the value of an expression or its fault,
-//! `run_rule` the effect of a rule or its first fault, and `hold` the ticks of a hold. Each is exactly what the
-//! definitions of `specs/` say. The meaning is total: in a text that was not checked an unknown name counts as 0.
+//! A `Scope` has the names that an atomic model declares, and a `Moment` everything else that an
+//! expression may read: the state, what arrived, and the variables of the loops around it. `eval`
+//! gives the value of an expression or its fault, `run_rule` the effect of a rule or its first
+//! fault, and `hold` the ticks of a hold. The definitions of `specs/` say exactly what these are.
+//! The meaning is total: in a text that was not checked, an unknown name counts as 0.
 //!
-//! `dv_plain` runs models by this meaning; `dv_gen` proves its programs against it, and `dv_bound` its lower bound on
-//! holds. `dv_check` evaluates the hold of the start, and `dv_fault` runs a rule again. A run in processes runs no
-//! rule by its tree.
+//! `dv_plain` runs models by this meaning; `dv_gen` proves its programs against it, and `dv_bound`
+//! its lower bound on holds. `dv_check` evaluates the hold of the start phase, and `dv_fault` runs
+//! a rule again. A run in processes uses programs instead.
 #![tactic(auto)]
 
-/// The collections that names stand for.
+/// The collections that names denote.
 mod collection;
 /// The values of expressions.
 pub mod expression;
@@ -20,11 +21,11 @@ pub mod laws;
 pub mod model;
 /// The names of one kind that an atomic model declares.
 mod name_list;
-/// What is known where an expression stands.
+/// What an expression can read.
 pub mod moment;
-/// What a rule does.
+/// The effects of rules.
 pub mod rule;
-/// What the names of an atomic model stand for.
+/// What the names of an atomic model denote.
 pub mod scope;
 
 pub use expression::eval;

@@ -1,4 +1,4 @@
-//! What an atomic model says of its start, its rules and its holds.
+//! The start, the rules and the holds of an atomic model.
 
 ghost use Rattle.std.specs.Prelude.{◌≡◌, ◌<◌, ◌^◌, IfOk, IfSome, option_map};
 ghost use Rattle.std.specs.Option.{option_copied};
@@ -15,7 +15,7 @@ use dv_bag::{Arrivals, Bag, Collection, Datum, Discipline, Fault, Held, Queue, S
 use dv_syntax::{Atomic, RuleSort, Stmt, Ticks};
 use std::alloc::{AllocError, Global};
 
-/// The state in which a component of the model begins.
+/// The start state of a component of the model.
 ///
 /// # Errors
 ///
@@ -62,7 +62,7 @@ fn start_datum(alloc: Global, domain: Domain) -> Result<Datum, AllocError>
     }
 }
 
-// A collection without values.
+// An empty collection.
 fn empty_of(alloc: Global, discipline: Discipline) -> Collection
     ensures { result ≡ empty_of discipline }
 {
@@ -85,18 +85,18 @@ pub fn rule_of(model: &Atomic, sort: RuleSort, phase: u32) -> Option<&[Stmt]>
     None
 }
 
-/// The statements of the first rule of a sort for a phase, and none where there is no such rule.
+/// The statements of the first rule of a sort for a phase: none if there is no such rule.
 pub fn rule_body(model: &Atomic, sort: RuleSort, phase: u32) -> &[Stmt]
     ensures { statements_of result.now ≡ rule_body sort phase (atomic_of model.now).rules }
 {
     rule_of(model, sort, phase).unwrap_or(&[])
 }
 
-/// The ticks of a hold in a state. `None` is forever.
+/// The ticks of a hold in a state: `None` if it is forever.
 ///
 /// # Errors
 ///
-/// The first fault of the expression, or `Negative` where its value is below 0.
+/// The first fault of the expression, or `Negative` if its value is below 0.
 pub fn hold(ticks: &Ticks, state: &State, scope: &Scope) -> Result<Option<u64>, Fault>
     ensures value { result ≡ hold_of scope.now (ticks_of ticks.now) state.now }
     ensures bound { IfOk result (λ ticks. IfSome ticks (λ n. n < 2 ^ 63)) }
@@ -129,11 +129,12 @@ pub fn phase_ticks(model: &Atomic, phase: u32) -> Option<&Ticks>
     None
 }
 
-/// The ticks of the first hold of a phase in a state. `None` is forever, also where the phase has no hold.
+/// The ticks of the first hold of a phase in a state: `None` if it is forever or the phase has no
+/// hold.
 ///
 /// # Errors
 ///
-/// The first fault of the expression, or `Negative` where its value is below 0.
+/// The first fault of the expression, or `Negative` if its value is below 0.
 pub fn phase_hold(
     model: &Atomic,
     phase: u32,

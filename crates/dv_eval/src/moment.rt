@@ -1,4 +1,4 @@
-//! What is known where an expression stands.
+//! What an expression can read.
 
 ghost use Rattle.std.specs.Prelude.{◌≡◌};
 ghost use Rattle.dv_eval.specs.Contexts.{context_of};
@@ -6,19 +6,19 @@ ghost use Rattle.dv_eval.specs.Meaning.{loop_value};
 
 use dv_bag::{Arrivals, State};
 
-/// What is known beside the state where a statement stands: what has arrived, and the variables of the enclosing loops,
-/// the innermost first, each with its value.
+/// What a statement can read beside the state: what arrived, and the variables of the enclosing
+/// loops with their values, the innermost first.
 #[derive(Clone, Copy)]
 pub enum Context<'a, 'b> {
-    /// No loop.
+    /// Outside of all loops.
     Outermost(&'a Arrivals<'b>),
-    /// A loop within others.
+    /// In a loop.
     Within {
         /// The number of the loop variable's name.
         variable: u32,
         /// Its value.
         value: i64,
-        /// What is known around the loop.
+        /// The context of the loop.
         outer: &'a Context<'a, 'b>,
     },
 }
@@ -44,7 +44,7 @@ impl<'b> Context<'_, 'b> {
         }
     }
 
-    /// What has arrived.
+    /// What arrived.
     pub fn arrivals(&self) -> &Arrivals<'b>
         ensures { result.now ≡ (context_of self.now).arrivals }
     {
@@ -55,11 +55,11 @@ impl<'b> Context<'_, 'b> {
     }
 }
 
-/// What is known where an expression stands: a state, what has arrived, and the loops around.
+/// What an expression can read: a state, what arrived, and the variables of the loops around it.
 #[derive(Clone, Copy)]
 pub struct Moment<'a, 'b> {
-    /// The state from which the expression reads variables.
+    /// The state whose variables are read.
     pub state: &'a State,
-    /// What has arrived, and the loops around.
+    /// What arrived, and the variables of the loops.
     pub context: &'a Context<'a, 'b>,
 }

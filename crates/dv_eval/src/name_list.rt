@@ -8,14 +8,14 @@ ghost use Rattle.dv_eval.specs.Scope.{index_of};
 use arrayvec::ArrayVec;
 use indexmap::IndexSet;
 
-/// Names that are looked for one after the other.
+/// A list of names that is searched from the front.
 pub type FewNames = ArrayVec<u32, 8>;
 
-/// The names of one kind that a model declares, each once, in order. Most models declare few, and few are searched
-/// sooner than a table is made of them.
+/// The names of one kind that a model declares, each once, in order. Most models declare few, and
+/// searching a short list is faster than making a table.
 #[derive(Drop)]
 pub enum NameList {
-    /// At most eight names, which are looked for one after the other.
+    /// At most eight names, which are searched from the front.
     Few(FewNames),
     /// More names, in a table.
     Many(IndexSet<u32>),
@@ -49,7 +49,7 @@ impl NameList {
         }
     }
 
-    /// The index of a name, which has 32 bits as the names have.
+    /// The index of a name. It fits into 32 bits, since names have 32 bits.
     pub fn index_number(&self, name: u32) -> Option<u32>
         ensures { result ≡ index_of name (names_in self.now) }
     {
@@ -60,7 +60,7 @@ impl NameList {
     }
 }
 
-// The index of a name among few.
+// The index of a name in a short list.
 fn few_index_number(names: &FewNames, name: u32) -> Option<u32>
     ensures { result ≡ index_of name names.now.items }
 {
@@ -69,7 +69,7 @@ fn few_index_number(names: &FewNames, name: u32) -> Option<u32>
     Some(index as u32)
 }
 
-// The index of a name among many.
+// The index of a name in a table.
 fn many_index_number(names: &IndexSet<u32>, name: u32) -> Option<u32>
     ensures { result ≡ index_of name names.now.keys }
 {
@@ -89,7 +89,7 @@ fn index_among(names: &[u32], name: u32) -> Option<usize>
     None
 }
 
-// An index among names of 32 bits, no two of them equal, has 32 bits.
+// An index as a number of 32 bits: names have 32 bits, and no two are equal.
 fn index_number(names: &[u32], index: usize) -> u32
     requires distinct { IsDistinct nat_eq names.now }
     requires within { index < length names.now }

@@ -1,4 +1,4 @@
-//! What the rules of a phase do.
+//! The effects of rules.
 
 ghost use Rattle.std.specs.Prelude.{◌≡◌, slice_get, IfOk, Ok};
 ghost use Rattle.dv_syntax.specs.Trees.{Done, expression_of, statement_before, statements_of};
@@ -25,13 +25,13 @@ use dv_syntax::laws::trees_keep_blocks;
 use dv_syntax::{Command, Expr, Stmt};
 use std::alloc::{AllocError, Global};
 
-/// The effect of a rule's statements on a state, with what has arrived.
+/// The effect of a rule's statements on a state, with what arrived.
 ///
 /// # Errors
 ///
-/// The first fault: one of an expression, `Range` of an assignment, `Full` of a bag or a queue that takes one more value
-/// than it may hold, `Empty` of a queue that has no first value to lose, `Flood` of the 4,097th value that is sent. Or no
-/// memory.
+/// The first fault: one of an expression, `Range` of an assignment, `Full` of a value that is added
+/// to a full bag or queue, `Empty` of `pop` on an empty queue, or `Flood` of the 4,097th value that
+/// is sent. Or no memory.
 pub fn run_rule(
     alloc: Global,
     statements: &[Stmt],
@@ -56,7 +56,7 @@ pub fn run_rule(
     )
 }
 
-// What statements do, one after the other.
+// Runs statements, one after the other.
 #[cycle(run)]
 fn run(
     alloc: Global,
@@ -74,7 +74,7 @@ fn run(
     Ok(effect)
 }
 
-/// The effect of one statement, in the context where it stands, after what has been done before it.
+/// Runs one statement in a context, after the effect of those before it.
 ///
 /// # Errors
 ///
@@ -148,7 +148,7 @@ pub fn run_statement(
     }
 }
 
-// What a block does for each of the values in their order, each copy once.
+// Runs a block for each of the values in order, once for each copy.
 #[cycle(run)]
 fn run_loop(
     alloc: Global,
@@ -175,7 +175,7 @@ fn run_loop(
     Ok(effect)
 }
 
-// What a block does for so many copies of one value.
+// Runs a block for `copies` copies of one value.
 #[cycle(run)]
 fn run_copies(
     alloc: Global,
@@ -195,8 +195,8 @@ fn run_copies(
     Ok(effect)
 }
 
-/// The values that a loop over the collection of a name walks, in their order, each with the number of its copies. They
-/// are those at the entry of the loop; the state may change while it goes on.
+/// The values of a loop over the collection of a name, in order, each with its number of copies.
+/// They are those at the beginning of the loop; the state may change during it.
 ///
 /// # Errors
 ///
@@ -228,7 +228,7 @@ fn value_of(
     eval(expression, &Moment { state, context }, scope)
 }
 
-// The value of an expression in the state that is there, assigned to a variable or a flag.
+// Assigns the value of an expression in the current state to a variable or a flag.
 fn assign_value(
     name: u32,
     value: &Expr,
@@ -243,7 +243,7 @@ fn assign_value(
     Ok(assign(name, value, scope, effect)?)
 }
 
-// The value of an expression in the state that is there, sent by an output port.
+// Sends the value of an expression in the current state at an output port.
 fn send_value(
     name: u32,
     value: &Expr,
@@ -258,7 +258,7 @@ fn send_value(
     send(name, value, scope, effect)
 }
 
-// The value of an expression in the state that is there, by which a collection of the state is changed.
+// Changes a collection of the state by the value of an expression in the current state.
 fn edit_by_value(
     change: Change,
     name: u32,
@@ -274,7 +274,7 @@ fn edit_by_value(
     edit(change, name, number_of(value), scope, effect)
 }
 
-// A value assigned to a variable or a flag.
+// Assigns a value to a variable or a flag.
 fn assign(name: u32, value: Value, scope: &Scope, effect: Effect) -> Result<Effect, Fault>
     ensures { result ≡ assignment scope.now name value effect }
 {
@@ -289,7 +289,7 @@ fn assign(name: u32, value: Value, scope: &Scope, effect: Effect) -> Result<Effe
     }
 }
 
-// A number within the variable's range.
+// Assigns a number to a variable, if it is within the range.
 fn assign_number(
     range: VariableRange,
     index: usize,
@@ -314,7 +314,7 @@ fn assign_flag(index: usize, truth: bool, mut effect: Effect) -> Effect
     effect
 }
 
-// What a command does with a name.
+// Runs a command with a name.
 fn obey(command: Command, name: u32, scope: &Scope, effect: Effect) -> Result<Effect, RuleError>
     ensures { Gives result (command_effect scope.now command name effect) }
 {
@@ -333,7 +333,7 @@ fn with_goto(phase: Option<u32>, mut effect: Effect) -> Effect
     effect
 }
 
-// A value sent by an output port.
+// Sends a value at an output port.
 fn send(name: u32, value: Value, scope: &Scope, mut effect: Effect) -> Result<Effect, RuleError>
     ensures { Gives result (sending scope.now name value effect) }
 {
@@ -347,7 +347,7 @@ fn send(name: u32, value: Value, scope: &Scope, mut effect: Effect) -> Result<Ef
     Ok(effect)
 }
 
-// A number changes a collection of the state.
+// Changes a collection of the state by a number.
 fn edit(
     change: Change,
     name: u32,
@@ -366,7 +366,7 @@ fn edit(
     }
 }
 
-// A number changes the collection at an index, if there is one that the change can change.
+// Changes the collection at an index by a number, if there is one of the right discipline.
 fn edit_within(
     change: Change,
     capacity: u64,
@@ -390,7 +390,7 @@ fn edit_within(
     Ok(effect)
 }
 
-// A queue of the state loses its first value.
+// Removes the first value of a queue of the state.
 fn pop(name: u32, scope: &Scope, mut effect: Effect) -> Result<Effect, Fault>
     ensures { result ≡ popping scope.now name effect }
 {

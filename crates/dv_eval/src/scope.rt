@@ -27,7 +27,7 @@ pub struct VariableRange {
 }
 
 impl VariableRange {
-    /// What a `var` item says of its variable.
+    /// The range that a `var` item declares.
     pub fn of(variable: &Variable) -> Self
         ensures { result ≡ range_of variable.now }
     {
@@ -49,17 +49,17 @@ fn bound_value(bound: &Bound) -> i64
     }
 }
 
-/// What a state variable may hold, and what it holds at the start.
+/// What a state variable may hold, and its value at the start.
 #[derive(Clone, Copy, PartialEq, Eq)]
 pub enum Domain {
-    /// The numbers of a range.
+    /// A number of a range.
     Number(VariableRange),
     /// A truth value.
     Flag {
         /// The truth value at the start.
         start: bool,
     },
-    /// A bag or a queue of at most so many values, each copy counted. It is empty at the start.
+    /// A bag or a queue. It is empty at the start.
     Held {
         /// Whether it is a bag or a queue.
         discipline: Discipline,
@@ -68,7 +68,7 @@ pub enum Domain {
     },
 }
 
-/// The name of the state variable that a declaration declares, and what it may hold.
+/// The name and the domain of the state variable that a declaration declares, if it declares one.
 pub fn state_variable_of(declaration: &Declaration) -> Option<(Name, Domain)>
     ensures { result ≡ state_variable_of declaration.now }
 {
@@ -88,8 +88,8 @@ pub fn state_variable_of(declaration: &Declaration) -> Option<(Name, Domain)>
     }
 }
 
-/// The declared names of an atomic model, each kind in the order of its declarations. Of a name that is
-/// declared twice the first declaration counts.
+/// The names that an atomic model declares, each kind in the order of its declarations. If a name
+/// is declared twice, the first declaration counts.
 #[derive(Drop)]
 pub struct Scope {
     variables: IndexMap<u32, Domain>,
@@ -113,7 +113,7 @@ impl Model for Scope {
 }
 
 impl Scope {
-    /// No names declared.
+    /// A scope without names.
     pub fn new(alloc: Global) -> Self
         ensures { result ≡ nothing_declared }
     {
@@ -125,7 +125,7 @@ impl Scope {
         }
     }
 
-    /// What a model declares.
+    /// The names of a model.
     ///
     /// # Errors
     ///
@@ -172,7 +172,7 @@ impl Scope {
         self.outputs.index_of(name)
     }
 
-    /// What the variable, flag, bag or queue at an index may hold.
+    /// The domain of the variable, flag, bag or queue at an index.
     pub fn domain(&self, index: usize) -> Option<Domain>
         ensures { result ≡ option_map (λ v. v.1) (slice_get self.now.variables index) }
     {
@@ -194,7 +194,7 @@ impl Scope {
         self.variables.keys().as_slice()
     }
 
-    /// What the variables, flags, bags and queues may hold, by index.
+    /// The domains of the variables, flags, bags and queues by index.
     pub fn domains(&self) -> &[Domain]
         ensures { result.now ≡ map (λ v. v.1) self.now.variables }
     {
@@ -246,7 +246,7 @@ fn variables_of(
     Ok(variables)
 }
 
-// The names of the input ports, and those of the output ports.
+// The names of the input ports and of the output ports.
 fn port_names(
     alloc: Global,
     declarations: &[Declaration],
@@ -399,7 +399,7 @@ fn declare_names(names: &mut IndexSet<u32>, declared: &[Name]) -> Result<(), All
     Ok(())
 }
 
-// One name more among few, if there is room.
+// Adds a name to a short list if it is new: `None` if there is no room.
 fn declare_among_few(names: &mut FewNames, name: &Name) -> Option<()>
     ensures { OnSome result (names.new.items ≡ with_name names.old.items name.now) }
 {
