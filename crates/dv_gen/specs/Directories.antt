@@ -1,4 +1,4 @@
--- What a directory of an atomic model's rules and holds finds.
+-- What a directory finds of an atomic model's rules and holds.
 use Rattle.std.specs.Prelude.{ℕ, nat_eq, option_map, List, Option}
 use Rattle.std.specs.Borrow.{Bor}
 use Rattle.indexmap.specs.IndexMap.{IndexMap, get}

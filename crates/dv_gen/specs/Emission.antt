@@ -1,4 +1,4 @@
--- Programs that grow at their end, the loops around a statement, and how many names there are.
+-- Programs that grow at their end, the loops around a statement, and the number of names.
 use Rattle.std.specs.Prelude.{◌≡◌, ℕ, ◌≤◌, List, [], ◌∷◌, ◌++◌, length, slice_set}
 use Rattle.dv_syntax.specs.Grammar.{loop_depth}
 use Rattle.dv_syntax.specs.Trees.{Expression as NamedExpression, Statements as NamedStatements}
@@ -30,7 +30,7 @@ with_expression code e = code ++ code_of (length code) e
 unfoldable pub with_statements : List Instruction → Statements → List Instruction
 with_statements code body = code ++ code_of_all (length code) body
 
--- a program with the code of statements at its end, and with a jump past it in the place of an instruction
+-- a program with the code of statements at its end, and with a jump past it in place of an instruction
 unfoldable pub with_branch : List Instruction → ℕ → Statements → List Instruction
 with_branch code jump body = slice_set (with_statements code body) jump (Jump (length (with_statements code body)))
 
@@ -39,7 +39,7 @@ abbrev pub loops_of : Loops → List ℕ
 loops_of around.Outermost = []
 loops_of (around.Within' variable p outer) = variable ∷ loops_of outer
 
--- the operator of an instruction for an operator before its operand
+-- the operator of an instruction for a prefix operator
 abbrev pub unary_of : Prefix → Unary
 unary_of prefix.Minus = unary.Negate
 unary_of prefix.Not = unary.Not
@@ -50,21 +50,21 @@ junction joint.IfTrue a b = And a b
 junction joint.IfFalse a b = Or a b
 junction (joint.Operation o) a b = Infix o a b
 
--- no kind of its names is more than there may be
+-- there are not too many names of any kind
 pub record HasFewNames (scope : Scope) : Type 0 where
   pub variables : length scope.variables ≤ greatest_names
   pub phases : length scope.phases ≤ greatest_names
   pub inputs : length scope.inputs ≤ greatest_names
   pub outputs : length scope.outputs ≤ greatest_names
 
--- what a rule's program, and a hold's, is for statements and for an expression in a scope
+-- what the program of a rule is for statements, and that of a hold for an expression, in a scope
 abbrev pub rule_code : Scope → RuleSort → NamedStatements → Program
 rule_code scope sort body = record { shape = rule_shape scope sort; code = program_of (all_resolved scope [] body) }
 
 abbrev pub hold_code : Scope → NamedExpression → Program
 hold_code scope e = record { shape = hold_shape scope; code = hold_program_of (resolved scope [] e) }
 
--- statements that a rule of a sort may have: well typed, and with loops that are not too deep
+-- statements that a rule of a sort may have: well typed, with loops that are not nested too deeply
 pub record IsRuleBody (scope : Scope) (sort : RuleSort) (body : NamedStatements) : Type 0 where
   pub shallow : loop_depth body ≤ deepest_loops
   pub typed : AreTyped (rule_shape scope sort) (loop_depth body) 0 (all_resolved scope [] body)

@@ -50,7 +50,7 @@ code_of_all p (For s block rest) =
     let next = past_all (p + 1) block in
     code.Loop s (next + 1) ∷ (code_of_all (p + 1) block ++ code.Next (p + 1) ∷ code_of_all (next + 1) rest)
 
--- a rule's program, and a hold's
+-- the program of a rule, and that of a hold
 abbrev pub program_of : Statements → List Instruction
 program_of body = code_of_all 0 body ++ code.End ∷ []
 
@@ -63,7 +63,7 @@ goes [] = []
 goes (code.Do d ∷ rest) = gone d ++ goes rest
 goes (i ∷ rest) = goes rest
 
--- how a run that means this ends
+-- how a run with this meaning ends
 abbrev pub ending : Result Effect Fault → Outcome
 ending (Ok e) = Finished [] e
 ending (Err f) = Faulted f

@@ -1,4 +1,4 @@
--- What a generator needs of its parts, and the programs that it makes of what its directory finds.
+-- What a generator requires of its parts, and the programs that it makes of what its directory finds.
 use Rattle.std.specs.Prelude.{◌≡◌, ℕ, option_map, unwrap_or, IfSome}
 use Rattle.dv_syntax.specs.Trees.{AtomicTree, Done}
 use Rattle.dv_syntax.specs.declared.tree.RuleSort.{RuleSort}
@@ -12,7 +12,7 @@ use Rattle.dv_gen.specs.Directories.{rule_found, ticks_found_in}
 use Rattle.dv_gen.specs.declared.generator.Generator.{Generator}
 use Rattle.dv_gen.specs.declared.model_code.PhaseCode.{PhaseCode}
 
--- its tables are those of its names, and what its directory finds is fit for programs
+-- its tables are those of its names, and programs can be made of what its directory finds
 pub record IsReady (g : Generator) : Type 0 where
   pub tables : g.tables.now.value ≡ tables_of g.names
   pub small : AreSmall (tables_of g.names).slots

@@ -19,8 +19,8 @@ rule_program m sort body = record { shape = rule_shape (scope_of m) sort; code =
 abbrev pub hold_program : AtomicTree → Expression → Program
 hold_program m e = record { shape = hold_shape (scope_of m); code = hold_program_of (hold_tree m e) }
 
--- The programs of the rules of a phase, by its name, and of its hold. A missing rule is an empty one; without a confluent rule there
--- is no program for it, nor is there one for a hold that is forever.
+-- The programs of the rules of a phase, by its name, and of its hold. A missing rule is an empty one; without a confluent rule there is no
+-- program for it, and a hold that is forever has none.
 abbrev pub phase_code : AtomicTree → ℕ → PhaseCode
 phase_code m phase = record {
   output = rule_program m Output (rule_body Output phase m.rules);
@@ -34,12 +34,12 @@ phase_code m phase = record {
 abbrev pub phase_codes : AtomicTree → List PhaseCode
 phase_codes m = map (phase_code m) (scope_of m).phases
 
--- What a text within its limits says of each of its atomic models: it is accepted, and its loops are not too deep.
+-- What is true of each atomic model of a text within its limits: it is accepted, and its loops are not nested too deeply.
 pub record IsCompilable (m : AtomicTree) : Type 0 where
   pub accepted : atomic_refusals m ≡ []
   pub shallow : All (λ (r : RuleTree). loop_depth r.body ≤ deepest_loops) m.rules
 
--- the same of a model: a coupled one has no programs of its own
+-- the same for a model; a coupled one has no programs
 abbrev pub IsCompilableModel : ModelTree → Type 0
 IsCompilableModel (AtomicModel m) = IsCompilable m
 IsCompilableModel (CoupledModel m) = Unit {0}
@@ -49,7 +49,7 @@ pub record AreNoLonger (n : ℕ) (m : AtomicTree) : Type 0 where
   pub rules : All (λ (r : RuleTree). length (program_of (rule_tree m r.body)) ≤ n) m.rules
   pub holds : All (λ (h : HoldTree). IfSome h.ticks (λ e. length (hold_program_of (hold_tree m e)) ≤ n)) m.holds
 
--- the same of a model: a coupled one has no programs of its own
+-- the same for a model; a coupled one has no programs
 abbrev pub HasProgramsWithin : ℕ → ModelTree → Type 0
 HasProgramsWithin n (AtomicModel m) = AreNoLonger n m
 HasProgramsWithin n (CoupledModel m) = Unit {0}

@@ -38,13 +38,13 @@ use Rattle.dv_code.specs.declared.instruction.Deed.{Deed}
 use Rattle.dv_code.specs.declared.instruction.Deed.TheVariants.{Go, Pop}
 use Rattle.dv_gen.specs.Resolved.{Expression, Read, Prefix, Infix, And, Or, Statements, Done, Act, Obey, When, If, For, type_of}
 
--- what a slot may hold
+-- the domain of a slot
 abbrev pub slot_of : Domain → Slot
 slot_of (domain.Number range) = slot.Ranged range.low range.high
 slot_of (domain.Flag start) = slot.Flagged
 slot_of (domain.Held d capacity) = slot.Holding d capacity
 
--- what the programs of a model may speak of
+-- the tables of a model, which its programs use
 abbrev pub tables_of : Scope → Tables
 tables_of scope = record {
   slots = map (λ v. slot_of v.1) scope.variables;
@@ -69,12 +69,12 @@ hold_shape scope = shape_of (tables_of scope) sort.Hold
 abbrev pub index_or_first : Option ℕ → ℕ
 index_or_first index = unwrap_or index 0
 
--- what the state variable at an index may hold
+-- the domain of the state variable at an index
 abbrev pub domain_at : Scope → Option ℕ → Option Domain
 domain_at scope None = None
 domain_at scope (Some index) = option_map (λ v. v.1) (slice_get scope.variables index)
 
--- the discipline of what a state variable holds; that of bags where it holds no collection
+-- the discipline of a state variable; that of bags if it holds no collection
 abbrev pub discipline_in : Option Domain → Discipline
 discipline_in None = discipline.Bag
 discipline_in (Some (domain.Number range)) = discipline.Bag
@@ -89,7 +89,7 @@ source_between scope None port = Port (index_or_first port)
 abbrev pub source_of : Scope → ℕ → Source
 source_of scope name = source_between scope (index_of name (names_of scope.variables)) (index_of name scope.inputs)
 
--- the number of the innermost loop of a variable, from the outermost on; the innermost stands first
+-- the number of the innermost loop of a variable, counted from the outermost; the list has the innermost first
 abbrev pub loop_of : ℕ → List ℕ → Option ℕ
 loop_of name [] = None
 loop_of name (v ∷ loops) = if v == name then Some (length loops) else loop_of name loops
@@ -107,11 +107,11 @@ abbrev pub leaf_by : Option ℕ → Leaf → Leaf
 leaf_by None l = l
 leaf_by (Some loop) l = leaf.Item loop
 
--- what a name stands for: the innermost loop variable of that name, else a variable or a flag
+-- what a name denotes: the innermost loop variable of that name, else a variable or a flag
 abbrev pub leaf_of : Scope → List ℕ → ℕ → Leaf
 leaf_of scope loops name = leaf_by (loop_of name loops) (leaf_at scope (index_of name (names_of scope.variables)))
 
--- the first value of a queue; a port has none, and gives 0
+-- the first value of a queue; a port is no queue, and gives 0
 abbrev pub front_of : Source → Leaf
 front_of (Own d index) = leaf.Front index
 front_of (Port port) = leaf.Number (pos 0)
@@ -148,7 +148,7 @@ infix_of operator.AtMost a b = Infix binary.AtMost a b
 infix_of operator.Greater a b = Infix binary.Greater a b
 infix_of operator.AtLeast a b = Infix binary.AtLeast a b
 
--- an expression in loops of these variables, the innermost first; parentheses go
+-- an expression in loops with these variables, the innermost first; parentheses are left out
 abbrev pub resolved : Scope → List ℕ → NamedExpression → Expression
 resolved scope loops (Literal n) = Read (leaf.Number (pos n.value))
 resolved scope loops (TruthValue offset b) = Read (leaf.Truth b)
@@ -175,17 +175,17 @@ assignment_at scope index = assignment_in (index_or_first index) (domain_at scop
 abbrev pub slot_index : Scope → ℕ → ℕ
 slot_index scope name = index_or_first (index_of name (names_of scope.variables))
 
--- what a command does with a name: a phase to which it goes, or a queue that loses its first value
+-- the deed of a command with a name: to go to a phase, or to remove the first value of a queue
 abbrev pub deed_of : Scope → Command → ℕ → Deed
 deed_of scope command.Goto name = Go (index_or_first (index_of name scope.phases))
 deed_of scope command.Pop name = Pop (slot_index scope name)
 
--- a choice between blocks; an empty second one is none
+-- a choice between blocks; an empty second one is left out
 abbrev pub choice : Expression → Statements → Statements → Statements → Statements
 choice condition block Done rest = When condition block rest
 choice condition block other rest = If condition block other rest
 
--- statements in loops of these variables
+-- statements in loops with these variables
 abbrev pub all_resolved : Scope → List ℕ → NamedStatements → Statements
 all_resolved scope loops Ended = Done
 all_resolved scope loops (Assign variable e rest) =
@@ -206,7 +206,7 @@ all_resolved scope loops (Changes c offset e collection rest) =
 abbrev pub goto_indices : Scope → NamedStatements → List ℕ
 goto_indices scope body = map (λ name. index_or_first (index_of name scope.phases)) (gotos_in body)
 
--- the tree of a rule, and of a hold
+-- the tree of a rule, and that of a hold
 abbrev pub rule_tree : AtomicTree → NamedStatements → Statements
 rule_tree m body = all_resolved (scope_of m) [] body
 

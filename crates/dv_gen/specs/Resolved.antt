@@ -1,4 +1,4 @@
--- Trees in which every name is an index already, and their meaning, by recursion on the tree.
+-- Trees with indices in place of names, and their meaning, by recursion on the tree.
 use Rattle.std.specs.Prelude.{◌≡◌, ℕ, suc, ℤ, pos, ◌<◌, Bool, false, if◌then◌else◌, List, [], ◌∷◌, ◌++◌, Option, Some, None, Result, Ok}
 use Rattle.dv_bag.specs.Arrivals.{Arrivals}
 use Rattle.dv_bag.specs.Collections.{values_in as values_held}
@@ -40,7 +40,7 @@ pub data Statements : Type 0 where
   If : (condition : Expression) (block other rest : Statements) → Statements
   For : (s : Source) (block rest : Statements) → Statements
 
--- what is none counts as 0, as no change, and as no values
+-- a missing value counts as 0, a missing change as none, missing values as none
 abbrev pub or_zero : Option (Result Value Fault) → Result Value Fault
 or_zero None = Ok (value.Number (pos 0))
 or_zero (Some r) = r
@@ -57,8 +57,8 @@ abbrev pub truth_of : Value → Bool
 truth_of (value.Truth b) = b
 truth_of (value.Number n) = false
 
--- The value of an expression, with the items of the loops around, the innermost first; or its first fault from the left. Where
--- the first operand of `and` or `or` decides, the second has no say.
+-- The value of an expression, with the items of the loops around it, the innermost first; or its first fault from the left. If the first
+-- operand of `and` or `or` decides, the second is not evaluated.
 abbrev pub value_of : Arrivals → List ℤ → State → Expression → Result Value Fault
 value_of arrivals items s (Read l) = or_zero (leaf_value arrivals items s l)
 value_of arrivals items s (Prefix u a) = value_of arrivals items s a >>= λ v. or_zero (unary_value arrivals s u v)
@@ -72,7 +72,7 @@ abbrev pub for_each : (ℤ → Effect → Result Effect Fault) → List ℤ → 
 for_each body [] e = Ok e
 for_each body (n ∷ rest) e = body n e >>= for_each body rest
 
--- what statements do, or the first fault
+-- the effect of statements, or the first fault
 abbrev pub effect_from : Shape → Arrivals → List ℤ → Statements → Effect → Result Effect Fault
 effect_from shape arrivals items Done e = Ok e
 effect_from shape arrivals items (Act a value rest) e =
@@ -100,7 +100,7 @@ type_of (Infix o a b) = result_type o
 type_of (And a b) = Truth
 type_of (Or a b) = Truth
 
--- an expression is well typed for a shape, within so many loops
+-- an expression is well typed for a shape, in a number of loops
 abbrev pub IsTyped : Shape → ℕ → Expression → Type 0
 IsTyped shape inside (Read l) = KnowsLeaf shape inside l
 IsTyped shape inside (Prefix u a) = KnowsUnary shape u × (type_of a ≡ unary_type u) × IsTyped shape inside a
@@ -109,7 +109,7 @@ IsTyped shape inside (Infix o a b) =
 IsTyped shape inside (And a b) = (type_of a ≡ Truth) × (type_of b ≡ Truth) × IsTyped shape inside a × IsTyped shape inside b
 IsTyped shape inside (Or a b) = (type_of a ≡ Truth) × (type_of b ≡ Truth) × IsTyped shape inside a × IsTyped shape inside b
 
--- statements are well typed, and their loops no deeper than so many
+-- statements are well typed, and their loops are nested no deeper than a limit
 abbrev pub AreTyped : Shape → ℕ → ℕ → Statements → Type 0
 AreTyped shape depth inside Done = Unit {0}
 AreTyped shape depth inside (Act a value rest) =

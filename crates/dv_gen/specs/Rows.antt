@@ -22,7 +22,7 @@ use Rattle.dv_code.specs.declared.instruction.Instruction.{Instruction}
 use Rattle.dv_code.specs.declared.instruction.Instruction.TheVariants as code
 use Rattle.dv_gen.specs.Resolved.{Expression, Read, Infix, And, Statements, Done, Act, Obey, When, If, For}
 
--- an external rule's, with a sum up to 100, a flag, a bag of at most two values, an input port and two phases
+-- the shape of an external rule, with a sum up to 100, a flag, a bag of at most two values, an input port and two phases
 abbrev pub store : Shape
 store = record {
   slots = Ranged (pos 0) (pos 100) ∷ Flagged ∷ Holding discipline.Bag 2 ∷ [];
@@ -43,7 +43,7 @@ stock sum flag bag = record {
 abbrev pub to_second_phase : State → Effect
 to_second_phase s = record { state = s; sent = []; goto = Some 1 }
 
--- how a run of a program of the store stands after so many steps
+-- a run of a program of the store after a number of steps
 abbrev pub outcome_after : ℕ → List Instruction → Arrivals → State → Outcome
 outcome_after n instructions arrivals s = run store instructions arrivals n (begins store s)
 
@@ -63,8 +63,8 @@ even_delivery = delivery ((pos 4, 3) ∷ [])
 abbrev pub great_delivery : Arrivals
 great_delivery = delivery ((pos 99, 1) ∷ [])
 
--- Each value that has arrived goes into the bag, where the flag is on and the value is less than the sum; else it is added to
--- the sum. Then on to the second phase.
+-- Each value that arrived is added to the bag if the flag is on and the value is less than the sum; else it is added to the sum. Then the
+-- rule goes to the second phase.
 abbrev pub intake : Statements
 intake =
     For (Port 0)
@@ -96,11 +96,11 @@ intake_code =
     ∷ code.End
     ∷ []
 
--- the sum becomes 7, where the flag is on; then on to the second phase
+-- the sum becomes 7 if the flag is on; then the rule goes to the second phase
 abbrev pub reset : Statements
 reset = When (Read (Flag 1)) (Act (SetVariable 0) (Read (Number (pos 7))) Done) (Obey (Go 1) Done)
 
--- its program: after the block the next instruction comes, with no jump
+-- its program: after the block comes the next instruction, with no jump
 abbrev pub reset_code : List Instruction
 reset_code =
     code.Push (Flag 1)
@@ -118,7 +118,7 @@ false_before_fault =
     (Infix Equal (Read (Number (pos 0))) (Read (Number (pos 1))))
     (Infix Equal (Infix Divide (Read (Number (pos 1))) (Read (Number (pos 0)))) (Read (Number (pos 0))))
 
--- an external rule's, with a number up to 999, a queue of at most three values, an input port and two phases
+-- the shape of an external rule, with a number up to 999, a queue of at most three values, an input port and two phases
 abbrev pub desk : Shape
 desk = record {
   slots = Ranged (pos 0) (pos 999) ∷ Holding discipline.Queue 3 ∷ [];
@@ -132,7 +132,7 @@ desk = record {
 abbrev pub waiting : ℕ → List ℤ → State
 waiting number queue = record { phase = 0; variables = datum.Number (pos number) ∷ datum.Held (collection.Queue queue) ∷ [] }
 
--- how a run of a program of the desk stands after so many steps
+-- a run of a program of the desk after a number of steps
 abbrev pub outcome_at_desk : ℕ → List Instruction → Arrivals → State → Outcome
 outcome_at_desk n instructions arrivals s = run desk instructions arrivals n (begins desk s)
 
@@ -140,8 +140,8 @@ outcome_at_desk n instructions arrivals s = run desk instructions arrivals n (be
 abbrev pub two_delivered : Arrivals
 two_delivered = delivery ((pos 3, 1) ∷ (pos 5, 1) ∷ [])
 
--- Each value that has arrived comes last in the queue. The first one becomes the number and leaves the queue. Those behind it are
--- put to the number as digits, and one leaves the queue for each. Then on to the second phase.
+-- Each value that arrived is added at the end of the queue. The first one becomes the number and is removed. The others are appended to the
+-- number as digits, and one is removed from the queue for each. Then the rule goes to the second phase.
 abbrev pub service : Statements
 service =
     For (Port 0) (Act (action.Change change.Push 1) (Read (Item 0)) Done)
@@ -175,7 +175,7 @@ service_code =
     ∷ code.End
     ∷ []
 
--- the first value leaves the queue
+-- the first value is removed
 abbrev pub leaving : Statements
 leaving = Obey (Pop 1) Done
 

@@ -13,15 +13,15 @@ use dv_syntax::{Atomic, Hold, Rule, RuleSort, Stmt, Ticks};
 use indexmap::IndexMap;
 use std::alloc::{AllocError, Global};
 
-/// The greatest number of rules, and of holds, that are looked for one after the other.
+/// The greatest number of rules, and of holds, that are searched from the front.
 const GREATEST_FEW: usize = 8;
 
-/// For the name of each phase its first rule of each sort, and its first hold. Most models have few of them, and these are
-/// searched sooner than tables are made of them. Of many each is found without a look at the others, so that all phases
-/// take a time linear in the model's text.
+/// For the name of each phase its first rule of each sort, and its first hold. Most models have few
+/// of them, and searching these is faster than making tables. Tables find each rule without a look
+/// at the others, so that all phases together take a time linear in the model's text.
 #[derive(Drop)]
 pub enum Directory<'a> {
-    /// A model with few rules and holds, which are looked for one after the other.
+    /// A model with few rules and holds, which are searched from the front.
     Few(&'a Atomic),
     /// Tables of the first rules and holds of each phase.
     Many(Firsts<'a>),
@@ -89,7 +89,7 @@ impl<'a> Firsts<'a> {
         Ok(firsts)
     }
 
-    // No rules yet.
+    // Tables without rules.
     fn with_holds(alloc: Global, holds: IndexMap<u32, &'a Ticks>) -> Self
         ensures rules { (sort : DeclaredSort) (phase : ℕ) → first_rule result sort phase ≡ None }
         ensures holds { (phase : ℕ)
@@ -104,7 +104,7 @@ impl<'a> Firsts<'a> {
         }
     }
 
-    // Adds the first rules of each sort, behind those that are there.
+    // Adds the first rules of each sort, after those that are there.
     fn add_rules(&mut self, rules: &'a [Rule]) -> Result<(), AllocError>
         ensures rules { OnOk result ((sort : DeclaredSort) (phase : ℕ)
             → first_rule self.new sort phase
@@ -140,7 +140,7 @@ impl<'a> Firsts<'a> {
     }
 }
 
-// Adds the first rules of a sort, behind those that are there.
+// Adds the first rules of a sort, after those that are there.
 fn add_first_rules<'a>(
     first: &mut IndexMap<u32, &'a [Stmt]>,
     sort: RuleSort,
@@ -163,7 +163,7 @@ fn is_of_sort(rule: &Rule, sort: RuleSort) -> bool
     rule.sort == sort
 }
 
-// The first holds.
+// The first hold of each phase.
 fn first_holds<'a>(alloc: Global, holds: &'a [Hold]) -> Result<IndexMap<u32, &'a Ticks>, AllocError>
     ensures { IfOk result (λ first. (phase : ℕ)
         → ticks_under first phase ≡ hold_ticks phase (map hold_of holds.now)) }
@@ -175,7 +175,7 @@ fn first_holds<'a>(alloc: Global, holds: &'a [Hold]) -> Result<IndexMap<u32, &'a
     Ok(first)
 }
 
-// Adds a value, unless there is one for the number.
+// Adds a value if there is none for the number.
 fn keep_first<V: Drop>(
     first: &mut IndexMap<u32, V>,
     number: u32,

@@ -6,8 +6,8 @@ use dv_code::Instruction;
 use std::alloc::{AllocError, Global};
 use std::marker::Model;
 
-/// A program as far as it is written. It has fewer instructions than there are numbers of 32 bits,
-/// so that each address has one.
+/// A program that is being written. It has fewer than 2^32 instructions, so that each address fits
+/// into 32 bits.
 #[derive(Drop)]
 pub struct Draft {
     instructions: Vec<Instruction>,
@@ -25,7 +25,7 @@ impl Model for Draft {
 }
 
 impl Draft {
-    /// No instructions.
+    /// A draft without instructions.
     pub fn new(alloc: Global) -> Self
         ensures { result ≡ [] }
     {
@@ -41,11 +41,11 @@ impl Draft {
         self.instructions.len() as u32
     }
 
-    /// One instruction more, at the end.
+    /// Appends an instruction.
     ///
     /// # Errors
     ///
-    /// No memory for the instruction, or no number of 32 bits for the next address.
+    /// No memory for the instruction, or the next address does not fit into 32 bits.
     pub fn push(&mut self, instruction: Instruction) -> Result<(), AllocError>
         ensures { OnOk result (self.new ≡ self.old ++ instruction ∷ []) }
     {
@@ -56,7 +56,7 @@ impl Draft {
         Ok(())
     }
 
-    /// Another instruction at an address, such as a jump whose aim was not known before.
+    /// Replaces the instruction at an address, such as a jump whose target was not known before.
     pub fn replace(&mut self, address: u32, instruction: Instruction)
         requires { address < length self.old }
         ensures { self.new ≡ slice_set self.old address instruction }
@@ -64,7 +64,7 @@ impl Draft {
         self.instructions[address as usize] = instruction;
     }
 
-    /// The instructions.
+    /// The instructions of the finished program.
     pub fn finish(self) -> Vec<Instruction>
         ensures instructions { result.items ≡ self }
         ensures short { length result.items < 2 ^ 32 }

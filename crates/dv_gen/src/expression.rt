@@ -18,18 +18,18 @@ use dv_code::{Binary, Instruction, Leaf, Source, Unary};
 use dv_syntax::{BagCall, Expr, Operator, Prefix};
 use std::alloc::AllocError;
 
-/// What stands between the code of two operands, or behind both.
+/// How the code of two operands is joined.
 #[derive(Clone, Copy)]
 pub enum Joint {
-    /// The second operand counts only if the first is true.
+    /// The second operand is evaluated only if the first is true.
     IfTrue,
-    /// The second operand has its say where the first is false.
+    /// The second operand is evaluated only if the first is false.
     IfFalse,
-    /// Both operands count.
+    /// Both operands are evaluated, and then the operation runs.
     Operation(Binary),
 }
 
-/// Writes the code of an expression, and says what type of value it leaves.
+/// Writes the code of an expression, and returns the type of its value.
 ///
 /// # Errors
 ///
@@ -79,7 +79,7 @@ pub fn emit_expression(
     }
 }
 
-// Writes what joins the operand whose code stands last to a second one, and the code of that.
+// Writes the second operand of a binary operator behind the code of the first, joined to it.
 #[cycle(expression)]
 fn emit_second(
     joint: Joint,
@@ -96,7 +96,8 @@ fn emit_second(
     ensures value { IfOk result (λ type. (left right : Expression)
         → type ≡ type_of (junction joint left right)) }
 {
-    // Where a jump past the second operand leads is known behind it: until then it leads to itself.
+    // The target of the jump is known only behind the second operand. Until then it jumps to
+    // itself.
     let jump = draft.address();
     match joint {
         Joint::IfTrue => {
@@ -127,7 +128,7 @@ fn emit_leaf(leaf: Leaf, draft: &mut Draft) -> Result<ValueType, AllocError>
     Ok(leaf_type(leaf))
 }
 
-// Writes an operator behind the operand whose code stands last.
+// Writes a prefix operator behind the code of its operand.
 fn emit_unary(unary: Unary, draft: &mut Draft) -> Result<ValueType, AllocError>
     ensures code { OnOk result ((before : List Instruction) (operand : Expression)
         → draft.old ≡ with_expression before operand
@@ -147,7 +148,7 @@ fn unary_of(prefix: Prefix) -> Unary
     }
 }
 
-// What joins operands of which the first is of this type.
+// How an operator joins operands of this type.
 fn joint_of(operator: Operator, operand: ValueType) -> Joint
     ensures { (left right : Expression) → operand ≡ type_of left
         → junction result left right ≡ infix_of operator left right }
@@ -199,7 +200,7 @@ fn call_leaf(call: BagCall, source: Source) -> Leaf
     }
 }
 
-// How the first value of a queue is read. A port has none, and gives 0.
+// The leaf that reads the first value of a queue. A port is no queue, and gives 0.
 fn front_of(source: Source) -> Leaf
     ensures { result ≡ front_of source }
 {

@@ -22,12 +22,12 @@ use dv_syntax::{Atomic, RuleSort, Ticks};
 use std::alloc::{AllocError, Global};
 use std::sync::Arc;
 
-/// The programs of an atomic model, whose names are in this scope.
+/// The programs of an atomic model with this scope.
 ///
 /// # Errors
 ///
-/// No memory for the programs. A program of as many instructions as there are numbers of 32 bits has
-/// no memory either; no text has one, by `programs_are_no_longer_than_their_texts`.
+/// No memory for the programs. A program of 2^32 instructions counts as one without memory; by
+/// `programs_are_no_longer_than_their_texts` no text has one.
 pub fn generate(alloc: Global, model: &Atomic, scope: &Scope) -> Result<ModelCode, AllocError>
     requires scope { scope.now ≡ scope_of (atomic_of model.now) }
     requires compilable { IsCompilable (atomic_of model.now) }
@@ -41,7 +41,7 @@ pub fn generate(alloc: Global, model: &Atomic, scope: &Scope) -> Result<ModelCod
     Ok(ModelCode { tables, phases })
 }
 
-// The programs of each phase of a model, over its tables.
+// The programs of each phase of a model, with its tables.
 fn codes_over(
     alloc: Global,
     model: &Atomic,
@@ -118,7 +118,7 @@ impl<'a> Generator<'a> {
         })
     }
 
-    // The programs of the output rule and of the internal rule, which run where the hold runs out.
+    // The programs of the output rule and of the internal rule, which run at the end of the hold.
     fn codes_at_the_end(&self, phase: u32) -> Result<(Valid, Valid), AllocError>
         requires { IsReady self.now }
         ensures { IfOk result (λ codes. (codes.0 ≡ code_of_rule self.now Output phase)
@@ -165,7 +165,7 @@ impl<'a> Generator<'a> {
         }
     }
 
-    // The program of a hold. One that is forever has none.
+    // The program of a hold: none if it is forever.
     fn hold(&self, phase: u32) -> Result<Option<Valid>, AllocError>
         requires { IsReady self.now }
         ensures { IfOk result (λ program. program
@@ -181,7 +181,7 @@ impl<'a> Generator<'a> {
     }
 }
 
-// What the programs of a model may speak of.
+// The tables of a model, which its programs use.
 fn tables_of(alloc: Global, scope: &Scope) -> Result<Tables, AllocError>
     requires few { HasFewNames scope.now }
     requires small { AreSmall (tables_of scope.now).slots }
@@ -202,7 +202,7 @@ fn slots_of(alloc: Global, domains: &[Domain]) -> Result<Vec<Slot>, AllocError>
     domains.iter().map(|domain| slot_of(*domain)).collect(alloc)
 }
 
-// What the slot of a variable, a flag, a bag or a queue may hold.
+// The slot of a variable, a flag, a bag or a queue.
 fn slot_of(domain: Domain) -> Slot
     ensures { result ≡ slot_of domain }
 {

@@ -1,4 +1,4 @@
-//! Laws of generated programs. Each function stands for the law in its contract.
+//! Laws of generated programs. Each function states a law in its contract.
 
 ghost use Rattle.std.specs.Prelude.{◌≡◌, ◌≤◌, ℕ, true, List, [], ◌∷◌, length, IfSome};
 ghost use Rattle.std.specs.List.{All};
@@ -33,8 +33,9 @@ pub fn generated_programs_are_valid()
         → IsValid shape (type_of e ∷ []) 0 (hold_program_of e) }
 {}
 
-/// The program of a rule ends with the rule's effect, or with its fault, from every state that
-/// fits, whatever has arrived; that of a hold with the hold's value, or with its fault.
+/// The program of a rule ends with the effect of the rule, or with its fault, from every state that
+/// fits and with any arrivals; the program of a hold ends with the value of the hold, or with its
+/// fault.
 pub fn generated_programs_do_what_the_tree_means()
     ensures rule { (shape : Shape) (depth : ℕ) (body : Statements) → AreTyped shape depth 0 body
         → (arrivals : Arrivals) (s : State) → Fits shape.slots s.variables
@@ -46,8 +47,9 @@ pub fn generated_programs_do_what_the_tree_means()
         ≡ hold_ending (first_effect shape s) (value_of arrivals [] s e)) }
 {}
 
-/// The phases of a program's deeds `Go` are those of its tree's gotos, in their order: so those of a rule's
-/// program are the indices of the phases to which the rule goes in the text. A hold's program has none.
+/// The phases of a program's deeds `Go` are those of the tree's gotos, in order. So the deeds of a
+/// rule's program have the indices of the phases to which the rule goes in the text. The program of
+/// a hold has no deeds.
 pub fn generated_programs_go_where_the_tree_goes()
     ensures rule { (body : Statements) → goes (program_of body) ≡ gotos body }
     ensures text { (m : AtomicTree) (r : RuleTree) →
@@ -55,9 +57,10 @@ pub fn generated_programs_go_where_the_tree_goes()
     ensures hold { (e : Expression) → goes (hold_program_of e) ≡ [] }
 {}
 
-/// The compiler's theorem. The program of each rule of an accepted model is valid for its sort, and from every state
-/// that fits, whatever has arrived, it ends with the effect that the rule has in the text, or with its first fault; that
-/// of each hold with the hold's value, or with its first fault.
+/// The theorem of the compiler. The program of each rule of an accepted model is valid for its
+/// sort, and from every state that fits and with any arrivals it ends with the effect that the rule
+/// has in the text, or with its first fault; the program of each hold ends with the value of the
+/// hold, or with its first fault.
 pub fn compiled_rules_have_the_rules_effect()
     ensures valid_rules { (m : AtomicTree) → atomic_refusals m ≡ [] → All (λ (r : RuleTree).
         IsValid (rule_shape (scope_of m) r.sort) [] (loop_depth r.body)
@@ -84,8 +87,8 @@ pub fn compiled_rules_have_the_rules_effect()
     indices_mean_what_names_mean();
 }
 
-/// The rules and holds of an accepted model are well typed where their names are indices; the loops of a rule are as
-/// deep as in the text.
+/// The rules and holds of an accepted model are well typed after names are replaced by indices; the
+/// loops of a rule are nested as deep as in the text.
 pub fn accepted_rules_are_well_typed()
     ensures rules { (m : AtomicTree) → atomic_refusals m ≡ [] → All (λ (r : RuleTree).
         AreTyped (rule_shape (scope_of m) r.sort) (loop_depth r.body) 0 (rule_tree m r.body))
@@ -95,8 +98,8 @@ pub fn accepted_rules_are_well_typed()
         × IsTyped (hold_shape (scope_of m)) 0 (hold_tree m e))) m.holds }
 {}
 
-/// A state that fits an accepted model fits the slots of its tables, of which each bag and each queue holds from 1 to 4,096
-/// values.
+/// A state that fits an accepted model fits the slots of its tables. The capacity of each bag and
+/// queue is from 1 to 4,096.
 pub fn states_fit_the_tables()
     ensures fits { (m : AtomicTree) (s : State) → fits m s ≡ true →
         Fits (tables_of (scope_of m)).slots s.variables }
@@ -104,13 +107,13 @@ pub fn states_fit_the_tables()
         AreSmall (tables_of (scope_of m)).slots }
 {}
 
-/// The programs of a model stand over its tables, each of its sort.
+/// The programs of a model use its tables, and each is of its sort.
 pub fn programs_stand_over_their_tables()
     ensures { (m : AtomicTree) → AreOver (tables_of (scope_of m)) (phase_codes m) }
 {}
 
-/// Indices in place of names change nothing: in a state that fits, whatever has arrived, the rules and the holds of an
-/// accepted model mean what they mean in the text.
+/// Indices in place of names change no meaning: in a state that fits, with any arrivals, the rules
+/// and the holds of an accepted model mean what they mean in the text.
 pub fn indices_mean_what_names_mean()
     ensures rules { (m : AtomicTree) → atomic_refusals m ≡ [] → All (λ (r : RuleTree).
         (arrivals : Arrivals) (s : State) → fits m s ≡ true →
@@ -122,14 +125,14 @@ pub fn indices_mean_what_names_mean()
         ≡ meaning (scope_of m) (moment_in (outermost nothing_arrived) s) e)) m.holds }
 {}
 
-/// Each atomic model of a text that is accepted can be compiled: the loops of its rules are not too
-/// deep.
+/// Each atomic model of an accepted text can be compiled: the loops of its rules are not nested too
+/// deeply.
 pub fn texts_are_compilable()
     ensures { (names : List (List ℕ)) (f : FileTree) → AreOfOneText names f → refusal_of f ≡ None
         → All (λ (m : ModelTree). IsCompilableModel m) f.models }
 {}
 
-/// A program has no more instructions than the rule, or the hold, that it is made from has tokens. So the programs of a
+/// A program has no more instructions than its rule, or its hold, has tokens. So the programs of a
 /// text have no more instructions than the text has bytes.
 pub fn programs_are_no_longer_than_their_texts()
     ensures rules { (m : AtomicTree) (r : RuleTree) →

@@ -1,13 +1,14 @@
 //! The compiler of rules: from an atomic model to programs of the stack machine.
 //!
-//! `generate` gives the `ModelCode` of a model: for each phase the programs of its output rule, its transitions and
-//! its hold. The theorem of the compiler says of every accepted model: each program is valid, and from every state
-//! that fits, whatever has arrived, it ends with the effect of its rule or with the rule's first fault, and that of a
-//! hold with its ticks or fault. A program has no more instructions than its rule has tokens.
+//! `generate` gives the `ModelCode` of a model: for each phase the programs of its output rule, its
+//! transitions and its hold. The theorem of the compiler says of every accepted model: each program
+//! is valid, and from every state that fits and with any arrivals it ends with the effect of its
+//! rule or with the rule's first fault, and the program of a hold with its ticks or its fault. A
+//! program has no more instructions than its rule has tokens.
 //!
-//! `dv_coded` makes the programs of a run here, `dv_listing` prints them, and `law_compiled` takes the theorem up to
-//! whole models. Links are not compiled here: that is `dv_flat`. Nothing is optimised; what is done faster, the
-//! machine does.
+//! `dv_coded` makes the programs of a run here, `dv_listing` prints them, and `law_compiled`
+//! extends the theorem to whole models. Links are not compiled here: that is `dv_flat`. Nothing is
+//! optimized: the machine does that.
 #![tactic(auto)]
 
 /// The rules and the holds by the names of their phases.

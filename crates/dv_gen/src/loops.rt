@@ -8,14 +8,14 @@ ghost use Rattle.dv_code.specs.Limits.{deepest_loops};
 /// The variables of the loops around a statement, the innermost first.
 #[derive(Clone, Copy)]
 pub enum Loops<'a> {
-    /// No loop.
+    /// Outside of all loops.
     Outermost,
-    /// A loop within others.
+    /// In a loop.
     Within { variable: u32, outer: &'a Loops<'a> },
 }
 
 impl Loops<'_> {
-    /// How many loops there are.
+    /// The number of loops.
     pub fn depth(&self) -> u16
         requires { length (loops_of self.now) ≤ deepest_loops }
         ensures { result ≡ length (loops_of self.now) }
@@ -26,7 +26,7 @@ impl Loops<'_> {
         }
     }
 
-    /// The number of the innermost loop of a variable, from the outermost on.
+    /// The number of the innermost loop with a variable, counted from the outermost.
     pub fn number(&self, variable: u32) -> Option<u16>
         requires { length (loops_of self.now) ≤ deepest_loops }
         ensures { result ≡ loop_of variable (loops_of self.now) }

@@ -7,15 +7,15 @@ use std::sync::Arc;
 /// The programs of a phase.
 #[derive(Drop)]
 pub struct PhaseCode {
-    /// What is sent where the hold runs out.
+    /// The output function, at the end of the hold.
     pub output: Valid,
-    /// The change where the hold runs out.
+    /// The internal transition, at the end of the hold.
     pub internal: Valid,
-    /// The change where values arrive.
+    /// The external transition.
     pub external: Valid,
-    /// The change where both happen at once, if the phase has a rule for it.
+    /// The confluent transition, if the phase has a rule for it.
     pub confluent: Option<Valid>,
-    /// The ticks of the hold. Without a program it is forever.
+    /// The ticks of the hold: forever if there is no program.
     pub hold: Option<Valid>,
 }
 

@@ -14,7 +14,7 @@ use dv_eval::{Domain, Scope};
 use dv_syntax::Command;
 use std::marker::Model;
 
-/// The names of an atomic model, so few of each kind that an index has 16 bits.
+/// The names of an atomic model: so few of each kind that an index has 16 bits.
 #[derive(Drop)]
 pub struct Names<'a> {
     scope: &'a Scope,
@@ -54,7 +54,7 @@ impl<'a> Names<'a> {
         index_or_first(self.scope.output(name))
     }
 
-    /// What a command does with a name: a phase to which it goes, or a queue that loses its first value.
+    /// The deed of a command: to go to a phase, or to remove the first value of a queue.
     pub fn deed(&self, command: Command, name: u32) -> Deed
         ensures { result ≡ deed_of self.now command name }
     {
@@ -74,7 +74,7 @@ impl<'a> Names<'a> {
         }
     }
 
-    /// What a name stands for in these loops: the innermost loop variable of that name, else a
+    /// What a name denotes in these loops: the innermost loop variable of that name, else a
     /// variable or a flag.
     pub fn leaf(&self, name: u32, loops: &Loops) -> Leaf
         requires { length (loops_of loops.now) ≤ deepest_loops }
@@ -86,7 +86,7 @@ impl<'a> Names<'a> {
         }
     }
 
-    /// What is done where a value is assigned to a name.
+    /// The action that assigns a value to a name.
     pub fn assignment(&self, name: u32) -> Action
         ensures { result ≡ assignment_at self.now (index_of name (names_of self.now.variables)) }
     {
@@ -100,7 +100,7 @@ impl<'a> Names<'a> {
         self.scope.phase(name).unwrap_or(0)
     }
 
-    // What the variable, the flag, the bag or the queue of a name may hold.
+    // The domain of a variable, a flag, a bag or a queue.
     fn domain(&self, name: u32) -> Option<Domain>
         ensures { result ≡ domain_at self.now (index_of name (names_of self.now.variables)) }
     {
@@ -111,7 +111,7 @@ impl<'a> Names<'a> {
     }
 }
 
-// An index, and of a name that is not declared the first.
+// An index, or 0 for a name that is not declared.
 fn index_or_first(index: Option<usize>) -> u16
     requires { IfSome index (λ index. index < 2 ^ 16) }
     ensures { result ≡ index_or_first index }
@@ -122,7 +122,7 @@ fn index_or_first(index: Option<usize>) -> u16
     }
 }
 
-// How the variable or the flag at an index is read.
+// The leaf that reads the variable or the flag at an index.
 fn leaf_in(index: u16, domain: Option<Domain>) -> Leaf
     ensures { result ≡ leaf_in index domain }
 {
@@ -133,7 +133,7 @@ fn leaf_in(index: u16, domain: Option<Domain>) -> Leaf
     }
 }
 
-// How the variable or the flag at an index gets another value.
+// The action that assigns to the variable or the flag at an index.
 fn assignment_in(index: u16, domain: Option<Domain>) -> Action
     ensures { result ≡ assignment_in index domain }
 {
@@ -143,7 +143,7 @@ fn assignment_in(index: u16, domain: Option<Domain>) -> Action
     }
 }
 
-// The discipline of what a state variable holds. One that holds no collection has that of bags.
+// The discipline of a state variable: that of bags if it holds no collection.
 fn discipline_in(domain: Option<Domain>) -> Discipline
     ensures { result ≡ discipline_in domain }
 {

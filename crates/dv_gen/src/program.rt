@@ -43,7 +43,7 @@ pub fn rule_program(
     Ok(Valid::adopt(shape, draft.finish()))
 }
 
-/// The program of a hold of these ticks.
+/// The program of a hold with these ticks.
 ///
 /// # Errors
 ///

@@ -12,7 +12,7 @@ ghost use Rattle.dv_gen.specs.Rows.{leaving_code, mixed_delivery, outcome_after,
 ghost use Rattle.dv_gen.specs.Rows.{service_code, stock, store, to_second_phase, two_delivered, waiting};
 
 /// A rule with a loop over an input port, a choice and an `and`: its program of 17 instructions,
-/// and what both do with three values, the program within 35 steps.
+/// and the effect of both for three values, the program within 35 steps.
 pub fn a_rule_and_its_program()
     ensures typed { AreTyped store 1 0 intake }
     ensures program { program_of intake ≡ intake_code }
@@ -22,7 +22,7 @@ pub fn a_rule_and_its_program()
         ≡ Finished [] (to_second_phase (stock 60 true ((pos 3, 1) ∷ []))) }
 {}
 
-/// A third value for a bag of two is a fault, and so is a sum above its range, by the tree and by
+/// A third value for a bag of two is a fault, and so is a sum above its range, in the tree and in
 /// its program.
 pub fn a_rule_has_faults()
     ensures full { rule_effect store even_delivery intake (stock 10 true []) ≡ Err Full }
@@ -33,7 +33,7 @@ pub fn a_rule_has_faults()
         ≡ Faulted Range }
 {}
 
-/// The program of a choice without a second block has no jump behind its block.
+/// The program of a choice without `else` has no jump behind its block.
 pub fn a_choice_without_a_second_block()
     ensures typed { AreTyped store 0 0 reset }
     ensures program { program_of reset ≡ reset_code }
@@ -47,8 +47,9 @@ pub fn a_choice_without_a_second_block()
         ≡ Finished [] (to_second_phase (stock 10 false [])) }
 {}
 
-/// A rule over a queue, and its program of 18 instructions, which runs within 29 steps: what arrives comes last, what is read and
-/// taken out is the first value, and a loop walks the queue as it stood when the loop began, whatever leaves it meanwhile.
+/// A rule over a queue, and its program of 18 instructions, which runs within 29 steps: what
+/// arrives is added at the end, the first value is read and removed, and a loop goes over the
+/// values that the queue had when the loop began, even if they are removed during it.
 pub fn a_rule_over_a_queue()
     ensures typed { AreTyped desk 1 0 service }
     ensures program { program_of service ≡ service_code }
@@ -58,7 +59,8 @@ pub fn a_rule_over_a_queue()
         ≡ Finished [] (to_second_phase (waiting 735 [])) }
 {}
 
-/// A fourth value for a queue of three is a fault. So is its first value where it has none, read or taken out.
+/// A fourth value for a queue of three is a fault. So is the first value of an empty queue, read or
+/// removed.
 pub fn a_rule_over_a_queue_has_faults()
     ensures full { rule_effect desk two_delivered service (waiting 0 (pos 1 ∷ pos 2 ∷ []))
         ≡ Err Full }
@@ -73,7 +75,8 @@ pub fn a_rule_over_a_queue_has_faults()
         ≡ Faulted Empty }
 {}
 
-/// Where the first operand of `and` is false the second has no say, whatever its faults.
+/// If the first operand of `and` is false, the second is not evaluated, and its fault does not
+/// count.
 pub fn and_stops_early()
     ensures { value_of nothing_arrived [] (stock 0 true []) false_before_fault ≡ Ok (Truth false) }
 {}

@@ -125,7 +125,7 @@ fn emit_statement(
     Ok(())
 }
 
-// Writes a block that is done where a condition holds.
+// Writes a block that runs if a condition is true.
 #[cycle(statements)]
 fn emit_when(
     block: &[Stmt],
@@ -142,7 +142,7 @@ fn emit_when(
         (all_resolved names.now (loops_of loops.now) (statements_of block.now)) rest)) }
 {
     emit_expression(condition, names, loops, draft)?;
-    // Where the jump leads is known behind the block: until then it leads to itself.
+    // The target of the jump is known only behind the block. Until then it jumps to itself.
     let test = draft.address();
     draft.push(Instruction::JumpFalse(test))?;
     emit_statements(block, names, loops, draft)?;
@@ -150,8 +150,8 @@ fn emit_when(
     Ok(())
 }
 
-// Writes the first of two blocks, which is done where a condition holds, and gives the address of the
-// jump past the other one, whose aim is not known yet.
+// Writes the block that runs if a condition is true, before an `else`. Returns the address of the
+// jump past the other block, whose target is not known yet.
 #[cycle(statements)]
 fn emit_first_block(
     block: &[Stmt],
@@ -179,7 +179,7 @@ fn emit_first_block(
     Ok(jump)
 }
 
-// Writes the other of two blocks, past which the jump at an address leads.
+// Writes the block of an `else`. The jump at an address leads past it.
 #[cycle(statements)]
 fn emit_other_block(
     block: &[Stmt],
@@ -199,7 +199,7 @@ fn emit_other_block(
     Ok(())
 }
 
-// Writes a loop over the values of a collection, whose own variable is the innermost of the loops.
+// Writes a loop over the values of a collection. Its variable is the innermost one.
 #[cycle(statements)]
 fn emit_loop(
     block: &[Stmt],
