@@ -1,6 +1,6 @@
 -- What a reader believes: the response of an atomic model.
 pub mod Response
--- What serves proofs and worked rows.
+-- What proofs and worked rows need.
 pub mod Soonest
 pub mod Rows
 pub mod Short

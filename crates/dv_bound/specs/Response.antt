@@ -1,5 +1,5 @@
--- The response of an atomic model, which is its lookahead (Chandy and Misra; Bryant): where an external rule goes to a phase, the
--- hold that begins there is not below it.
+-- The response of an atomic model, which is its lookahead (Chandy and Misra; Bryant): if an external rule goes to a phase, the hold that
+-- begins there is not below it.
 use Rattle.std.specs.Prelude.{ℕ, ℤ, pos, negsuc, neg_ℤ, ◌+ℤ◌, ◌^◌, ◌-◌, ◌≤◌, int_lt, if◌then◌else◌, List, [], fold, map}
 use Rattle.std.specs.Prelude.{Option, Some, None}
 use Rattle.std.specs.List.{flat_map}
@@ -25,14 +25,14 @@ greatest_number = pos (2 ^ 63 - 1)
 abbrev pub within_numbers : ℤ → ℤ
 within_numbers n = if int_lt n least_number then least_number else if int_lt greatest_number n then greatest_number else n
 
--- the low end of a variable's range; of what is no variable the least number
+-- the low end of a variable's range; the least number if there is no range
 abbrev pub low_end : Option Domain → ℤ
 low_end None = least_number
 low_end (Some (domain.Number range)) = range.low
 low_end (Some (domain.Flag start)) = least_number
 low_end (Some (domain.Held d capacity)) = least_number
 
--- a number that a hold's expression is not below, in any state of the model
+-- a lower bound of a hold's expression, in all states of the model
 abbrev pub low : Scope → Expression → ℤ
 low scope (Literal n) = pos n.value
 low scope (Named name) = low_end (domain_named scope name.number)
@@ -47,7 +47,7 @@ abbrev pub ticks_in : ℤ → ℕ
 ticks_in (pos n) = n
 ticks_in (negsuc n) = 0
 
--- the response of a hold: forever is never
+-- the response of a hold: never if it is forever
 abbrev pub hold_response : Scope → Option Expression → Option ℕ
 hold_response scope None = None
 hold_response scope (Some e) = Some (ticks_in (low scope e))
@@ -63,11 +63,11 @@ external_gotos m = flat_map external_gotos_in m.rules
 abbrev pub phase_response : AtomicTree → ℕ → Option ℕ
 phase_response m phase = hold_response (scope_of m) (hold_ticks phase m.holds)
 
--- The response of a model: the soonest of the holds to which its external rules go; where they go nowhere, never.
+-- The response of a model: the least of the holds to which its external rules go; never if they go nowhere.
 abbrev pub response_of : AtomicTree → Option ℕ
 response_of m = fold earlier None (map (phase_response m) (external_gotos m))
 
--- a hold of so many ticks is not below a response
+-- a hold of some ticks is not below a response
 abbrev pub IsNotBelow : Option ℕ → ℕ → Type 0
 IsNotBelow None ticks = ⊥
 IsNotBelow (Some r) ticks = r ≤ ticks

@@ -1,4 +1,4 @@
--- A model in worked rows, by what a hold of it is and by where its external rule goes.
+-- A model in worked rows, by one of its holds and by the phases to which its external rule goes.
 use Rattle.std.specs.Prelude.{ℕ, ℤ, [], ◌∷◌, false, Option, Some, None}
 use Rattle.dv_syntax.specs.declared.tree.Bound.{Bound}
 use Rattle.dv_syntax.specs.declared.tree.Variable.{Variable}
@@ -61,15 +61,15 @@ server ticks body = record {
       ∷ [];
 }
 
--- the response where the external rule goes to busy, which is held so long
+-- the response if the external rule goes to busy, which has this hold
 abbrev pub response_to : Option Expression → Option ℕ
 response_to ticks = response_of (server ticks (goto 7 Done))
 
--- what a hold's expression is not below in that model
+-- the lower bound of a hold's expression in that model
 abbrev pub low_in_server : Expression → ℤ
 low_in_server e = low (scope_of (server None Done)) e
 
--- the response where busy is held for 5 ticks
+-- the response if the hold of busy is 5 ticks
 abbrev pub response_by : Statements → Option ℕ
 response_by body = response_of (server (Some (number 5)) body)
 

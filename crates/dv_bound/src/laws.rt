@@ -1,4 +1,5 @@
-//! Laws of responses. Each function stands for the law in its contract; its body only names laws of states.
+//! Laws of responses. Each function states a law in its contract; its body only calls laws of
+//! states.
 
 ghost use Rattle.std.specs.Prelude.{◌≡◌, ℕ, true, Ok, Some};
 ghost use Rattle.std.specs.List.{All};
@@ -15,9 +16,10 @@ ghost use Rattle.dv_bound.specs.Response.{IsNotBelow, external_gotos, response_o
 
 use law_accepted::laws::{accepted_names_are_known, rules_keep_to_the_ranges};
 
-/// Where an external rule goes to a phase, from any state that fits and whatever has arrived, the hold that begins
-/// there, if it ends, is not below the model's response. The state in which it begins holds numbers of the language
-/// alone, in variables, bags and queues, as each state of the code does by its type: see `State::holds_numbers`.
+/// If an external rule goes to a phase, from any state that fits and with any arrivals, the hold
+/// that begins there is not below the model's response, if it ends. The state in which it begins
+/// holds only numbers of the language, in variables, bags and queues. Each state of the code does
+/// so by its type: see `State::holds_numbers`.
 pub fn holds_are_not_below_the_response()
     ensures { (m : AtomicTree) (phase index ticks : ℕ) (arrivals : Arrivals) (s : State)
         (e : Effect) → fits m s ≡ true →
@@ -31,8 +33,9 @@ pub fn holds_are_not_below_the_response()
     accepted_names_are_known();
 }
 
-/// The hold of a phase that a `goto` of an external rule names, whether it runs or not, is not below the model's
-/// response where it ends, in any state that fits and holds numbers of the language alone.
+/// The hold of a phase that a `goto` of an external rule names, even one that does not run, is not
+/// below the model's response if it ends, in any state that fits and holds only numbers of the
+/// language.
 pub fn holds_of_gotos_are_not_below_the_response()
     ensures { (m : AtomicTree) → All (λ (phase : ℕ). (s : State) (ticks : ℕ) → fits m s ≡ true →
         HoldsNumbers s.variables →

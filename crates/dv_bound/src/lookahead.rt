@@ -22,8 +22,8 @@ use std::alloc::{AllocError, Global};
 // Responses by the name of a phase.
 type PhaseResponses = IndexMap<u32, Response>;
 
-/// The response of an atomic model, whose names are in this scope: the soonest of the holds to which its
-/// external rules go.
+/// The response of an atomic model with this scope: the least of the holds of the phases to which
+/// its external rules go.
 ///
 /// # Errors
 ///
@@ -38,7 +38,7 @@ pub fn response(alloc: Global, model: &Atomic, scope: &Scope) -> Result<Response
     Ok(soonest_of_rules(&responses, &model.rules))
 }
 
-// The responses of the holds: of each phase that has one that of its first.
+// The responses of the holds: for each phase that of its first hold.
 fn phase_responses(
     alloc: Global,
     holds: &[Hold],
@@ -60,7 +60,7 @@ fn phase_responses(
     Ok(responses)
 }
 
-// A phase keeps the response that it has.
+// Adds the response of a phase if it has none.
 fn insert_if_absent(
     responses: &mut PhaseResponses,
     phase: u32,
@@ -75,7 +75,7 @@ fn insert_if_absent(
     Ok(())
 }
 
-// The response of a hold: in no state of the model it ends sooner.
+// The response of a hold: it never ends sooner in any state of the model.
 fn hold_response(ticks: &Ticks, scope: &Scope) -> Response
     ensures response { ticks_of result
         ≡ hold_response scope.now (expression_of_ticks ticks.now) }
@@ -95,7 +95,7 @@ fn ticks_in(low: i64) -> u64
     low.max(0) as u64
 }
 
-// The soonest response of the phases to which external rules go.
+// The least response of the phases to which external rules go.
 fn soonest_of_rules(responses: &PhaseResponses, rules: &[Rule]) -> Response
     ensures { ticks_of result ≡ soonest (response_in responses.now.entries) None
         (flat_map external_gotos_in (map rule_of rules.now)) }
@@ -109,7 +109,7 @@ fn soonest_of_rules(responses: &PhaseResponses, rules: &[Rule]) -> Response
     so_far
 }
 
-// The soonest of a response and those of the phases to which statements go.
+// The least of a response and those of the phases to which statements go.
 #[cycle(gotos)]
 fn soonest_of_statements(
     responses: &PhaseResponses,
@@ -161,7 +161,7 @@ fn soonest_of_statement(responses: &PhaseResponses, statement: &Stmt, so_far: Re
     }
 }
 
-// A phase without a hold never answers.
+// The response of a phase: never if it has no hold.
 fn response_of_phase(responses: &PhaseResponses, phase: u32) -> Response
     ensures { ticks_of result ≡ response_in responses.now.entries phase }
 {

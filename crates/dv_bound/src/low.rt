@@ -1,4 +1,4 @@
-//! A number that an expression is not below, in any state of its model.
+//! A lower bound of an expression, in all states of its model.
 
 ghost use Rattle.std.specs.Prelude.{◌≡◌};
 ghost use Rattle.dv_syntax.specs.Trees.{expression_of};
@@ -8,7 +8,7 @@ ghost use Rattle.dv_bound.specs.Response.{low, low_end};
 use dv_eval::{Domain, Scope};
 use dv_syntax::{BagCall, Expr, Operator};
 
-/// A number that an expression is not below; where nothing else is known, the least one.
+/// A lower bound of an expression: the least number if nothing is known.
 pub(crate) fn low(expression: &Expr, scope: &Scope) -> i64
     ensures { result ≡ low scope.now (expression_of expression.now) }
 {
@@ -30,7 +30,7 @@ pub(crate) fn low(expression: &Expr, scope: &Scope) -> i64
     }
 }
 
-// The low end of the range of a variable; of what is no variable the least number.
+// The low end of the range of a variable: the least number if it is no variable with a range.
 fn low_end(name: u32, scope: &Scope) -> i64
     ensures { result ≡ low_end (domain_named scope.now name) }
 {

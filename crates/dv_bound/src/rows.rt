@@ -7,9 +7,9 @@ ghost use Rattle.dv_bound.specs.Response.{least_number};
 ghost use Rattle.dv_bound.specs.Rows.{low_in_server, the_drift, either, for_each, goto, minus, plus, response_by, response_to};
 ghost use Rattle.dv_bound.specs.Rows.{the_load, first_in_line, jobs_waiting, least_job, line_waiting};
 
-/// A hold counts with the least ticks that it can have, as far as the text shows them: those of a number, a
-/// variable, the size of a bag or a queue, and of their sums. All else counts as the least number, in sums too; and
-/// where the whole is below 0, as 0. A hold that is forever never ends.
+/// A hold counts with its least ticks, as far as the text shows them: those of a number, a
+/// variable, the size of a bag or a queue, and of sums. Everything else counts as the least number,
+/// in sums too; a hold below 0 counts as 0. A hold that is forever never ends.
 pub fn holds_count_with_their_least_ticks()
     ensures number { response_to (Some (number 5)) ≡ Some 5 }
     ensures variable { response_to (Some the_load) ≡ Some 2 }
@@ -29,7 +29,8 @@ pub fn holds_count_with_their_least_ticks()
     ensures forever { response_to None ≡ None }
 {}
 
-/// What the text does not show counts as the least number, and a sum is kept within the numbers.
+/// What the text does not show counts as the least number, and a sum is kept within the numbers of
+/// the language.
 pub fn unknown_values_count_as_the_least_number()
     ensures difference { low_in_server (minus the_load (number 1)) ≡ least_number }
     ensures least_value { low_in_server least_job ≡ least_number }
@@ -38,8 +39,8 @@ pub fn unknown_values_count_as_the_least_number()
     ensures sum_of_both { low_in_server (plus least_job least_job) ≡ least_number }
 {}
 
-/// Of the holds to which external rules go, from within blocks too, the soonest counts. Where the model starts,
-/// and where its other rules go, does not count.
+/// Only the least of the holds to which external rules go counts, also from within blocks. The
+/// start phase and the other rules do not count.
 pub fn the_soonest_hold_counts()
     ensures nowhere { response_by Done ≡ None }
     ensures alone { response_by (goto 8 Done) ≡ Some 7 }
