@@ -9,7 +9,7 @@ use Rattle.dv_flat.specs.Links.{direct_links, entry_links, exit_links, root_port
 use Rattle.dv_flat.specs.declared.link.ComponentPort.{ComponentPort}
 use Rattle.dv_flat.specs.declared.link.Link.{Link}
 
--- a bag with each value so many times
+-- a bag with more copies of each value
 abbrev pub times : ℕ → Counts → Counts
 times n [] = []
 times n (p ∷ ps) = (p.0, capped (p.1 * n)) ∷ times n ps
@@ -25,14 +25,14 @@ sent_at sent from = bag_at (slice_index_or sent from.component []) from.port
 abbrev pub with_link : {From To : Type 0} → (From → Counts) → Counts → Link From To → Counts
 with_link sent bag l = union bag (times l.copies (sent l.from))
 
--- what arrives at an input port of a component: by the direct links that lead there, and by the entry links
+-- what arrives at an input port of a component by the direct links and the entry links that lead there
 abbrev pub carried_to : FileTree → List (List Counts) → List Counts → ComponentPort → Counts
 carried_to f sent input to =
     fold (with_link (bag_at input))
     (fold (with_link (sent_at sent)) [] (filter (λ (l : Link ComponentPort ComponentPort). same_port l.to to) (direct_links f)))
     (filter (λ (l : Link ℕ ComponentPort). same_port l.to to) (entry_links f))
 
--- what leaves by an output port of the root
+-- what leaves at an output port of the root
 abbrev pub carried_out : FileTree → List (List Counts) → ℕ → Counts
 carried_out f sent port =
     fold (with_link (sent_at sent)) [] (filter (λ (l : Link ComponentPort ℕ). l.to == port) (exit_links f))

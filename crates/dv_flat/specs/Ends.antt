@@ -1,4 +1,4 @@
--- The ports at which values set out and arrive: the output and input ports of the components, in the order of their numbers.
+-- The ports between which values travel: the output and input ports of the components, in the order of their numbers.
 use Rattle.std.specs.Prelude.{ℕ, suc, ◌∷◌, [], ◌++◌, List, length, map}
 use Rattle.std.specs.List.{range_with_len}
 use Rattle.dv_syntax.specs.Trees.{AtomicTree, FileTree}
@@ -9,7 +9,7 @@ use Rattle.dv_flat.specs.declared.link.ComponentPort.{ComponentPort}
 abbrev pub port_at : ℕ → ℕ → ComponentPort
 port_at component port = record { component = component; port = port }
 
--- the ports of components from a number on, each of which has so many
+-- the ports of components from a number on, by the number of ports of each
 abbrev pub ports_from : ℕ → (AtomicTree → ℕ) → List Instance → List ComponentPort
 ports_from k count [] = []
 ports_from k count (i ∷ is) = map (port_at k) (range_with_len 0 (count i.model)) ++ ports_from (suc k) count is

@@ -2,9 +2,9 @@
 pub mod Ends
 pub mod Links
 pub mod Limit
--- What the laws speak of.
+-- What laws use.
 pub mod Carried
 pub mod Rows
--- What serves proofs.
+-- What proofs need.
 pub mod Probes
 pub mod Ways

@@ -13,19 +13,19 @@ use Rattle.dv_flat.specs.Links.{copies_of, direct_links, entry_links, exit_links
 abbrev pub greatest_links : ℕ
 greatest_links = 65536
 
--- how many links a file has, each counted as often as it has copies
+-- the number of links of a file, each counted as often as it has copies
 abbrev pub link_count : FileTree → ℕ
 link_count f = copies_of (direct_links f) + (copies_of (entry_links f) + copies_of (exit_links f))
 
--- the refusal for too many links names the root
+-- the refusal for too many links, at the name of the root
 abbrev pub link_refusal : FileTree → Option Refusal
 link_refusal f = if nat_lt greatest_links (link_count f) then Some (record { number = E17; offset = f.root.offset }) else None
 
--- the refusal of a file: a rule that it breaks or a limit on its tree that it passes, else the limit on links
+-- the refusal of a file: a rule that it breaks or a limit on its tree that it exceeds, else the limit on links
 abbrev pub file_refusal : FileTree → Option Refusal
 file_refusal f = option_or (refusal_of f) (link_refusal f)
 
--- an error that is the refusal for too many links; where memory runs out nothing is said
+-- an error that is the refusal for too many links; nothing is said if memory runs out
 abbrev pub IsLinkAnswer : FileTree → LoadError → Type 0
 IsLinkAnswer f (Refused r) = link_refusal f ≡ Some r
 IsLinkAnswer f Memory = Unit {0}

@@ -1,5 +1,5 @@
--- The paths and the links of a text without its tree. How many copies a link carries is what routing says of one value: as often as it
--- arrives, where this output alone sends it, so many ways lead there.
+-- The paths and the links of a text without its tree. The number of copies that a link carries is how often one value arrives by routing if
+-- only this output sends it: once for each way.
 use Rattle.std.specs.Prelude.{ℕ, zero, suc, pos, List, [], ◌∷◌, ◌++◌, length, map, replicate}
 use Rattle.std.specs.Prelude.{filter_map, slice_index_or, Option, Some, None}
 use Rattle.std.specs.List.{flat_map, range_with_len, sum_by}
@@ -20,11 +20,11 @@ paths_of names f = map (λ i. with_dots (texts_of names i.path)) (instances f)
 abbrev pub alone_at : ℕ → List Counts
 alone_at port = replicate port [] ++ ((pos 0, 1) ∷ []) ∷ []
 
--- this output port of a component sends one value, and nobody else sends
+-- only this output port of a component sends, one value
 abbrev pub sent_alone : ComponentPort → List (List Counts)
 sent_alone from = replicate from.component [] ++ alone_at from.port ∷ []
 
--- how often that value is among what arrives at an input port of a component
+-- the number of copies of that value that arrive at an input port of a component
 abbrev pub copies_at : List (List Counts) → ComponentPort → ℕ
 copies_at received to = count_of (pos 0) (bag_at (slice_index_or received to.component []) to.port)
 
@@ -38,12 +38,12 @@ entry_copies f from to = copies_at (arrives f [] (alone_at from)) to
 abbrev pub exit_copies : FileTree → ComponentPort → ℕ → ℕ
 exit_copies f from to = count_of (pos 0) (bag_at (leaves f (sent_alone from)) to)
 
--- a link of so many copies; of none there is no link
+-- a link with some copies; there is no link for zero copies
 abbrev pub link : {From To : Type 0} → From → To → ℕ → Option (Link From To)
 link from to zero = None
 link from to (suc n) = Some (record { from = from; to = to; copies = suc n })
 
--- the links of one end to those of these that it reaches, by how many copies come there
+-- the links of one end to those that it reaches, by the number of copies that arrive there
 abbrev pub links_from : {From To : Type 0} → (From → To → ℕ) → List To → From → List (Link From To)
 links_from copies tos from = filter_map (λ to. link from to (copies from to)) tos
 
@@ -61,6 +61,6 @@ entry_links f = flat_map (links_from (entry_copies f) (input_ports f)) (root_por
 abbrev pub exit_links : FileTree → List (Link ComponentPort ℕ)
 exit_links f = flat_map (links_from (exit_copies f) (root_ports (root_outputs f))) (output_ports f)
 
--- how many copies links have, all together
+-- the number of copies of all links
 abbrev pub copies_of : {From To : Type 0} → List (Link From To) → ℕ
 copies_of {From = From} {To = To} links = sum_by (λ (l : Link From To). l.copies) links

@@ -16,7 +16,7 @@ use Rattle.dv_flat.specs.declared.link.Link.{Link}
 abbrev pub probe : ℕ → Counts
 probe t = (pos t, 1) ∷ []
 
--- for each of so many ports its probe, from one on
+-- for each of a number of ports its probe, from one on
 abbrev pub probes_from : ℕ → ℕ → List Counts
 probes_from first ports = map probe (range_with_len first ports)
 
@@ -36,11 +36,11 @@ abbrev pub with_probes : ℕ → List ComponentPort → List (List Counts) → L
 with_probes t [] sent = sent
 with_probes t (from ∷ froms) sent = with_probes (suc t) froms (with_probe sent t from)
 
--- an output port of a component that there is
+-- an output port of a component
 abbrev pub IsOutput : FileTree → ComponentPort → Type 0
 IsOutput f from = from.port < slice_index_or (map (λ (i : Instance). output_count i.model) (instances f)) from.component 0
 
--- the probe of each source is its index; the probes of the root's inputs stand behind these
+-- the probe of each source is its index; the probes of the root's inputs come after these
 abbrev pub sent_probes : FileTree → List ComponentPort → List (List Counts)
 sent_probes f sources = with_probes 0 sources (silence (instances f))
 
@@ -54,12 +54,12 @@ arrived_probes f sources = arrives f (sent_probes f sources) (come_probes f sour
 abbrev pub left_probes : FileTree → List ComponentPort → List Counts
 left_probes f sources = leaves f (sent_probes f sources)
 
--- so many copies come to a target; of none there is no arrival
+-- copies that arrive at a target; there is no arrival of zero copies
 abbrev pub arrival : {T : Type 0} → T → ℕ → Option (Arrival T)
 arrival to zero = None
 arrival to (suc n) = Some (record { to = to; copies = suc n })
 
--- one arrival more for the source of a probe; no other values count
+-- one more arrival for the source of a probe; other values do not count
 abbrev pub with_arrival : {T : Type 0} → ℤ → Arrival T → List (List (Arrival T)) → List (List (Arrival T))
 with_arrival (pos t) a lists = slice_set lists t (slice_index_or lists t [] ++ a ∷ [])
 with_arrival (negsuc n) a lists = lists
@@ -68,16 +68,16 @@ with_arrival (negsuc n) a lists = lists
 abbrev pub with_arrivals : {T : Type 0} → T → List (List (Arrival T)) → Counts → List (List (Arrival T))
 with_arrivals to lists bag = fold (λ ls p. with_arrival p.0 (record { to = to; copies = p.1 }) ls) lists bag
 
--- with what stands at an input port of a component
+-- with what arrived at an input port of a component
 abbrev pub with_input : List (List Counts) → List (List (Arrival ComponentPort)) → ComponentPort → List (List (Arrival ComponentPort))
 with_input received lists to = with_arrivals to lists (bag_at (slice_index_or received to.component []) to.port)
 
--- with what stands at the input ports of one component
+-- with what arrived at the input ports of one component
 abbrev pub with_component : ℕ → List Counts → List (List (Arrival ComponentPort)) → List (List (Arrival ComponentPort))
 with_component component received lists =
     fold (λ ls port. with_arrivals (port_at component port) ls (bag_at received port)) lists (range_with_len 0 (length received))
 
--- with what stands at an output port of the root
+-- with what left at an output port of the root
 abbrev pub with_output : List Counts → List (List (Arrival ℕ)) → ℕ → List (List (Arrival ℕ))
 with_output leaving lists to = with_arrivals to lists (bag_at leaving to)
 
@@ -97,7 +97,7 @@ direct_from f = links_from (direct_copies f) (input_ports f)
 abbrev pub exit_from : FileTree → ComponentPort → List (Link ComponentPort ℕ)
 exit_from f = links_from (exit_copies f) (root_ports (root_outputs f))
 
--- the sources at whose indices a flag stands
+-- the sources at whose indices a flag is set
 abbrev pub chosen_from : ℕ → List Bool → List ComponentPort → List ComponentPort
 chosen_from k flags [] = []
 chosen_from k flags (from ∷ froms) =
@@ -107,7 +107,7 @@ chosen_from k flags (from ∷ froms) =
 abbrev pub links_to : {From To : Type 0} → From → List (Arrival To) → List (Link From To)
 links_to {To = To} from arrivals = map (λ (a : Arrival To). record { from = from; to = a.to; copies = a.copies }) arrivals
 
--- those of all sources, whose lists of arrivals stand from an index on
+-- those of all sources, whose lists of arrivals begin at an index
 abbrev pub links_of : {From To : Type 0} → List (List (Arrival To)) → ℕ → List From → List (Link From To)
 links_of lists k [] = []
 links_of lists k (from ∷ froms) = links_to from (slice_index_or lists k []) ++ links_of lists (suc k) froms

@@ -1,4 +1,4 @@
-//! Where the probes arrive: for each source, and for each input port of the root, the targets that it reaches.
+//! What the probes reach: for each source, and for each input port of the root, the targets.
 
 ghost use Rattle.std.specs.Prelude.{◌≡◌, ◌+◌, ◌^◌, ◌<◌, ◌≤◌, [], fold, length, map, replicate, IfOk, OnOk};
 ghost use Rattle.std.specs.List.{All, range_with_len};
@@ -16,15 +16,16 @@ use dv_bag::{Bag, Bags};
 use dv_tree::Tree;
 use std::alloc::{AllocError, Global};
 
-/// How many copies of a probe come to a target.
+/// How many copies of a probe arrive at a target.
 #[derive(Clone, Copy)]
 pub(crate) struct Arrival<T> {
     pub(crate) to: T,
     pub(crate) copies: u64,
 }
 
-/// Where the probes arrive, in the order of the ports: for each source, and behind the sources for each input port of
-/// the root, the input ports of components that it reaches; and for each source the output ports of the root.
+/// What the probes reach, in the order of the ports: for each source, and after the sources for
+/// each input port of the root, the input ports of components; and for each source the output ports
+/// of the root.
 #[derive(Drop)]
 pub(crate) struct Reached {
     pub(crate) inputs: Vec<Vec<Arrival<ComponentPort>>>,
@@ -58,7 +59,7 @@ impl Reached {
     }
 }
 
-// For each of so many probes the input ports of components that it reaches.
+// For each of `probes` probes the input ports of components that it reaches.
 fn arrivals_at_inputs(
     alloc: Global,
     probes: usize,
@@ -73,15 +74,15 @@ fn arrivals_at_inputs(
 {
     let mut lists = empty_lists(alloc, probes)?;
     for component in 0..tree.component_count() {
-        // Its ports are few enough for indices of 32 bits.
+        // There are few enough ports for indices of 32 bits.
         let _ = port_count(tree.scope(component).inputs());
         add_component(component as u32, &received[component], &mut lists)?;
     }
     Ok(lists)
 }
 
-// Adds the input ports of a component to the list of each probe that stands there. It looks at those alone at which
-// something arrived.
+// Adds the input ports of a component to the lists of the probes that arrived there. Only ports at
+// which something arrived take time.
 fn add_component(
     component: u32,
     received: &Bags,
@@ -101,7 +102,7 @@ fn add_component(
     Ok(())
 }
 
-// For each of so many probes the output ports of the root that it reaches.
+// For each of `probes` probes the output ports of the root that it reaches.
 fn arrivals_at_outputs(
     alloc: Global,
     probes: usize,
@@ -129,7 +130,7 @@ fn empty_lists<T: Copy>(alloc: Global, count: usize) -> Result<Vec<Vec<Arrival<T
     Ok(lists)
 }
 
-// Adds a target to the list of each probe that stands there.
+// Adds a target to the list of each probe in a bag.
 fn add_arrivals<T: Copy>(
     to: T,
     bag: &Bag,
@@ -144,7 +145,7 @@ fn add_arrivals<T: Copy>(
     Ok(())
 }
 
-// Adds an arrival to the list of its probe. No other values are sent.
+// Adds an arrival to the list of its probe. Other values are not sent.
 fn add_arrival<T: Copy>(
     probe: i64,
     arrival: Arrival<T>,

@@ -18,8 +18,8 @@ use dv_check::GREATEST_DEPTH;
 use dv_tree::Tree;
 use std::alloc::{AllocError, Global};
 
-/// Which output reaches which input, each pair of ends once, and how many copies of each value go there. Each list is in
-/// the order of the first ends, and for one of them in that of the second.
+/// Which output reaches which input, each pair of ends once, with the number of copies of each
+/// value that arrive. Each list is sorted by the first end and then by the second.
 #[derive(Drop)]
 pub struct LinkLists {
     /// From component to component.
@@ -48,8 +48,8 @@ pub fn flatten(alloc: Global, tree: &Tree) -> Result<LinkLists, AllocError>
     counted_links(alloc, tree, &below, count)
 }
 
-// All links; `count` is how many there are, each counted as often as it has copies. First only the outputs send that
-// seem to lead on: if they have that many links, no other output has one. Otherwise all outputs send.
+// All links. `count` is their number with copies. At first only the outputs that seem to lead on
+// send probes: if they have that many links, no other output has one. Otherwise all outputs send.
 fn counted_links(
     alloc: Global,
     tree: &Tree,
@@ -73,8 +73,8 @@ fn counted_links(
     links(alloc, tree, &outputs)
 }
 
-// The links of sources and of the root's inputs, from one routing of a probe for each. The probes of the inputs stand
-// behind those of the sources.
+// The links of sources and of the root's inputs, from one routing with a probe for each. The probes
+// of the inputs come after those of the sources.
 fn links(alloc: Global, tree: &Tree, sources: &[ComponentPort]) -> Result<LinkLists, AllocError>
     requires outputs { All (IsOutput (file_of tree.now.file)) sources.now }
     ensures direct { IfOk result (λ links.
@@ -94,7 +94,7 @@ fn links(alloc: Global, tree: &Tree, sources: &[ComponentPort]) -> Result<LinkLi
 }
 
 impl LinkLists {
-    // How many links there are, each counted as often as it has copies.
+    // The number of links, each counted as often as it has copies.
     fn copies(&self) -> u64
         ensures { result ≡ capped (copies_of self.now.direct.items
             + (copies_of self.now.entries.items + copies_of self.now.exits.items)) }

@@ -1,4 +1,4 @@
-//! Laws of links. Each function stands for the law in its contract.
+//! Laws of links. Each function states a law in its contract.
 
 ghost use Rattle.std.specs.Prelude.{◌≡◌, ◌≢◌, ℕ, List, [], ◌∷◌, None, slice_index_or};
 ghost use Rattle.std.specs.List.{All};
@@ -16,8 +16,8 @@ ghost use Rattle.dv_flat.specs.declared.link.Link.{Link};
 
 use dv_check::laws::checked_files;
 
-/// What links carry is what routing by the tree gives, whatever is sent and whatever comes from outside: at each port,
-/// and so in all that the components receive and all that leaves.
+/// Links carry what routing by the tree gives, for all that is sent and all that comes from
+/// outside: at each port, and so in all that the components receive and all that leaves.
 pub fn links_route_as_the_tree()
     ensures arrives { (f : FileTree) (sent : List (List Counts)) (input : List Counts)
         → AllAreBags sent → AreBags input → (component port : ℕ)
@@ -40,7 +40,7 @@ pub fn no_component_is_linked_to_itself()
     checked_files();
 }
 
-/// A value that arrives by two ways is carried by one link, with two copies.
+/// A value that arrives by two ways is carried by one link with two copies.
 pub fn ways_are_copies()
     ensures direct { direct_links two_ways
         ≡ record { from = port_at 0 0; to = port_at 1 0; copies = 2 } ∷ [] }

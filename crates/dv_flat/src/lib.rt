@@ -1,15 +1,16 @@
 //! From a tree of coupled models to direct links between components, and their paths.
 //!
-//! `flatten` gives the `LinkLists` of an accepted text: which output reaches which input, from and to the outside
-//! too, each pair once, with as many copies as ways lead there. These are exactly the text's links, and what they
-//! carry is what routing by the tree gives, which is a law. `count_links` refuses a checked text with more than
-//! `GREATEST_LINKS` (E17) before any link is built. `paths_of` gives the path of each component.
+//! `flatten` gives the `LinkLists` of an accepted text: which output reaches which input, also from
+//! and to the outside, each pair once, with as many copies as there are ways. These are exactly the
+//! links of the text, and a law says that they carry what routing by the tree gives. `count_links`
+//! refuses a checked text with more than `GREATEST_LINKS` (E17) before any link is made. `paths_of`
+//! gives the path of each component.
 //!
-//! `dv_run` cuts these links to processes; the graphs, the tables and what is told of faults follow them too.
-//! Values are not sent here, and rules are not read.
+//! `dv_run` divides these links among processes; the graphs, the tables and the reports of faults
+//! follow them too. No values of a run are sent here, and no rules are read.
 #![tactic(auto)]
 
-/// Where the probes arrive.
+/// What the probes reach.
 mod arrivals;
 /// The links of a text.
 pub mod flat;
@@ -27,7 +28,7 @@ mod live;
 pub mod paths;
 /// The ports of the components.
 mod ports;
-/// Values that tell where they were sent.
+/// Values that show where they were sent.
 mod probes;
 
 pub use flat::{LinkLists, flatten};

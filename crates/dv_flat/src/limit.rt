@@ -1,4 +1,5 @@
-//! How many links a text has, counted model by model: neither instances are visited nor ways walked.
+//! The number of links of a text, counted model by model: no instances are visited and no ways are
+//! followed.
 
 ghost use Rattle.std.specs.Prelude.{◌≡◌, ◌<◌, ◌≤◌, None, fold, map, option_copied, replicate, slice_index_or, sum, IfOk, IfErr, IsTrue, OnOk};
 ghost use Rattle.std.specs.List.{sum_by};
@@ -19,9 +20,9 @@ use dv_tree::{Coupling, Level, ResolvedPart, Target, Tree, level_at};
 use std::alloc::{AllocError, Global};
 use std::marker::Model;
 
-/// The ways of a model: how many lead from each of its input ports to components inside, how many lead to each of its
-/// output ports from components inside, and how many begin and end inside. A number past the greatest `u64` is kept as
-/// that one.
+/// The ways of a model: how many lead from each of its input ports to components inside, how many
+/// lead to each of its output ports from components inside, and how many begin and end inside.
+/// Counts saturate at the greatest `u64`.
 #[derive(Drop)]
 pub(crate) struct Ways {
     inputs: Vec<u64>,
@@ -39,7 +40,7 @@ impl Model for Ways {
 }
 
 impl Ways {
-    // A component, by what it declares.
+    // The ways of an atomic model, by its scope.
     fn component(alloc: Global, scope: &Scope) -> Result<Self, AllocError>
         ensures { IfOk result (λ ways. ways ≡ component_ways scope.now) }
     {
@@ -50,7 +51,8 @@ impl Ways {
         })
     }
 
-    // A coupled model with so many inputs, by its table and the ways of all models one level less deep.
+    // The ways of a coupled model with `inputs` inputs, by its table and the ways of all models
+    // with one level less.
     fn coupled(
         alloc: Global,
         inputs: usize,
@@ -67,14 +69,14 @@ impl Ways {
         })
     }
 
-    // Are these the same ways as those of another model.
+    // Whether these are the ways of another model too.
     fn is_same(&self, other: &Ways) -> bool
         ensures { IsTrue result → self.now ≡ other.now }
     {
         self.inputs == other.inputs && self.outputs == other.outputs && self.inside == other.inside
     }
 
-    // All of them together.
+    // The number of all ways.
     fn total(&self) -> u64
         ensures { result ≡ capped (all_ways self.now) }
     {
@@ -95,7 +97,7 @@ fn sum_of(ways: &[u64]) -> u64
     sum
 }
 
-/// The ways of a port; past the last port there are none.
+/// The ways of a port: none past the last port.
 pub(crate) fn at_port(ways: &[u64], port: usize) -> u64
     ensures { result ≡ at_port ways.now port }
 {
@@ -105,7 +107,7 @@ pub(crate) fn at_port(ways: &[u64], port: usize) -> u64
     }
 }
 
-// More ways at a port; past the last port they count nowhere.
+// Adds ways at a port. Past the last port they are not counted.
 fn add_at(ways: &mut [u64], port: usize, more: u64)
     ensures { ways.new ≡ more_at port more ways.old }
 {
@@ -114,7 +116,7 @@ fn add_at(ways: &mut [u64], port: usize, more: u64)
     }
 }
 
-// The ways of a part, by those of all models; a model that is not among these has no ports.
+// The ways of the inputs of a part's model. A model that is not among these has no ports.
 fn inputs_of<'w>(below: &'w [Ways], part: &ResolvedPart) -> &'w [u64]
     ensures { result.now ≡ (slice_index_or below.now part.now.model no_ways).inputs }
 {
@@ -143,7 +145,7 @@ fn inside_of(below: &[Ways], part: &ResolvedPart) -> u64
     }
 }
 
-/// The ways that lead on inside from the target of a coupling.
+/// The ways that lead on from the target of a coupling to the inside.
 pub(crate) fn ways_from(target: Target, parts: &[ResolvedPart], below: &[Ways]) -> u64
     ensures { result ≡ ways_from (part_ways below.now parts.now) target }
 {
@@ -156,7 +158,7 @@ pub(crate) fn ways_from(target: Target, parts: &[ResolvedPart], below: &[Ways]) 
     }
 }
 
-// From each input of a coupled model, by its couplings from there.
+// The ways from each input of a coupled model, by its couplings.
 fn input_ways(
     alloc: Global,
     inputs: usize,
@@ -174,7 +176,7 @@ fn input_ways(
     Ok(ways)
 }
 
-// To each output of a coupled model, part by part.
+// The ways to each output of a coupled model, part by part.
 fn output_ways(alloc: Global, level: &Level, below: &[Ways]) -> Result<Vec<u64>, AllocError>
     ensures { IfOk result (λ ways. ways.items ≡ output_ways level.now.of_parts
         (part_ways below.now level.now.parts) (replicate level.now.outputs 0)) }
@@ -190,7 +192,7 @@ fn output_ways(alloc: Global, level: &Level, below: &[Ways]) -> Result<Vec<u64>,
     Ok(ways)
 }
 
-// The ways that go on from the outputs of a part to outputs of the model itself.
+// Adds the ways from the outputs of a part to outputs of the model itself.
 fn add_outputs(ways: &mut [u64], couplings: &[Coupling], outputs: &[u64])
     ensures { ways.new ≡ fold (with_output outputs.now) ways.old couplings.now }
 {
@@ -217,7 +219,7 @@ fn inside_ways(level: &Level, below: &[Ways]) -> u64
     ways
 }
 
-// The ways that the couplings of one part join to those from its outputs.
+// The ways through the couplings of one part, from its outputs.
 fn joined_ways(
     couplings: &[Coupling],
     outputs: &[u64],
@@ -246,7 +248,7 @@ fn own_inputs(model: &ModelItem) -> usize
     }
 }
 
-// The ways of a model: those of a coupled one by its table, those of an atomic one by what it declares.
+// The ways of a model: of a coupled one by its table, of an atomic one by its scope.
 fn ways_by(
     alloc: Global,
     inputs: usize,
@@ -263,7 +265,7 @@ fn ways_by(
     }
 }
 
-// The ways of the models that the root leads to, by those that they have one level less deep.
+// The ways of the models that the root leads to, by those with one level less.
 fn ways_over(alloc: Global, tree: &Tree, below: &[Ways]) -> Result<Vec<Ways>, AllocError>
     ensures { IfOk result (λ over. over.items
         ≡ ways_over below.now (map model_of tree.now.reached)) }
@@ -279,7 +281,7 @@ fn ways_over(alloc: Global, tree: &Tree, below: &[Ways]) -> Result<Vec<Ways>, Al
     Ok(over)
 }
 
-// Are two lists of ways the same, model by model.
+// Whether two lists of ways are the same, model by model.
 fn are_same(left: &[Ways], right: &[Ways]) -> bool
     ensures { IsTrue result → left.now ≡ right.now }
 {
@@ -294,9 +296,10 @@ fn are_same(left: &[Ways], right: &[Ways]) -> bool
     true
 }
 
-/// The ways of the models that the root leads to, whose parts show down to fewer levels than this. Those of one level are
-/// counted from those of the level before: the work is in the length of these models, however many ways there are. Where two
-/// levels have the same ways, so has each deeper one, and no more are counted.
+/// The ways of the models that the root leads to, down to fewer levels than this. The ways of one
+/// level are counted from those of the level before: the time depends on the length of these
+/// models, not on the number of ways. If two levels have the same ways, so has each deeper one, and
+/// no more are counted.
 ///
 /// # Errors
 ///
@@ -316,11 +319,12 @@ pub(crate) fn ways_below(alloc: Global, levels: usize, tree: &Tree) -> Result<Ve
     Ok(ways)
 }
 
-/// How many links a checked text has, each counted as often as it has copies. None of them is built.
+/// The number of links of a checked text, each counted as often as it has copies. No link is made.
 ///
 /// # Errors
 ///
-/// `Refused` is E17 at the root's name, where there are more than `GREATEST_LINKS`. `Memory`: no memory for the count.
+/// `Refused` is E17 at the root's name, if there are more than `GREATEST_LINKS`. `Memory`: no
+/// memory for the count.
 pub fn count_links(alloc: Global, tree: &Tree) -> Result<u64, LoadError>
     ensures count { IfOk result (λ count. count ≡ link_count (file_of tree.now.file)) }
     ensures few { OnOk result (link_refusal (file_of tree.now.file) ≡ None) }
@@ -332,7 +336,7 @@ pub fn count_links(alloc: Global, tree: &Tree) -> Result<u64, LoadError>
     Ok(count)
 }
 
-// Whether a text may have so many links. The offset is that of the root's name.
+// Tests whether a text may have so many links. The offset is that of the root's name.
 fn test_links(count: u64, offset: u32) -> Result<(), Refusal>
     ensures few { OnOk result (count ≤ greatest_links) }
     ensures many { IfErr result (λ r. (r ≡ record { number = RefusalNumber.E17; offset = offset })
@@ -348,8 +352,8 @@ fn test_links(count: u64, offset: u32) -> Result<(), Refusal>
     }
 }
 
-/// How many links a text has, each counted as often as it has copies, by the ways of the models one level below the root.
-/// A number past the greatest `u64` stands as that one.
+/// The number of links of a text, each counted as often as it has copies, by the ways of the models
+/// one level below the root. It saturates at the greatest `u64`.
 ///
 /// # Errors
 ///

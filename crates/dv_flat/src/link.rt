@@ -1,6 +1,6 @@
 //! Links between ports, without the tree.
 
-/// A port of a component: an input or an output port, by the component's number and the port's index.
+/// An input or output port of a component, by the component's number and the port's index.
 #[derive(Clone, Copy, PartialEq, Eq)]
 pub struct ComponentPort {
     /// The number of the component.
@@ -9,15 +9,15 @@ pub struct ComponentPort {
     pub port: u32,
 }
 
-/// A link from one port to another. Of each value that is sent at the one so many copies arrive at the other: as many as
-/// ways lead there.
+/// A link from one port to another. Of each value that is sent, `copies` copies arrive: one for
+/// each way.
 #[derive(Clone, Copy, PartialEq, Eq)]
 pub struct Link<From, To> {
     /// Where values are sent, or come in from outside.
     pub from: From,
     /// Where they arrive, or leave the model.
     pub to: To,
-    /// How many copies of each value arrive.
+    /// The number of copies of each value that arrive.
     pub copies: u64,
 }
 

@@ -9,7 +9,7 @@ use crate::arrivals::Arrival;
 use crate::link::Link;
 use std::alloc::{AllocError, Global};
 
-/// How many copies links have, all together. A number past the greatest `u64` stands as that one.
+/// The number of copies of all links. It saturates at the greatest `u64`.
 pub(crate) fn copies_of<From, To>(links: &[Link<From, To>]) -> u64
     ensures { result ≡ capped (copies_of links.now) }
 {
@@ -20,7 +20,7 @@ pub(crate) fn copies_of<From, To>(links: &[Link<From, To>]) -> u64
     copies
 }
 
-/// The links of sources by the arrivals of each, whose lists stand from an index on.
+/// The links of sources by the arrivals of each, whose lists begin at an index.
 ///
 /// # Errors
 ///

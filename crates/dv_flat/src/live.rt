@@ -1,5 +1,6 @@
-//! Which outputs of components lead on, to a component or out of the root. No others begin a link. That is not proved here:
-//! `flat` counts the links that it finds, and so nothing rests on these flags but time and memory.
+//! Which outputs of components lead on, to a component or out of the root. No other output begins a
+//! link. That is not proved here: `flat` counts the links that it finds, so only time and memory
+//! depend on these flags.
 
 use crate::limit::{Ways, outputs_of, ways_from};
 use crate::ports::is_set;
@@ -7,8 +8,8 @@ use dv_check::GREATEST_DEPTH;
 use dv_tree::{Coupling, Level, ResolvedPart, Target, Tree, level_at};
 use std::alloc::{AllocError, Global};
 
-/// A flag for each output port of each component, in the order of the components' numbers: whether it leads on. The ways
-/// are those of the models one level below the root.
+/// A flag for each output port of each component, in the order of the components' numbers: whether
+/// it leads on. The ways are those of the models one level below the root.
 ///
 /// # Errors
 ///
@@ -34,7 +35,7 @@ pub(crate) fn live_outputs(
     Ok(live)
 }
 
-// The flags of the components below a coupled model, by those of its own outputs.
+// Adds the flags of the components below a coupled model, by those of its own outputs.
 fn add_live(
     alloc: Global,
     depth: usize,
@@ -58,7 +59,7 @@ fn add_live(
     Ok(())
 }
 
-// The flags of the outputs of a part: those that a coupling leads on from.
+// The flags of the outputs of a part: whether a coupling leads on from each.
 fn live_of_part(
     alloc: Global,
     part: &ResolvedPart,
@@ -76,7 +77,8 @@ fn live_of_part(
     Ok(flags)
 }
 
-// Whether a way leads on from the target of a coupling: inside the part, or from the model's own output.
+// Whether a way leads on from the target of a coupling: inside the part, or from the model's own
+// output.
 fn leads_on(target: Target, parts: &[ResolvedPart], below: &[Ways], own: &[bool]) -> bool {
     match target {
         Target::Own { port } => is_set(own, port),

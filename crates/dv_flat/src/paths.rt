@@ -7,7 +7,8 @@ ghost use Rattle.dv_flat.specs.Links.{paths_of};
 use dv_tree::Tree;
 use std::alloc::{AllocError, Global};
 
-/// The paths of the components as texts, by their numbers. Together they may be much longer than the text of the model.
+/// The paths of the components as texts, in the order of their numbers. Together they may be much
+/// longer than the text of the model.
 ///
 /// # Errors
 ///

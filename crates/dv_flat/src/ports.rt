@@ -47,7 +47,7 @@ pub(crate) fn root_inputs(alloc: Global, tree: &Tree) -> Result<Vec<u32>, AllocE
     Ok(ports)
 }
 
-/// Those of the ports at whose indices a flag stands.
+/// The ports at whose indices a flag is set.
 ///
 /// # Errors
 ///
@@ -68,7 +68,7 @@ pub(crate) fn chosen(
     Ok(chosen)
 }
 
-/// Whether a flag stands at an index. Past the last index there is none.
+/// Whether the flag at an index is set: not past the last index.
 pub(crate) fn is_set(flags: &[bool], index: usize) -> bool
     ensures { result ≡ slice_index_or flags.now index false }
 {
@@ -78,8 +78,8 @@ pub(crate) fn is_set(flags: &[bool], index: usize) -> bool
     }
 }
 
-/// The number of ports of one component, by their names. Different names of 32 bits are few enough for indices of 32
-/// bits.
+/// The number of ports of one component, by their names. Names have 32 bits and differ, so indices
+/// have 32 bits.
 pub(crate) fn port_count(names: &[u32]) -> usize
     requires { IsDistinct nat_eq names.now }
     ensures value { result ≡ length names.now }
@@ -88,7 +88,8 @@ pub(crate) fn port_count(names: &[u32]) -> usize
     names.len()
 }
 
-// The ports of one component, by their names. Different names of 32 bits are few enough for indices of 32 bits.
+// Adds the ports of one component, by their names. Names have 32 bits and differ, so indices have
+// 32 bits.
 fn add_ports(
     component: u32,
     names: &[u32],

@@ -1,6 +1,6 @@
-//! Probes. Each source, an output port of a component, sends a value of its own, its probe, and so does each input port
-//! of the root. So what arrives at a port tells which ports lead there, and by how many ways: one routing finds the
-//! links of all sources.
+//! Probes. Each source, which is an output port of a component, sends a value of its own, its
+//! probe, and so does each input port of the root. So the values that arrive at a port show which
+//! ports lead there, and by how many ways: one routing finds the links of all sources.
 
 ghost use Rattle.std.specs.Prelude.{◌≡◌, ◌+◌, ◌^◌, ◌<◌, ◌≤◌, length, IfOk};
 ghost use Rattle.std.specs.List.{All};
@@ -14,7 +14,7 @@ use dv_bag::{Bags, Sent};
 use dv_tree::{Routed, Tree};
 use std::alloc::{AllocError, Global};
 
-/// What arrives of all probes, and what leaves.
+/// All probes that arrive, and all that leave.
 ///
 /// # Errors
 ///
@@ -56,7 +56,7 @@ fn sent_probes(
     Ok(sent)
 }
 
-// Nothing at any output port.
+// Nothing sent at any output port.
 fn silence(alloc: Global, tree: &Tree) -> Result<Vec<Sent>, AllocError>
     ensures { IfOk result (λ sent. sent.items ≡ silence (instances (file_of tree.now.file))) }
 {
@@ -68,7 +68,7 @@ fn silence(alloc: Global, tree: &Tree) -> Result<Vec<Sent>, AllocError>
     Ok(sent)
 }
 
-// What comes to the root: at each of so many input ports one probe, from a first one on.
+// What comes to the root: at each of `ports` input ports one probe, counted from `first` on.
 fn come_probes(alloc: Global, first: usize, ports: usize) -> Result<Bags, AllocError>
     requires { first + ports < 2 ^ 63 }
     ensures { IfOk result (λ input. input ≡ probes_from first ports) }
