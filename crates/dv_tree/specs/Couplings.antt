@@ -14,7 +14,7 @@ use Rattle.dv_tree.specs.declared.couplings.Target.TheVariants.{Own, OfPart}
 use Rattle.dv_tree.specs.declared.couplings.Coupling.{Coupling}
 use Rattle.dv_tree.specs.declared.couplings.ResolvedLink.{ResolvedLink}
 
--- what a part shows to the links around it: its name, and the names of its ports
+-- what the links around a part can name: its name, and the names of its ports
 pub record Shown : Type 0 where
   pub name : ℕ
   pub inputs : List ℕ
@@ -23,7 +23,7 @@ pub record Shown : Type 0 where
 abbrev pub shown_by : Part → ModelTree → Shown
 shown_by p m = record { name = p.name.number; inputs = shown_inputs m; outputs = shown_outputs m }
 
--- what the parts of a coupled model show; a part whose model is unknown is none
+-- that of each part of a coupled model; a part whose model is unknown is left out
 abbrev pub shown_of : List ModelTree → Part → Option Shown
 shown_of models p = option_map (shown_by p) (model_named p.model.number models)
 
@@ -35,7 +35,7 @@ abbrev pub index_in : List (List ℕ) → ℕ → Option ℕ → Option Target
 index_in ports port None = None
 index_in ports port (Some part) = option_map (OfPart part) (index_of port (slice_index_or ports part []))
 
--- the index of a port of the model itself or of a part, from the names of all; the first of a name counts
+-- the index of a port of the model itself or of a part, from the names of all; the first of equal names counts
 abbrev pub index_at : List ℕ → List ℕ → List (List ℕ) → Option Name → ℕ → Option Target
 index_at own parts ports None port = option_map Own (index_of port own)
 index_at own parts ports (Some part) port = index_in ports port (index_of part.number parts)
@@ -49,7 +49,7 @@ abbrev pub target_of : CoupledTree → List Shown → End → Option Target
 target_of m parts e =
     index_at (numbers_of m.outputs) (map (λ (s : Shown). s.name) parts) (map (λ (s : Shown). s.inputs) parts) e.part e.port.number
 
--- a link, where both of its ends have an index
+-- a link, if both of its ends have an index
 abbrev pub resolved_between : Option Target → Option Target → Option ResolvedLink
 resolved_between (Some from) (Some to) = Some (record { from = from; to = to })
 resolved_between from to = None

@@ -1,5 +1,4 @@
--- The components of a text: the atomic models in the tree of its root, in the order of the text, those of a coupled part in its
--- index.
+-- The components of a text: the atomic models in the tree of its root, in the order of the text; those of a coupled part come in its place.
 use Rattle.std.specs.Prelude.{ℕ, List, [], ◌∷◌, ◌++◌, Option, Some, None}
 use Rattle.dv_syntax.specs.Trees.{ModelTree, CoupledModel, AtomicTree, CoupledTree, FileTree}
 use Rattle.dv_syntax.specs.declared.tree.Name.{Name}
@@ -17,7 +16,7 @@ instances_in path NoParts = []
 instances_in path (AtomicPart name m rest) = record { path = path ++ name.number ∷ []; model = m } ∷ instances_in path rest
 instances_in path (CoupledPart name m inside rest) = instances_in (path ++ name.number ∷ []) inside ++ instances_in path rest
 
--- the coupled model that a model is
+-- the coupled model of a model, if it is one
 abbrev pub coupled_model : Option ModelTree → Option CoupledTree
 coupled_model (Some (CoupledModel m)) = Some m
 coupled_model other = None

@@ -1,12 +1,12 @@
--- What a reader believes: the components of a file, their paths, and how values travel.
+-- What a reader believes: the components of a file, their paths, and routing.
 pub mod Instances
 pub mod Paths
 pub mod Couplings
 pub mod Routing
--- What the laws speak of.
+-- What laws use.
 pub mod Rows
 pub mod Unions
--- What serves proofs.
+-- What proofs need.
 pub mod Reached
 pub mod Tables
 pub mod Nodes

@@ -1,4 +1,4 @@
--- The parts of coupled models and what travels between them, by tables alone.
+-- The parts of coupled models and routing between them, by tables alone.
 use Rattle.std.specs.Prelude.{ℕ, zero, suc, ◌+◌, List, [], ◌∷◌, ◌++◌, map, replicate, drop, slice_index_or, Option, Some, None, refl}
 use Rattle.std.specs.Coded.{Coded, code_by, coded×, coded_list, coded_ℕ, coded_ℤ}
 use Rattle.dv_bag.specs.Bag.{Counts}
@@ -8,7 +8,7 @@ use Rattle.dv_check.specs.Limits.{greatest_depth}
 use Rattle.dv_tree.specs.Tables.{LevelTable, levels_of, root_table}
 use Rattle.dv_tree.specs.declared.resolved_parts.ResolvedPart.{ResolvedPart}
 
--- what has arrived is stored as the pair of its fields
+-- what has arrived is encoded as the pair of its fields
 abbrev pub arrived_code : Coded Arrived
 arrived_code =
     code_by (List Counts × List (List Counts))
@@ -34,7 +34,7 @@ abbrev pub nodes_by : (LevelTable → Nodes) → List (Option LevelTable) → Li
 nodes_by inside levels [] = NoNodes
 nodes_by inside levels (e ∷ resolved) = with_node inside e (level_at levels e.model) (nodes_by inside levels resolved)
 
--- the parts of a coupled model, down to so many levels
+-- the parts of a coupled model, down to a number of levels
 abbrev pub nodes_to : ℕ → List (Option LevelTable) → LevelTable → Nodes
 nodes_to zero levels l = NoNodes
 nodes_to (suc depth) levels l = nodes_by (nodes_to depth levels) levels l.parts
@@ -64,7 +64,7 @@ nothing_in l = record { own = replicate l.outputs []; parts = map (λ ports. rep
 abbrev pub from_level : LevelTable → List (List Counts) → Arrived
 from_level l leaving = along_all l.of_parts leaving (nothing_in l)
 
--- what leaves each part, from what is sent by the components from there on
+-- what leaves each part, from what the components from there on send
 abbrev pub leaving_nodes : Nodes → List (List Counts) → List (List Counts)
 leaving_nodes NoNodes sent = []
 leaving_nodes (AtomicNode name model rest) sent = first_bags sent ∷ leaving_nodes rest (drop 1 sent)
@@ -78,7 +78,7 @@ kept_nodes (AtomicNode name model rest) sent = kept_nodes rest (drop 1 sent)
 kept_nodes (CoupledNode name l inside rest) sent =
     (from_level l (leaving_nodes inside sent) ∷ kept_nodes inside sent) ++ kept_nodes rest (drop (atomic_count inside) sent)
 
--- what comes to the parts of a coupled model, where this comes from them
+-- what comes to the parts of a coupled model, from what came from them
 abbrev pub to_level : LevelTable → List Counts → Arrived → List (List Counts)
 to_level l input a = (along l.of_inputs input a).parts
 

@@ -1,4 +1,4 @@
--- The models that the root of a text leads to. A tree keeps tables of these alone, however many others the text has.
+-- The models that the root of a text leads to. A tree keeps tables of these alone.
 use Rattle.std.specs.Prelude.{◌≡◌, ◌↔◌, ℕ, Bool, true, false, if◌then◌else◌, List, [], ◌∷◌, ◌++◌, map, slice_get, slice_index_or, slice_set}
 use Rattle.std.specs.Prelude.{Option, Some, None}
 use Rattle.std.specs.Borrow.{Bor}
@@ -13,7 +13,7 @@ use Rattle.dv_tree.specs.declared.reached.Walk.{Walk}
 abbrev pub text_of_reached : FileTree → List ModelTree → FileTree
 text_of_reached f reached = record { models = reached; root = f.root }
 
--- the parts of a model; an atomic one has none
+-- the parts of a model; none if it is atomic
 abbrev pub parts_inside : ModelTree → List Part
 parts_inside (AtomicModel m) = []
 parts_inside (CoupledModel m) = m.parts
@@ -36,11 +36,11 @@ marked (false ∷ marks) (m ∷ models) = marked marks models
 abbrev pub has_mark : List Bool → ℕ → Bool
 has_mark marks index = slice_index_or marks index false
 
--- the index of the model that a name stands for
+-- the index of the model of a name
 abbrev pub model_index : FileTree → ℕ → Option ℕ
 model_index f name = index_of name (model_names f.models)
 
--- The root leads to the model at an index: that is the root, or the model of a part of a model that the root leads to.
+-- The root leads to the model at an index: it is the root, or the model of a part of a model that the root leads to.
 pub data IsReached (f : FileTree) : ℕ → Type 0 where
   AsRoot : {index : ℕ} → model_index f f.root.number ≡ Some index → IsReached f index
   AsPart : {outer index : ℕ} (m : ModelTree) (k : ℕ) (p : Part) → IsReached f outer → slice_get f.models outer ≡ Some m →
@@ -56,7 +56,7 @@ pub record AreReached (f : FileTree) (reached : List ModelTree) : Type 0 where
   pub are : reached ≡ marked marks f.models
   pub exactly : AreMarks f marks
 
--- marks so far, and the indices of marked models whose parts are still to be marked
+-- marks so far, and the indices of marked models whose parts have not been marked yet
 pub record Marking : Type 0 where
   pub marks : List Bool
   pub waiting : List ℕ
@@ -64,7 +64,7 @@ pub record Marking : Type 0 where
 abbrev pub marking_of : Walk → Marking
 marking_of w = record { marks = w.marks.items; waiting = w.waiting.items }
 
--- with a mark for the model at an index, where there is one that has none, and its parts still to be marked
+-- with a mark for the model at an index, if there is one without a mark, and its parts to be marked later
 abbrev pub with_mark : Option ℕ → Marking → Marking
 with_mark None m = m
 with_mark (Some index) m =

@@ -1,8 +1,5 @@
--- How values travel along the links of coupled models: each link carries one copy of every value, so a value arrives once for
--- every way. (Closure under coupling.)
--- Coupled models are taken level by level: what leaves each part goes along the links of the model around it, to the inputs of
--- other parts and to the model's own outputs. So it goes up to the root; from there what has come to each model goes down into
--- its parts.
+-- Routing along the links of coupled models: each link carries one copy of every value, so a value arrives once for every way. (Closure
+-- under coupling.)
 use Rattle.std.specs.Prelude.{ℕ, List, [], ◌∷◌, ◌++◌, map, length, replicate, take, drop, fold, slice_set, slice_index_or, Option}
 use Rattle.std.specs.Prelude.{Some, None}
 use Rattle.dv_syntax.specs.Trees.{ModelTree, CoupledTree, FileTree}
@@ -14,12 +11,12 @@ use Rattle.dv_tree.specs.declared.couplings.Target.{Target}
 use Rattle.dv_tree.specs.declared.couplings.Target.TheVariants.{Own, OfPart}
 use Rattle.dv_tree.specs.declared.couplings.Coupling.{Coupling}
 
--- what stands at the ports that the links of a coupled model lead to: at its own outputs, and at the inputs of each part
+-- what has arrived at the ports that the links of a coupled model lead to: its own outputs, and the inputs of each part
 pub record Arrived : Type 0 where
   pub own : List Counts
   pub parts : List (List Counts)
 
--- more values at a port; past the last port they are dropped
+-- more values at a port; at a port past the last they are dropped
 abbrev pub joined_at : ℕ → Counts → List Counts → List Counts
 joined_at port more bags = slice_set bags port (union (bag_at bags port) more)
 
@@ -63,7 +60,7 @@ abbrev pub first_bags : List (List Counts) → List Counts
 first_bags [] = []
 first_bags (bags ∷ rest) = bags
 
--- what leaves each part, by its output ports, from what the components in the parts send, in order of their numbers
+-- what leaves each part, by output port, from what the components in the parts send, in the order of their numbers
 abbrev pub leaving : List ModelTree → PartTree → List (List Counts) → List (List Counts)
 leaving models NoParts sent = []
 leaving models (AtomicPart name m rest) sent = first_bags sent ∷ leaving models rest (drop 1 sent)
@@ -90,7 +87,7 @@ arrives_in_root models None sent input = []
 arrives_in_root models (Some m) sent input =
     arriving models (tree_of models m) (to_parts models m input (leaving models (tree_of models m) sent)) sent
 
--- what leaves by the root's output ports, from what the components send
+-- what leaves at the root's output ports, from what the components send
 abbrev pub leaves : FileTree → List (List Counts) → List Counts
 leaves f sent = leaves_root f.models (root_of f) sent
 

@@ -46,17 +46,17 @@ coupled_of name parts links = record {
 abbrev pub text_of : List Part → List Link → List ModelTree → FileTree
 text_of parts links models = record { models = AtomicModel relay ∷ CoupledModel (coupled_of 0 parts links) ∷ models; root = name_of 0 }
 
--- so many copies of the value 7
+-- copies of the value 7
 abbrev pub sevens : ℕ → Counts
 sevens copies = (pos 7, copies) ∷ []
 
--- one component, in a coupled model that sends on by two ports what the root joins at one
+-- one component, in a coupled model that sends on at two ports, both linked to one output of the root
 abbrev pub two_paths : FileTree
 two_paths =
     text_of (part_of 2 3 ∷ []) (link_of (Some 2) 11 None 11 ∷ link_of (Some 2) 13 None 11 ∷ [])
     (CoupledModel (coupled_of 3 (part_of 4 1 ∷ []) (link_of (Some 4) 11 None 11 ∷ link_of (Some 4) 11 None 13 ∷ [])) ∷ [])
 
--- one component, and one that lies two levels below it
+-- one component, and one that is two levels below it
 abbrev pub two_levels : FileTree
 two_levels =
     text_of (part_of 2 1 ∷ part_of 3 4 ∷ []) (link_of (Some 2) 11 (Some 3) 10 ∷ [])

@@ -24,13 +24,13 @@ use Rattle.dv_tree.specs.contracts.resolved_parts.ResolvedPart as resolved
 use Rattle.dv_tree.specs.declared.couplings.Coupling.{Coupling}
 use Rattle.dv_tree.specs.declared.resolved_parts.ResolvedPart.{ResolvedPart}
 
--- a checked file, the texts of its names, and the models of it of which there are tables
+-- a checked file, the texts of its names, and those of its models that have tables
 pub record Source : Type 0 where
   pub file : File
   pub names : List (List ℕ)
   pub reached : List Model
 
--- a source is stored as the tuple of its fields
+-- a source is encoded as the tuple of its fields
 abbrev pub source_code : Coded Source
 source_code =
     code_by (File × (List (List ℕ) × List Model))
@@ -41,7 +41,7 @@ source_code =
 abbrev pub model_names : List ModelTree → List ℕ
 model_names models = map (λ m. (name_of_model m).number) models
 
--- what each model declares; a coupled model declares nothing here
+-- the scopes of the models; that of a coupled model has no names
 abbrev pub scope_of_model : ModelTree → Scope
 scope_of_model (AtomicModel m) = scope_of m
 scope_of_model (CoupledModel m) = nothing_declared
@@ -49,7 +49,7 @@ scope_of_model (CoupledModel m) = nothing_declared
 abbrev pub scopes_of : FileTree → List Scope
 scopes_of f = map scope_of_model f.models
 
--- a part with the index of its model, where that is known
+-- a part with the index of its model, if that is known
 abbrev pub resolved_part_at : Name → ℕ → ResolvedPart
 resolved_part_at name index = record { name = name; model = index }
 
@@ -67,7 +67,7 @@ pub record LevelTable : Type 0 where
   pub of_inputs : List Coupling
   pub of_parts : List (List Coupling)
 
--- a table is stored as the tuple of its fields
+-- a table is encoded as the tuple of its fields
 abbrev pub level_code : Coded LevelTable
 level_code =
     code_by (List ResolvedPart × (ℕ × (List ℕ × (List Coupling × List (List Coupling)))))
@@ -131,7 +131,7 @@ abbrev pub level_by_model : List ℕ → List (List ℕ) → List (List ℕ) →
 level_by_model models inputs outputs (AtomicModel m) = None
 level_by_model models inputs outputs (CoupledModel m) = Some (level_by models inputs outputs m)
 
--- with the coupling that a link is, at its part
+-- with the coupling of a link, at its part
 abbrev pub with_coupling_at : Target → Target → List (List Coupling) → List (List Coupling)
 with_coupling_at (Own port) to lists = lists
 with_coupling_at (OfPart part port) to lists =

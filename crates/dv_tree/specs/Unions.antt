@@ -2,7 +2,7 @@
 use Rattle.std.specs.Prelude.{◌≡◌, ℕ, slice_index_or, List, []}
 use Rattle.dv_bag.specs.Bag.{Counts, IsBag, bag_at, union}
 
--- at each port stand bags, and in both lists together their union; past the last port there are no values
+-- there are bags at each port, and in both lists together their union; past the last port there are no values
 pub record Unite (a b both : List Counts) : Type 0 where
   pub left : (port : ℕ) → IsBag (bag_at a port)
   pub right : (port : ℕ) → IsBag (bag_at b port)

@@ -1,4 +1,4 @@
-//! What stands at the ports that links lead to.
+//! What has arrived at the ports of one coupled model.
 
 ghost use Rattle.std.specs.Prelude.{◌≡◌, [], unwrap_or, OnOk};
 ghost use Rattle.std.specs.Option.{option_copied};
@@ -9,8 +9,8 @@ use dv_bag::{Bag, Bags, Sent};
 use std::alloc::{AllocError, Global};
 use std::marker::Model;
 
-/// What stands at the ports that the links of a coupled model lead to: at its own outputs, and at the inputs of each
-/// part.
+/// What has arrived at the ports that the links of a coupled model lead to: its own outputs, and
+/// the inputs of each part.
 #[derive(Drop)]
 pub(crate) struct Arrived {
     pub(crate) own: Bags,
@@ -29,7 +29,7 @@ impl Model for Arrived {
 }
 
 impl Arrived {
-    /// No ports. It takes no memory.
+    /// Of a model without ports. It takes no memory.
     pub(crate) fn empty(alloc: Global) -> Self
         ensures { result ≡ record { own = []; parts = [] } }
     {
@@ -39,14 +39,14 @@ impl Arrived {
         }
     }
 
-    /// What stands at the outputs of the model itself.
+    /// What has arrived at the outputs of the model itself.
     pub(crate) fn own(&self) -> &Bags
         ensures { result.now ≡ self.now.own }
     {
         &self.own
     }
 
-    /// What stands at the inputs of the parts, alone.
+    /// What has arrived at the inputs of the parts.
     pub(crate) fn into_parts(self) -> Vec<Bags>
         ensures { result.items ≡ self.parts }
     {
@@ -54,7 +54,7 @@ impl Arrived {
         parts
     }
 
-    // More values at a target.
+    // Adds values at a target.
     fn add(&mut self, target: Target, values: &Bag) -> Result<(), AllocError>
         ensures { OnOk result (self.new ≡ with_values target values.now self.old) }
     {
@@ -69,7 +69,7 @@ impl Arrived {
         }
     }
 
-    // What stands at a port, at a target. Where no bag is held there is nothing to add.
+    // Adds the values of a port at a target, if there are any.
     fn add_held(&mut self, target: Target, values: Option<&Bag>) -> Result<(), AllocError>
         ensures { OnOk result (self.new
             ≡ with_values target (unwrap_or (option_copied values.entry) []) self.old) }
@@ -80,7 +80,7 @@ impl Arrived {
         }
     }
 
-    /// One copy of what a component sent for each of its couplings.
+    /// Adds a copy of what a component sent along each of its couplings.
     ///
     /// # Errors
     ///
@@ -98,7 +98,7 @@ impl Arrived {
         Ok(())
     }
 
-    /// One copy of what stands at ports for each of their couplings.
+    /// Adds a copy of the values at each port along each of its couplings.
     ///
     /// # Errors
     ///
@@ -116,7 +116,7 @@ impl Arrived {
     }
 }
 
-// More values at a port; past the last port they are dropped.
+// Adds values at a port. At a port past the last they are dropped.
 fn join(bags: &mut Bags, port: usize, values: &Bag) -> Result<(), AllocError>
     ensures { OnOk result (bags.new ≡ joined_at port values.now bags.old) }
 {

@@ -9,8 +9,8 @@ use dv_lex::Names;
 use std::alloc::{AllocError, Global};
 use std::marker::Model;
 
-/// A component: the names of the parts that lead to it, as their numbers, and the index of its model among those of which
-/// there are tables. So it takes the same memory however long the names are.
+/// A component: the names of the parts that lead to it, as numbers, and the index of its model
+/// among those with tables. So its memory does not depend on the length of the names.
 #[derive(Drop)]
 pub(crate) struct Component {
     pub(crate) path: Vec<u32>,
@@ -33,7 +33,7 @@ impl Component {
         &self.path
     }
 
-    /// The index of the model.
+    /// The index of its model.
     pub(crate) fn model(&self) -> usize
         ensures { result ≡ self.now.1 }
     {
@@ -41,7 +41,7 @@ impl Component {
     }
 }
 
-/// The name of a number, and the empty text where there is none.
+/// The text of the name with a number: empty if there is none.
 pub(crate) fn name_at(names: &Names, number: u32) -> &str
     ensures { result.now ≡ name_at names.now number }
 {
@@ -51,7 +51,7 @@ pub(crate) fn name_at(names: &Names, number: u32) -> &str
     }
 }
 
-// The path of a part, from that of the model around it.
+// The path of a part of a model with a path.
 fn path_to(alloc: Global, before: &[u32], name: u32) -> Result<Vec<u32>, AllocError>
     ensures { IfOk result (λ path. path.items ≡ before.now ++ name ∷ []) }
 {
@@ -60,7 +60,7 @@ fn path_to(alloc: Global, before: &[u32], name: u32) -> Result<Vec<u32>, AllocEr
     Ok(path)
 }
 
-// Adds the component that an atomic part is, by the index of its model.
+// Adds the component of an atomic part, with the index of its model.
 fn add_component(
     alloc: Global,
     before: &[u32],
@@ -75,7 +75,7 @@ fn add_component(
     Ok(components.push(Component { path, model })?)
 }
 
-/// Adds the components in the parts of a coupled model, down to so many levels. Their paths begin with a path.
+/// Adds the components in the parts of a coupled model with a path, down to a number of levels.
 ///
 /// # Errors
 ///

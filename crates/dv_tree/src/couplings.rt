@@ -16,10 +16,10 @@ pub enum Target {
     OfPart { part: usize, port: usize },
 }
 
-/// What comes from a port of some model, and where it goes.
+/// A port of some model, and one port to which it is linked.
 #[derive(Clone, Copy, PartialEq, Eq)]
 pub struct Coupling {
-    /// The index of the port from which it leads.
+    /// The index of the port from which the coupling leads.
     pub port: usize,
     /// The port to which it leads.
     pub target: Target,
@@ -34,7 +34,7 @@ pub struct ResolvedLink {
     pub to: Target,
 }
 
-// A link from an input of the model itself.
+// The coupling of a link from an input of the model itself.
 fn coupling_from_own(from: Target, to: Target) -> Option<Coupling>
     ensures { result ≡ coupling_from_own from to }
 {
@@ -60,7 +60,7 @@ pub(crate) fn own_couplings(
     Ok(couplings)
 }
 
-/// For each of so many parts the couplings from its outputs, in the order of the links.
+/// For each of `parts` parts the couplings from its outputs, in the order of the links.
 pub(crate) fn part_couplings(
     alloc: Global,
     parts: usize,
@@ -86,7 +86,7 @@ fn empty_lists(alloc: Global, count: usize) -> Result<Vec<Vec<Coupling>>, AllocE
     Ok(lists)
 }
 
-// The coupling that a link is joins those of its part.
+// Adds the coupling of a link to those of its part.
 fn add_link(lists: &mut Vec<Vec<Coupling>>, link: &ResolvedLink) -> Result<(), AllocError>
     ensures { OnOk result (map (λ list. list.items) lists.new.items
         ≡ with_link (map (λ list. list.items) lists.old.items) link.now) }

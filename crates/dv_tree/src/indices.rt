@@ -8,15 +8,15 @@ use std::alloc::{AllocError, Global};
 use std::collections::HashMap;
 use std::marker::Model;
 
-/// The greatest number of names that are looked for one after the other.
+/// The greatest number of names in a list that is searched from the front.
 const GREATEST_FEW: usize = 8;
 
-/// A list of names by their numbers, with the index where each first stands. Most lists are short, and a short list is
-/// searched sooner than a table is made for it.
+/// Names by number, with the index of the first occurrence of each. Most lists are short, and
+/// searching a short list is faster than making a table.
 #[derive(Drop)]
 pub(crate) struct Indices {
     numbers: Vec<u32>,
-    /// Empty where there are few names.
+    /// Empty if there are few names.
     firsts: HashMap<u32, usize>,
 }
 
@@ -65,7 +65,7 @@ impl Indices {
     }
 }
 
-// The index of a name among few.
+// The index of a name in a short list.
 fn index_among(numbers: &[u32], number: u32) -> Option<usize>
     ensures { result ≡ index_of number numbers.now }
 {
@@ -77,7 +77,7 @@ fn index_among(numbers: &[u32], number: u32) -> Option<usize>
     None
 }
 
-// Where each of many names first stands. For few names there is no table.
+// The index of the first occurrence of each of many names. For few names the table is empty.
 fn firsts_of_many(alloc: Global, numbers: &[u32]) -> Result<HashMap<u32, usize>, AllocError>
     ensures { IfOk result (λ firsts. 8 < length numbers.now
         → (q : ℕ) → get nat_eq firsts q ≡ index_of q numbers.now) }

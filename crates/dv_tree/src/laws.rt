@@ -1,4 +1,4 @@
-//! Laws of routing. Each function stands for the law in its contract; its body does nothing but name laws of bags.
+//! Laws of routing. Each function states a law in its contract; its body only calls laws of bags.
 
 ghost use Rattle.std.specs.Prelude.{◌≡◌, ℕ, List, [], ◌∷◌, length, map, replicate};
 ghost use Rattle.std.specs.List.{All};
@@ -17,7 +17,7 @@ pub fn each_component_receives()
         length (arrives f sent input) ≡ length (instances f) }
 {}
 
-/// Where nothing is sent and nothing comes from outside, nothing arrives and nothing leaves.
+/// If nothing is sent and nothing comes from outside, nothing arrives and nothing leaves.
 pub fn nothing_comes_of_nothing()
     ensures arrives { (f : FileTree) (ports : ℕ) → All (All (λ b. b ≡ []))
         (arrives f (map (λ i. []) (instances f)) (replicate ports [])) }
@@ -30,12 +30,12 @@ pub fn paths_lead_through_parts()
     ensures { map (λ i. i.path) (instances two_levels) ≡ (2 ∷ []) ∷ (3 ∷ 5 ∷ 7 ∷ []) ∷ [] }
 {}
 
-/// A value arrives once for every way.
+/// A value arrives once for each way.
 pub fn copies_arrive_by_every_path()
     ensures { leaves two_paths ((sevens 1 ∷ []) ∷ []) ≡ sevens 2 ∷ [] ∷ [] }
 {}
 
-/// What leaves a part enters a coupled one, and goes down to the component inside.
+/// What leaves a part goes into a coupled one, down to the component inside.
 pub fn values_go_through_levels()
     ensures { arrives two_levels ((sevens 1 ∷ []) ∷ ([] ∷ []) ∷ []) ([] ∷ [] ∷ [])
         ≡ ([] ∷ []) ∷ (sevens 1 ∷ []) ∷ [] }
@@ -47,16 +47,16 @@ pub fn inputs_go_to_every_part()
         ≡ (sevens 1 ∷ []) ∷ (sevens 1 ∷ []) ∷ [] }
 {}
 
-/// What leads out and what leads to another part take nothing from each other.
+/// Links out of a model and links to other parts do not affect each other.
 pub fn exits_stand_beside_inner_links()
     ensures leaves { leaves beside ((sevens 1 ∷ []) ∷ ([] ∷ []) ∷ []) ≡ sevens 1 ∷ [] ∷ [] }
     ensures arrives { arrives beside ((sevens 1 ∷ []) ∷ ([] ∷ []) ∷ []) ([] ∷ [] ∷ [])
         ≡ ([] ∷ []) ∷ (sevens 1 ∷ []) ∷ [] }
 {}
 
-/// Routing is linear: of what is sent in two lists and united port by port, and of what comes to the inputs united
-/// alike, there leaves and there arrives what leaves and arrives of the one, united with that of the other. Where bags
-/// are sent, bags leave and arrive.
+/// Routing is linear: if two lists are united, of what is sent port by port and of what comes to
+/// the inputs, what leaves and what arrives is the union of what leaves and arrives for each of
+/// them. If bags are sent, bags leave and arrive.
 pub fn routing_is_linear()
     ensures leaves { (f : FileTree) (a b both : List (List Counts)) → AllUnite a b both →
         Unite (leaves f a) (leaves f b) (leaves f both) }

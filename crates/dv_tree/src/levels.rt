@@ -20,8 +20,8 @@ use dv_syntax::{Coupled, End, Link, Model as ModelItem, Name};
 use std::alloc::{AllocError, Global};
 use std::marker::Model;
 
-/// The table of a coupled model: its parts, the number of its outputs and of the inputs of each part, and its links by
-/// where they begin.
+/// The table of a coupled model: its parts, the number of its outputs and of the inputs of each
+/// part, and its links by the port where they begin.
 #[derive(Drop)]
 pub struct Level {
     parts: Vec<ResolvedPart>,
@@ -70,7 +70,7 @@ impl Level {
         &self.of_inputs
     }
 
-    /// The couplings from the outputs of a part. Past the last part there are none.
+    /// The couplings from the outputs of a part: none past the last part.
     pub fn couplings_of_part(&self, part: usize) -> &[Coupling]
         ensures { result.now ≡ slice_index_or self.now.of_parts part [] }
     {
@@ -80,7 +80,7 @@ impl Level {
         }
     }
 
-    /// No values at any port that a link leads to.
+    /// No values at all ports to which links lead.
     ///
     /// # Errors
     ///
@@ -136,8 +136,8 @@ fn port_of(part: usize, port: u32, parts: &[ResolvedPart], ports: &[Indices]) ->
     ports.get(model)?.index_of(port)
 }
 
-// Where the links of a coupled model lead: the ports of the model itself, its parts by their names, and the ports of
-// each model of the file.
+// What the ends of links in a coupled model can be: the ports of the model itself, its parts by
+// their names, and the ports of each model of the file.
 #[derive(Drop)]
 struct Ends<'t> {
     own_inputs: Indices,
@@ -170,7 +170,7 @@ fn resolved_link(link: &Link, ends: &Ends) -> Option<ResolvedLink>
     Some(ResolvedLink { from, to })
 }
 
-// The links whose ends both have an index.
+// The links of which both ends are known.
 fn resolved_links(
     alloc: Global,
     links: &[Link],
@@ -296,7 +296,7 @@ fn level_of_model(
     }
 }
 
-/// The tables of the coupled ones of these models, by their indices.
+/// The tables of these models, by their indices: only coupled models have one.
 pub(crate) fn levels(
     alloc: Global,
     items: &[&ModelItem],
@@ -314,7 +314,7 @@ pub(crate) fn levels(
     Ok(levels)
 }
 
-/// The table of the model at an index, where that is a coupled one.
+/// The table of the model at an index, if it is coupled.
 pub fn level_at(levels: &[Option<Level>], index: usize) -> Option<&Level>
     ensures { option_copied result ≡ level_at levels.now index }
 {

@@ -1,15 +1,17 @@
-//! The components of a checked text, their paths, and how values travel through models in models.
+//! The components of a checked text, their paths, and routing through coupled models.
 //!
-//! A `Tree` has the components in the order of their numbers, each with its path and its model, and a table of the
-//! links of each coupled model that the root leads to. `route` takes what components send up to the root and down
-//! into its parts, at one instant. What it gives is what the definitions say arrives and leaves, and routing is
-//! linear: what is sent together arrives as the union of what is sent alone.
+//! A `Tree` has the components in the order of their numbers, each with its path and its model, and
+//! a table of the links of each coupled model that the root leads to. `route` takes what components
+//! send at one instant up to the root and down into its parts. It gives what arrives and leaves by
+//! the definitions, and a law says that routing is linear: what is sent together arrives as the
+//! union of what is sent separately.
 //!
-//! `dv_plain` routes by this tree at each instant, and `dv_flat` makes links between components of it once. Views and
-//! traces take the names of components, ports and variables from it. No time and no state is known here.
+//! `dv_plain` routes by this tree at each instant, and `dv_flat` makes links between its components
+//! once. Views and traces take the names of components, ports and variables from it. Times and
+//! states are not known here.
 #![tactic(auto)]
 
-/// What stands at the ports that links lead to.
+/// What has arrived at the ports of one coupled model.
 mod arrived;
 /// The components by number.
 mod components;
@@ -25,7 +27,7 @@ mod resolved_parts;
 mod indices;
 /// The models that the root leads to.
 mod reached;
-/// How values travel.
+/// Routing along links.
 mod routing;
 /// The tables of the models of a file.
 mod tables;

@@ -1,4 +1,5 @@
-//! The models that the root of a text leads to. A text may have very many others, of which a tree keeps nothing.
+//! The models that the root of a text leads to. A text may have many others, and a tree keeps
+//! nothing of them.
 
 ghost use Rattle.std.specs.Prelude.{◌≡◌, length, map, slice_get, Some, IfOk, OnOk};
 ghost use Rattle.dv_syntax.specs.Trees.{file_of, model_of};
@@ -34,7 +35,7 @@ impl<'c> Reached<'c> {
         Reached::marked(alloc, &file.models, &marks)
     }
 
-    // Those with a mark.
+    // The models with a mark.
     fn marked(alloc: Global, models: &'c [Model], marks: &[bool]) -> Result<Self, AllocError>
         requires { length marks.now ≡ length models.now }
         ensures models { IfOk result (λ r. borrowed_models r.models.items
@@ -57,8 +58,9 @@ impl<'c> Reached<'c> {
     }
 }
 
-// The marks of models, of which those have one that were reached so far, and the indices of those whose parts are still to
-// be marked. These are never more than there are models, since a model is put among them once, with its mark.
+// The marks of the models that were reached so far, and the indices of those whose parts have not
+// been marked yet. Each model is added once, with its mark, so there are never more of them than
+// models.
 #[derive(Drop)]
 struct Walk {
     marks: Vec<bool>,
@@ -66,7 +68,8 @@ struct Walk {
 }
 
 impl Walk {
-    // Marks the model at an index, where there is one without a mark. Its parts are then to be marked.
+    // Marks the model at an index, if there is one without a mark. Its parts have to be marked
+    // later.
     fn mark(&mut self, index: Option<usize>) -> Result<(), AllocError>
         ensures { OnOk result (marking_of self.new ≡ with_mark index (marking_of self.old)) }
     {
@@ -80,7 +83,7 @@ impl Walk {
         Ok(())
     }
 
-    // Marks the models of these parts.
+    // Marks the models of parts.
     fn mark_parts(&mut self, parts: &[Part], names: &Indices) -> Result<(), AllocError>
         ensures { OnOk result (marking_of self.new
             ≡ with_marks names.now parts.now (marking_of self.old)) }
@@ -92,7 +95,8 @@ impl Walk {
     }
 }
 
-// Marks for the models that the root leads to, from the names of all models. Each marked model is visited once.
+// Marks for the models that the root leads to, by the names of all models. Each marked model is
+// visited once.
 fn marks_of(alloc: Global, file: &File, names: &Indices) -> Result<Vec<bool>, AllocError>
     requires names { names.now ≡ model_names (file_of file.now).models }
     ensures one_each { IfOk result

@@ -8,12 +8,12 @@ use crate::indices::Indices;
 use dv_syntax::{Name, Part};
 use std::alloc::{AllocError, Global};
 
-/// A part: its name, and the index of its model among those of which there are tables.
+/// A part: its name, and the index of its model among those with tables.
 #[derive(Clone, Copy, PartialEq, Eq)]
 pub struct ResolvedPart {
     /// The name of the part.
     pub name: Name,
-    /// The index of its model among those of which there are tables.
+    /// The index of its model among those with tables.
     pub model: usize,
 }
 
@@ -27,7 +27,7 @@ fn resolved_part(part: &Part, models: &Indices) -> Option<ResolvedPart>
     })
 }
 
-/// The parts whose models are known, by the names of the models.
+/// The parts whose models are known.
 pub(crate) fn resolved_parts(
     alloc: Global,
     parts: &[Part],

@@ -1,4 +1,4 @@
-//! How values travel.
+//! Routing along links: up to the root, and down to the components.
 
 ghost use Rattle.std.specs.Prelude.{◌≡◌, ◌++◌, ◌∷◌, [], suc, drop, length, slice_get, option_copied, option_map};
 ghost use Rattle.std.specs.Prelude.{OnOk, IfOk};
@@ -15,8 +15,8 @@ use dv_bag::{Bags, Sent};
 use std::alloc::{AllocError, Global};
 use std::vec::IntoIter;
 
-/// Going up: adds what comes from the parts of a coupled model, and then the same of the coupled models inside, from
-/// what the components send from there on. Gives what the components behind these send.
+/// Goes up: adds what comes from the parts of a coupled model, and then the same for the coupled
+/// models inside, from what the components send. Returns what the components behind these send.
 ///
 /// # Errors
 ///
@@ -42,7 +42,7 @@ pub(crate) fn rise<'s>(
     Ok(rest)
 }
 
-// The same of the parts of a coupled model: what leaves each goes along its couplings.
+// The same for the parts of a coupled model: what leaves each goes along its couplings.
 #[cycle(rise)]
 fn rise_parts<'s>(
     depth: usize,
@@ -71,7 +71,7 @@ fn rise_parts<'s>(
     Ok(rest)
 }
 
-// The same of one part, which is coupled or atomic: what leaves it goes along its couplings.
+// The same for one part, coupled or atomic: what leaves it goes along its couplings.
 #[cycle(rise)]
 fn rise_part<'s>(
     depth: usize,
@@ -101,7 +101,7 @@ fn rise_part<'s>(
     }
 }
 
-// One more index among what is kept, with no ports yet. Gives its index.
+// Adds an empty element to what is kept, and returns its index.
 fn keep_slot(kept: &mut Vec<Arrived>) -> Result<usize, AllocError>
     ensures slot { IfOk result (λ slot. slot ≡ length kept.old.items) }
     ensures kept { OnOk result (kept.new.items ≡ kept.old.items
@@ -113,7 +113,7 @@ fn keep_slot(kept: &mut Vec<Arrived>) -> Result<usize, AllocError>
     Ok(slot)
 }
 
-// What the first component sends goes along its couplings. Gives what the others send.
+// Sends what the first component sends along its couplings. Returns what the others send.
 fn add_first<'s>(
     couplings: &[Coupling],
     sent: &'s [Sent],
@@ -132,8 +132,8 @@ fn add_first<'s>(
     }
 }
 
-/// Going down: adds what the components of a coupled model receive, from what comes to its inputs and what came from
-/// the parts of the model and of those inside, which is taken.
+/// Goes down: adds what the components of a coupled model receive, from what comes to its inputs
+/// and from what came from the parts of the model and of those inside. The latter is taken out.
 ///
 /// # Errors
 ///
@@ -161,7 +161,7 @@ pub(crate) fn sink(
     }
 }
 
-// The same of the parts of a coupled model, from what comes to each.
+// The same for the parts of a coupled model, from what comes to each.
 #[cycle(sink)]
 fn sink_parts(
     alloc: Global,
@@ -189,7 +189,7 @@ fn sink_parts(
     Ok(())
 }
 
-// The same of one part, which is coupled or atomic.
+// The same for one part, coupled or atomic.
 #[cycle(sink)]
 fn sink_part(
     alloc: Global,
@@ -213,7 +213,8 @@ fn sink_part(
     }
 }
 
-// What comes to the parts of a coupled model, from what comes to its inputs and what is kept of it, which is taken.
+// What comes to the parts of a coupled model, from what comes to its inputs and from what is kept
+// of it, which is taken out.
 fn next_parts(
     level: &Level,
     input: &Bags,

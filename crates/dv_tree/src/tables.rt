@@ -34,7 +34,7 @@ pub(crate) fn model_numbers(alloc: Global, models: &[Model]) -> Result<Vec<u32>,
     Ok(numbers)
 }
 
-/// The parts of a model; an atomic one has none.
+/// The parts of a model: none if it is atomic.
 pub(crate) fn parts_inside(model: &Model) -> &[Part]
     ensures { result.now ≡ parts_inside (model_of model.now) }
 {
@@ -44,7 +44,7 @@ pub(crate) fn parts_inside(model: &Model) -> &[Part]
     }
 }
 
-/// The names of models that are borrowed, in their order.
+/// The names of borrowed models, in their order.
 pub(crate) fn numbers_of_models(alloc: Global, models: &[&Model]) -> Result<Vec<u32>, AllocError>
     ensures { IfOk result (λ numbers. numbers.items ≡ model_names (borrowed_models models.now)) }
 {
@@ -138,7 +138,7 @@ pub(crate) fn outputs(
     Ok(outputs)
 }
 
-/// The root: the first model of its name, where that is coupled.
+/// The root: the first model of its name, if it is coupled.
 pub(crate) fn root(file: &File) -> Option<&Coupled>
     ensures { option_map coupled_of (option_copied result) ≡ root_of (file_of file.now) }
 {

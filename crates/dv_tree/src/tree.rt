@@ -29,17 +29,18 @@ use dv_syntax::{Atomic, File, Model as ModelItem};
 use std::alloc::{AllocError, Global};
 use std::marker::Model;
 
-/// What travels at one instant: what each component receives, and what leaves by the root's output ports.
+/// What is routed at one instant: what each component receives, and what leaves at the root's
+/// output ports.
 #[derive(Drop)]
 pub struct Routed {
     /// What each component receives, in the order of their numbers.
     pub received: Vec<Bags>,
-    /// What leaves by the output ports of the root.
+    /// What leaves at the output ports of the root.
     pub leaving: Bags,
 }
 
-/// The components of a checked text by number, and the couplings of the models that its root leads to. Of the others it
-/// keeps nothing.
+/// The components of a checked text by number, and the couplings of the models that its root leads
+/// to. Nothing is kept of the other models.
 #[derive(Drop)]
 pub struct Tree<'c> {
     checked: &'c Checked,
@@ -115,35 +116,36 @@ impl<'c> Tree<'c> {
         })
     }
 
-    /// The text, as it was parsed.
+    /// The syntax tree of the text.
     pub fn file(&self) -> &File
         ensures { result.now ≡ self.now.file }
     {
         &self.checked.file
     }
 
-    /// The models that the root leads to, in the order of the text. Tables go by the indices of models among these.
+    /// The models that the root leads to, in the order of the text. The other tables have the same
+    /// indices.
     pub fn reached(&self) -> &[&'c ModelItem]
         ensures { borrowed result.now ≡ self.now.reached }
     {
         &self.reached.models
     }
 
-    /// The tables of the coupled ones of these models; an atomic model has none.
+    /// The tables of the coupled models; an atomic model has none.
     pub fn levels(&self) -> &[Option<Level>]
         ensures { result.now ≡ levels_of (map model_of self.now.reached) }
     {
         &self.levels
     }
 
-    /// What each of these models declares; a coupled model declares nothing here.
+    /// The scopes of the models: that of a coupled model has no names.
     pub fn scopes(&self) -> &[Scope]
         ensures { result.now ≡ map scope_of_model (map model_of self.now.reached) }
     {
         &self.scopes
     }
 
-    /// The table of the root, where that is a coupled model.
+    /// The table of the root, if it is a coupled model.
     pub fn root_level(&self) -> Option<&Level>
         ensures reached { AreReached (file_of self.now.file) (map model_of self.now.reached) }
         ensures value { option_copied result
@@ -175,7 +177,8 @@ impl<'c> Tree<'c> {
         }
     }
 
-    /// The index of a component's model among the models of the text. Components of one model have one index.
+    /// The index of a component's model among the models of the text. Components of one model have
+    /// one index.
     pub fn model_index(&self, component: usize) -> usize
         requires { component < length (instances (file_of self.now.file)) }
         ensures within { result < length (file_of self.now.file).models }
@@ -187,7 +190,7 @@ impl<'c> Tree<'c> {
         self.reached.indices[index]
     }
 
-    /// What the model of a component declares.
+    /// The scope of a component's model.
     pub fn scope(&self, component: usize) -> &Scope
         requires { component < length (instances (file_of self.now.file)) }
         ensures { slice_get (map (λ i. scope_of i.model)
@@ -206,7 +209,8 @@ impl<'c> Tree<'c> {
         self.components[component].path()
     }
 
-    /// The path of a component as text: the names of the parts that lead to it, joined by dots.
+    /// The path of a component as a text: the names of the parts that lead to it, with dots between
+    /// them.
     ///
     /// # Errors
     ///
@@ -222,11 +226,11 @@ impl<'c> Tree<'c> {
         Ok(text)
     }
 
-    /// The names of a path, joined by dots, behind a text.
+    /// Appends the names of a path to a text, with dots between them.
     ///
     /// # Errors
     ///
-    /// No memory for the longer text. A beginning of the path may stand behind it.
+    /// No memory for the longer text. It may then end with a beginning of the path.
     pub fn push_path(&self, text: &mut String, path: &[u32]) -> Result<(), AllocError>
         ensures { OnOk result (string_bytes text.new
             ≡ string_bytes text.old ++ with_dots (texts_of self.now.names path.now)) }
@@ -234,14 +238,14 @@ impl<'c> Tree<'c> {
         push_path(text, &self.checked.names, path)
     }
 
-    /// The name of a number, and the empty text where there is none.
+    /// The text of the name with a number: empty if there is none.
     pub fn name(&self, number: u32) -> &str
         ensures { result.now ≡ name_at self.now.names number }
     {
         name_at(&self.checked.names, number)
     }
 
-    /// The index of the root's name in the text.
+    /// The offset of the root's name, in bytes of the text.
     pub fn root_offset(&self) -> u32
         ensures { result ≡ (file_of self.now.file).root.offset }
     {
@@ -287,8 +291,8 @@ impl<'c> Tree<'c> {
         self.name(self.outputs[port])
     }
 
-    /// What each component receives, and what leaves by the root's output ports, from what each component sends and
-    /// what comes to the root's input ports.
+    /// What each component receives, and what leaves at the root's output ports, from what each
+    /// component sends and what comes to the root's input ports.
     ///
     /// # Errors
     ///
@@ -311,7 +315,7 @@ impl<'c> Tree<'c> {
     }
 }
 
-/// The tables of the coupled ones of these models, from what they declare.
+/// The tables of the coupled models, from the scopes of all.
 fn tables_of(
     alloc: Global,
     items: &[&ModelItem],
@@ -327,7 +331,7 @@ fn tables_of(
     levels(alloc, items, models, &inputs, &outputs)
 }
 
-// The table of the root, where that is a coupled model.
+// The table of the root, if it is a coupled model.
 fn root_level(levels: &[Option<Level>], root: Option<usize>) -> Option<&Level>
     ensures { option_copied result ≡ root_level levels.now root }
 {
@@ -350,7 +354,7 @@ fn components_of(
     Ok(components)
 }
 
-// What travels below the root, and what leaves by its output ports.
+// What is received below the root, and what leaves at its output ports.
 fn route(
     alloc: Global,
     root: Option<&Level>,
@@ -384,7 +388,7 @@ fn route(
     Ok(Routed { received, leaving })
 }
 
-// The names of a path, joined by dots, behind a text.
+// Appends the names of a path to a text, with dots between them.
 fn push_path(text: &mut String, names: &Names, path: &[u32]) -> Result<(), AllocError>
     ensures { OnOk result (string_bytes text.new
         ≡ string_bytes text.old ++ with_dots (texts_of names.now path.now)) }
@@ -398,7 +402,7 @@ fn push_path(text: &mut String, names: &Names, path: &[u32]) -> Result<(), Alloc
     }
 }
 
-// Names, each behind a dot.
+// Appends names, each behind a dot.
 fn push_others(text: &mut String, names: &Names, numbers: &[u32]) -> Result<(), AllocError>
     ensures { OnOk result (string_bytes text.new
         ≡ string_bytes text.old ++ behind_dots (texts_of names.now numbers.now)) }
@@ -409,7 +413,7 @@ fn push_others(text: &mut String, names: &Names, numbers: &[u32]) -> Result<(), 
     Ok(())
 }
 
-// A dot and a name.
+// Appends a dot and a name.
 fn push_dotted(text: &mut String, name: &str) -> Result<(), AllocError>
     ensures { OnOk result (string_bytes text.new ≡ string_bytes text.old ++ 46 ∷ name.now) }
 {
