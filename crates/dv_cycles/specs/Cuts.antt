@@ -1,4 +1,4 @@
--- A list cut into lists.
+-- A list that is divided into lists.
 use Rattle.std.specs.Prelude.{ℕ, suc, ◌<◌, ◌≤◌, List, [], ◌∷◌, length, slice_index_or, slice_range}
 
 -- the lists that begin at these indices, each up to where the next one begins

@@ -1,5 +1,5 @@
 -- What a reader believes: directed graphs and ways in them.
 pub mod Ways
--- What serves proofs.
+-- What proofs need.
 pub mod Cuts
 pub mod Search

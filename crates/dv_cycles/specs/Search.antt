@@ -7,7 +7,7 @@ use Rattle.dv_cycles.specs.declared.search.Mark.TheVariants.{New, OnPath, Done}
 use Rattle.dv_cycles.specs.declared.search.Search.{Search}
 use Rattle.dv_cycles.specs.declared.search.Segment.{Segment}
 
--- the mark of a node; what is no node is new
+-- the mark of a node; an index that is no node counts as new
 abbrev pub mark_at : List Mark → ℕ → Mark
 mark_at marks node = slice_index_or marks node New
 
@@ -23,13 +23,13 @@ nowhere = record { first_node = 0; first_edge = 0 }
 abbrev pub segment_at : List Segment → ℕ → Segment
 segment_at segments i = slice_index_or segments i nowhere
 
--- a node that was not reached
+-- a node that has not been reached
 abbrev pub is_new : Mark → Bool
 is_new New = true
 is_new (OnPath position) = false
 is_new (Done component) = false
 
--- how many nodes were not reached
+-- the number of nodes that have not been reached
 abbrev pub new_count : List Mark → ℕ
 new_count marks = count_by is_new marks
 
@@ -54,19 +54,19 @@ IsHeld first New = ⊥
 IsHeld first (OnPath position) = first ≤ position
 IsHeld first (Done component) = Unit {0}
 
--- a node of a component that was done no later than one
+-- a node of a component that was done no later than a given one
 abbrev pub IsDoneBy : ℕ → Mark → Type 0
 IsDoneBy component New = ⊥
 IsDoneBy component (OnPath position) = ⊥
 IsDoneBy component (Done earlier) = earlier ≤ component
 
--- the mark of a node once the path from a position on is a component
+-- the mark of a node after the path from a position on has become a component
 abbrev pub settled : ℕ → ℕ → Mark → Mark
 settled component first New = New
 settled component first (OnPath position) = if nat_lt position first then OnPath position else Done component
 settled component first (Done earlier) = Done earlier
 
--- where a search has come to: its marks, and its path, pending edges and segments as counts and functions of indices
+-- the state of a search: its marks, and its path, pending edges and segments as counts and functions of indices
 pub record State : Type 0 where
   pub mark : ℕ → Mark
   pub nodes : ℕ
@@ -77,7 +77,7 @@ pub record State : Type 0 where
   pub segment : ℕ → Segment
   pub components : ℕ
 
--- the state of lists
+-- the state of four lists
 abbrev pub state : List Mark → List ℕ → List ℕ → List Segment → ℕ → State
 state marks path pending segments components = record {
   mark = mark_at marks;
@@ -105,7 +105,7 @@ pub record IsPending (edges : ℕ) (target : ℕ → ℕ) (first v : ℕ) : Type
   pub within : index < edges
   pub there : target index ≡ v
 
--- what is known of a segment, and of all that the path and the pending edges have after its beginning
+-- what is known of a segment, and of everything on the path and among the pending edges after its beginning
 pub record IsSegment (graph : List (List ℕ)) (s : State) (i : ℕ) : Type 0 where
   pub on_path : (s.segment i).first_node < s.nodes
   pub in_pending : (s.segment i).first_edge ≤ s.edges
@@ -119,7 +119,7 @@ pub record IsBefore (s t : Segment) : Type 0 where
   pub by_node : s.first_node < t.first_node
   pub by_edge : s.first_edge ≤ t.first_edge
 
--- the segment of a position, which leads back to where the segment begins
+-- the segment of a position, which leads back to the beginning of the segment
 pub record HasSegment (graph : List (List ℕ)) (s : State) (p : ℕ) : Type 0 where
   pub index : ℕ
   pub is_segment : index < s.segments
@@ -132,7 +132,7 @@ pub record IsSettled (graph : List (List ℕ)) (s : State) (u component : ℕ) :
   pub numbered : component < s.components
   pub leads_down : (v : ℕ) → leads graph u v ≡ true → IsDoneBy component (s.mark v)
 
--- a node is at the position of a path that its mark says
+-- a node is at the position of the path that its mark says
 pub record IsPositioned (nodes : ℕ) (node : ℕ → ℕ) (v position : ℕ) : Type 0 where
   pub on_path : position < nodes
   pub there : node position ≡ v
@@ -142,7 +142,7 @@ pub record IsPath (mark : ℕ → Mark) (nodes : ℕ) (node : ℕ → ℕ) : Typ
   pub positioned : (v position : ℕ) → mark v ≡ OnPath position → IsPositioned nodes node v position
   pub on_path : (p : ℕ) → p < nodes → mark (node p) ≡ OnPath p
 
--- what holds between the steps of a search
+-- the invariant of the search
 pub record IsValid (graph : List (List ℕ)) (s : State) : Type 0 where
   pub path : IsPath s.mark s.nodes s.node
   pub pending : (k : ℕ) → k < s.edges → s.target k < length graph
@@ -152,7 +152,7 @@ pub record IsValid (graph : List (List ℕ)) (s : State) : Type 0 where
   pub done : (u component : ℕ) → s.mark u ≡ Done component → IsSettled graph s u component
   pub together : (u v component : ℕ) → s.mark u ≡ Done component → s.mark v ≡ Done component → Reaches graph u v
 
--- the same of a search that has a mark for each node, and as many components, begun and to come, as there are nodes at most
+-- the invariant of a search with a mark for each node, and with no more components, begun and to come, than nodes
 pub record IsSearch (graph : List (List ℕ)) (s : Search) : Type 0 where
   pub marked : length s.marks.items ≡ length graph
   pub counted : s.components + length s.segments.items + new_count s.marks.items ≤ length graph
@@ -170,7 +170,7 @@ last_segment s = s.segment (s.segments - 1)
 abbrev pub last_target : State → ℕ
 last_target s = s.target (s.edges - 1)
 
--- the last segment has an edge to follow
+-- the last segment has a pending edge
 pub record IsOpen (s : State) : Type 0 where
   pub begun : 0 < s.segments
   pub edge : (last_segment s).first_edge < s.edges

@@ -10,7 +10,7 @@ is_in v nodes = list_any (λ w. w == v) nodes
 abbrev pub leads : List (List ℕ) → ℕ → ℕ → Bool
 leads graph u v = is_in v (slice_index_or graph u [])
 
--- a way of one node, of one edge, or through nodes below an index alone
+-- a way of one node, of one edge, or through nodes below an index
 abbrev pub has_way_below : ℕ → List (List ℕ) → ℕ → ℕ → Bool
 has_way_below zero graph u v = u == v || leads graph u v
 has_way_below (suc k) graph u v = has_way_below k graph u v || (has_way_below k graph u k && has_way_below k graph k v)
@@ -19,7 +19,7 @@ has_way_below (suc k) graph u v = has_way_below k graph u v || (has_way_below k 
 abbrev pub has_way : List (List ℕ) → ℕ → ℕ → Bool
 has_way graph u v = has_way_below (length graph) graph u v
 
--- the nodes that an edge leads to are nodes of the graph
+-- the targets of edges are nodes of the graph
 abbrev pub IsGraph : List (List ℕ) → Type 0
 IsGraph graph = All (All (λ v. v < length graph)) graph
 

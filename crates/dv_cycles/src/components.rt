@@ -7,14 +7,14 @@ use crate::graph::Graph;
 use crate::search::Search;
 use std::alloc::{AllocError, Global};
 
-/// For each node the number of its strong component: two nodes have the same number exactly where
+/// For each node the number of its strong component: two nodes have the same number if and only if
 /// each leads to the other. (Tarjan 1972; Cheriyan and Mehlhorn 1996; Gabow 2000.)
 ///
-/// It takes a time and a memory linear in nodes and edges, and no recursion.
+/// Time and memory are linear in the nodes and edges, and there is no recursion.
 ///
 /// # Errors
 ///
-/// No memory for what the search keeps of the nodes and edges, or for the numbers.
+/// No memory for the search or for the numbers.
 pub fn strong_components(alloc: Global, graph: &Graph) -> Result<Vec<usize>, AllocError>
     requires graph { IsGraph graph.now }
     ensures one_each { IfOk result (λ numbers. length numbers.items ≡ length graph.now) }

@@ -7,12 +7,13 @@ ghost use Rattle.dv_cycles.specs.Ways.{IsGraph};
 use std::alloc::{AllocError, Global};
 use std::marker::Model;
 
-/// A directed graph: for each node the nodes that its edges lead to.
+/// A directed graph: the targets of the edges of each node.
 #[derive(Drop)]
 pub struct Graph {
-    /// For each node the index where its edges begin; they end where those of the next one begin.
+    /// For each node the index at which its edges begin; they end where those of the next one
+    /// begin.
     starts: Vec<usize>,
-    /// The nodes that the edges lead to.
+    /// The targets of the edges.
     targets: Vec<usize>,
 }
 
@@ -28,7 +29,7 @@ impl Model for Graph {
 }
 
 impl Graph {
-    /// The graph of no nodes, which takes no memory.
+    /// The graph without nodes. It takes no memory.
     pub fn new(alloc: Global) -> Self
         ensures { result ≡ [] }
     {
@@ -38,14 +39,14 @@ impl Graph {
         }
     }
 
-    /// How many nodes there are.
+    /// The number of nodes.
     pub fn len(&self) -> usize
         ensures { result ≡ length self.now }
     {
         self.starts.len()
     }
 
-    /// One more node, with edges to these nodes, which need not be there yet.
+    /// Adds a node with edges to these nodes, which may be added later.
     ///
     /// # Errors
     ///
@@ -62,7 +63,7 @@ impl Graph {
         Ok(())
     }
 
-    /// The nodes that the edges of a node lead to.
+    /// The targets of the edges of a node.
     pub fn targets(&self, node: usize) -> &[usize]
         requires { node < length self.now }
         ensures { result.now ≡ slice_index_or self.now node [] }
@@ -83,7 +84,7 @@ impl Graph {
     }
 }
 
-/// The part of a list that begins at an index of a cut.
+/// The part of a list that begins at an index of `starts`.
 fn part<'a>(starts: &[usize], targets: &'a [usize], index: usize) -> &'a [usize]
     requires index { index < length starts.now }
     requires cut { IsCut starts.now (length targets.now) }
@@ -95,7 +96,7 @@ fn part<'a>(starts: &[usize], targets: &'a [usize], index: usize) -> &'a [usize]
     &targets[start..end]
 }
 
-/// The index at which the part that begins at an index of a cut ends.
+/// The end of the part that begins at an index of `starts`.
 fn end_of(starts: &[usize], index: usize, total: usize) -> usize
     requires index { index < length starts.now }
     requires cut { IsCut starts.now total }
@@ -109,7 +110,7 @@ fn end_of(starts: &[usize], index: usize, total: usize) -> usize
     }
 }
 
-/// Whether each of these nodes is one of the first so many.
+/// Whether each of these nodes is below a number of nodes.
 fn are_below(targets: &[usize], nodes: usize) -> bool
     ensures { IsTrue result ↔ All (λ v. v < nodes) targets.now }
 {

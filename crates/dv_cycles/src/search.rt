@@ -1,9 +1,9 @@
-//! The depth first search that finds strong components.
+//! The depth-first search that finds strong components.
 //!
-//! The nodes that are begun and not yet done are a path, cut into segments. The nodes of a segment
-//! lead to each other, and each segment leads to the next one. An edge from the last segment back
-//! to a node of the path joins the segments from that node's one on. A last segment with no edge
-//! left to follow is a strong component.
+//! The nodes that are begun and not yet done are a path, which is divided into segments. The nodes
+//! of a segment lead to each other, and each segment leads to the next one. An edge from the last
+//! segment back to a node of the path joins all segments from that node on. When no edge of the
+//! last segment is left, it is a strong component.
 
 ghost use Rattle.std.specs.Prelude.{◌≡◌, ◌≢◌, ℕ, ◌+◌, ◌-◌, ◌<◌, ◌≤◌, List, length, map, take, true, false, vec_len, IfOk, OnOk};
 ghost use Rattle.dv_cycles.specs.Ways.{IsGraph};
@@ -14,14 +14,14 @@ ghost use Rattle.dv_cycles.specs.declared.search.Mark.TheVariants.{New, OnPath};
 use crate::graph::Graph;
 use std::alloc::{AllocError, Global};
 
-/// How far the search has come with a node.
+/// The state of a node in the search.
 #[derive(Clone, Copy)]
 pub enum Mark {
-    /// It was not reached.
+    /// It has not been reached.
     New,
     /// It is at a position of the path.
     OnPath(usize),
-    /// It is in the component of a number.
+    /// It is in the component with this number.
     Done(usize),
 }
 
@@ -34,18 +34,18 @@ pub struct Segment {
     pub first_edge: usize,
 }
 
-/// A search as far as it has come.
+/// The state of a search.
 #[derive(Drop)]
 pub struct Search {
-    /// For each node how far the search has come with it.
+    /// The state of each node.
     pub marks: Vec<Mark>,
     /// The nodes that are begun and not yet done.
     pub path: Vec<usize>,
-    /// The nodes that the edges not yet followed lead to.
+    /// The targets of the edges that have not been followed yet.
     pub pending: Vec<usize>,
     /// The segments of the path.
     pub segments: Vec<Segment>,
-    /// How many components are done.
+    /// The number of components that are done.
     pub components: usize,
 }
 
@@ -59,7 +59,7 @@ impl Mark {
         }
     }
 
-    /// The number of the node's component, and 0 where it has none yet.
+    /// The number of the node's component: 0 if it has none yet.
     fn number(self) -> usize
         ensures { result ≡ number_of self }
     {
@@ -71,7 +71,7 @@ impl Mark {
 }
 
 impl Search {
-    /// A search of so many nodes that has not begun.
+    /// A search over `nodes` nodes that has not begun.
     pub fn new(alloc: Global, nodes: usize) -> Result<Search, AllocError>
         ensures search { (graph : List (List ℕ)) → IsGraph graph → length graph ≡ nodes
             → IfOk result (IsSearch graph) }
@@ -87,7 +87,7 @@ impl Search {
         })
     }
 
-    /// Whether a node was not reached yet.
+    /// Whether a node has not been reached yet.
     pub fn is_new(&self, node: usize) -> bool
         requires { node < vec_len self.now.marks }
         ensures { result ≡ is_new (mark_at self.now.marks.items node) }
@@ -95,7 +95,7 @@ impl Search {
         self.marks[node].is_new()
     }
 
-    /// Finds all that a new node leads to.
+    /// Searches everything that a new node leads to.
     pub fn explore(&mut self, graph: &Graph, root: usize) -> Result<(), AllocError>
         requires graph { IsGraph graph.now }
         requires search { IsSearch graph.now self.old }
@@ -112,7 +112,7 @@ impl Search {
         Ok(())
     }
 
-    /// Puts a new node at the end of the path, as a segment of its own.
+    /// Appends a new node to the path, as a segment of its own.
     fn visit(&mut self, graph: &Graph, node: usize) -> Result<(), AllocError>
         requires graph { IsGraph graph.now }
         requires search { IsSearch graph.now self.old }
@@ -135,7 +135,7 @@ impl Search {
         Ok(())
     }
 
-    /// Follows edges until one leads to a new node, and visits it; `false` where the path is done.
+    /// Follows edges until one leads to a new node, and visits that; `false` if the path is done.
     fn advance(&mut self, graph: &Graph) -> Result<bool, AllocError>
         requires graph { IsGraph graph.now }
         requires search { IsSearch graph.now self.old }
@@ -164,7 +164,7 @@ impl Search {
         Ok(false)
     }
 
-    /// Leaves the last pending edge, which leads to a node that is done.
+    /// Removes the last pending edge, which leads to a node that is done.
     fn pass(&mut self)
         requires edge { IsOpen (state_of self.old) }
         requires held { IsHeld (last_segment (state_of self.old)).first_node
@@ -178,7 +178,7 @@ impl Search {
         self.pending.pop();
     }
 
-    /// Joins the segments that the last pending edge makes a cycle of, and leaves that edge.
+    /// Joins the segments that are on a cycle with the last pending edge, and removes that edge.
     fn close(&mut self, position: usize)
         requires edge { IsOpen (state_of self.old) }
         requires on_path { mark_at self.old.marks.items (last_target (state_of self.old))
@@ -193,7 +193,7 @@ impl Search {
         self.pending.pop();
     }
 
-    /// Makes a component of the last segment, whose edges are all followed.
+    /// Makes a component of the last segment, of which all edges have been followed.
     fn finish(&mut self)
         requires begun { 0 < vec_len self.old.segments }
         requires followed { vec_len self.old.pending
@@ -224,7 +224,7 @@ impl Search {
     }
 }
 
-/// Joins the segments from the one that has a position of the path on.
+/// Joins the segments from the one that contains a position of the path.
 fn join(segments: &mut Vec<Segment>, position: usize)
     ensures kept { segments.new.items ≡ take (vec_len segments.new) segments.old.items }
     ensures joined { (i : ℕ) → vec_len segments.new ≤ i → i < vec_len segments.old
@@ -238,7 +238,7 @@ fn join(segments: &mut Vec<Segment>, position: usize)
     }
 }
 
-/// Takes the nodes from a position on off the path, and marks them as done.
+/// Removes the nodes from a position on from the path, and marks them as done.
 fn settle(marks: &mut Vec<Mark>, path: &mut Vec<usize>, first: usize, component: usize)
     requires path { IsPath (mark_at marks.old.items) (vec_len path.old) (node_at path.old.items) }
     requires first { first ≤ vec_len path.old }
