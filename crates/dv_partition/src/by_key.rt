@@ -6,8 +6,8 @@ ghost use Rattle.dv_partition.specs.Steps.{with_item, with_key};
 
 use std::alloc::{AllocError, Global};
 
-/// The items by their keys: a list for each key below a count, in the order of the items. An item whose key is not below the
-/// count is dropped.
+/// The items by key: a list for each key below `count`, in the order of the items. Items with other
+/// keys are dropped.
 ///
 /// # Errors
 ///

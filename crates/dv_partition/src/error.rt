@@ -8,17 +8,18 @@ use std::fmt;
 /// The number of a refusal.
 #[derive(Clone, Copy, Debug, PartialEq, Eq)]
 pub enum PartitionRefusal {
-    /// The text is not JSON, or not an object with the one key `processes`, a list of lists of strings.
+    /// The text is not JSON, or not an object with the one key `processes`, a list of lists of
+    /// strings.
     Q1,
     /// A path that no component has.
     Q2,
-    /// A component that stands twice, or nowhere.
+    /// A component that is listed twice, or not at all.
     Q3,
     /// No process, too many of them, or one without a component.
     Q4,
 }
 
-/// Why a partition has no groups.
+/// Why there are no groups.
 #[derive(Clone, Copy, PartialEq, Eq, Drop)]
 pub enum PartitionError {
     /// The partition is refused.

@@ -9,7 +9,8 @@ use crate::by_key::by_key;
 use std::alloc::{AllocError, Global};
 use std::marker::Model;
 
-/// The components of so many processes. Each component is in one process; a contract sees the process of each.
+/// The components of each process. Each component is in one process; contracts see the process of
+/// each.
 #[derive(Drop)]
 pub struct Groups {
     owners: Vec<u32>,
@@ -48,7 +49,7 @@ impl Groups {
         Ok(Groups { owners, members })
     }
 
-    /// How many processes there are.
+    /// The number of processes.
     pub fn processes(&self) -> usize
         ensures exact { result ≡ self.now.processes }
         ensures some { 0 < result }
@@ -67,7 +68,7 @@ impl Groups {
         &self.owners
     }
 
-    /// The process of a component; of what is none process 0.
+    /// The process of a component: 0 if there is no such component.
     pub fn owner(&self, component: u32) -> u32
         ensures exact { result ≡ owner_of self.now component }
         ensures below { result < self.now.processes }
@@ -91,7 +92,7 @@ impl Groups {
     }
 }
 
-// The numbers below a count.
+// The numbers below a count, in order.
 fn numbers_below(alloc: Global, count: usize) -> Result<Vec<u32>, AllocError>
     requires { count ≤ 2 ^ 32 }
     ensures { IfOk result (λ numbers. numbers.items ≡ range_with_len 0 count) }

@@ -18,8 +18,8 @@ type Numbers<'a> = HashMap<&'a str, u32>;
 ///
 /// # Errors
 ///
-/// Q2 and Q3 for the first listed path in reading order that no component has or that stood before, then Q3 where a
-/// component is missing. No memory for the tables and the processes.
+/// Q2 and Q3 for the first listed path in reading order that no component has or that was listed
+/// before, then Q3 if a component is missing. No memory for the tables and the processes.
 pub(crate) fn owners(
     alloc: Global,
     paths: &[String],
@@ -41,7 +41,7 @@ pub(crate) fn owners(
     owners_by(alloc, &listed, paths)
 }
 
-// The paths that there are.
+// The number of each path.
 fn known_paths<'a>(alloc: Global, paths: &'a [String]) -> Result<Numbers<'a>, AllocError>
     ensures { IfOk result (λ known. (text : Text) → is_in known text
         ≡ stands text (map string_bytes paths.now)) }
@@ -75,7 +75,7 @@ fn listed<'a>(
     Ok(listed)
 }
 
-// Puts the paths of a process in their places.
+// Adds the paths of a process.
 fn list_paths<'a>(
     process: u32,
     known: &Numbers<'_>,
