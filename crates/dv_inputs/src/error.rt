@@ -5,17 +5,17 @@ ghost use Rattle.std.specs.Prelude.{◌≡◌};
 use std::alloc::AllocError;
 use std::fmt;
 
-/// The number of a refusal. Of those that a line has, the least is answered.
+/// The number of a refusal. Of several for one line, the least is the answer.
 #[derive(Clone, Copy, Debug, PartialEq, Eq)]
 pub enum InputRefusalNumber {
-    /// The line is not UTF-8, or has not three fields, or its time is not decimal digits up to the greatest tick, with a
-    /// dot and decimal digits up to the greatest microstep limit behind them or not.
+    /// The line is not UTF-8, does not have three fields, or its time is not a tick up to the
+    /// greatest in decimal digits, with or without a dot and a microstep up to the greatest limit.
     I1,
     /// The root has no input port of this name.
     I2,
-    /// The time is before that of the input before.
+    /// The time is before that of the previous input.
     I3,
-    /// The value is not decimal digits, with `-` before them or not, from -2^63 to 2^63 - 1.
+    /// The value is not a number from -2^63 to 2^63 - 1 in decimal digits, with or without `-`.
     I4,
     /// The microstep is above the limit of the run.
     I5,
@@ -38,7 +38,7 @@ impl fmt::Display for InputRefusalNumber {
     }
 }
 
-/// A refused text as it is answered: which refusal, and the line, counted from 1.
+/// The answer for a refused text: which refusal, and its line, counted from 1.
 #[derive(Clone, Copy, Debug, PartialEq, Eq)]
 pub struct InputRefusal {
     /// The number of the refusal.

@@ -7,7 +7,7 @@ ghost use Rattle.dv_inputs.specs.Reading.{three_of};
 
 use crate::lines::{bytes_from, is_blank};
 
-// How many bytes there are up to the next blank.
+// The number of bytes before the next blank.
 fn field_len(bytes: &[u8]) -> usize
     ensures { result ≡ length (take_while (λ b. not (is_blank b)) bytes.now) }
 {
@@ -21,7 +21,7 @@ fn field_offset(line: &[u8]) -> Option<usize>
     line.iter().position(|byte| !is_blank(*byte))
 }
 
-// The first field of a line, and what follows it.
+// The first field of a line, and the rest.
 fn split_field(line: &[u8]) -> Option<(&[u8], &[u8])>
     ensures { MatchOption result (fields_of line.now ≡ [])
         (λ r. fields_of line.now ≡ r.0.now ∷ fields_of r.1.now) }
@@ -30,7 +30,7 @@ fn split_field(line: &[u8]) -> Option<(&[u8], &[u8])>
     Some(fields.split_at(field_len(fields)))
 }
 
-/// The fields of a line that has three.
+/// The fields of a line, if it has three.
 pub(crate) fn three_fields(line: &[u8]) -> Option<(&[u8], &[u8], &[u8])>
     ensures { option_map (λ r. (r.0.now, r.1.now, r.2.now)) result ≡ three_of (fields_of line.now) }
 {

@@ -1,4 +1,4 @@
-//! Laws of texts. Each function stands for the law or the worked rows in its contract; its body does nothing.
+//! Laws of texts. Each function states a law or worked rows in its contract; its body does nothing.
 
 ghost use Rattle.std.specs.Prelude.{◌≡◌, ◌+◌, ◌-◌, ◌<◌, ◌≤◌, ◌^◌, ℕ, IsTrue, List, [], ◌∷◌, ◌++◌, All, length};
 ghost use Rattle.std.specs.Prelude.{codes, Some, None, Ok, Err, ℤ, pos, neg_ℤ};
@@ -22,20 +22,21 @@ pub fn inputs_are_at_ports()
         → reading_of text ports limit ≡ Ok inputs → All (λ i. i.port < length ports) inputs }
 {}
 
-/// Each input of a text comes at a time of the run: its microstep is within the limit.
+/// Each input of a text is at a time of the run: its microstep is within the limit.
 pub fn inputs_are_within_the_limit()
     ensures { (text : List ℕ) (ports : List (List ℕ)) (limit : ℕ) (inputs : List Input)
         → reading_of text ports limit ≡ Ok inputs → All (λ i. IsOfRun limit i.time) inputs }
 {}
 
-/// A greater limit reads what a smaller one reads. So what is said without microsteps is read alike under every limit.
+/// A greater limit reads what a smaller one reads. So a text without microsteps is read the same
+/// under every limit.
 pub fn a_greater_limit_reads_the_same()
     ensures { (text : List ℕ) (ports : List (List ℕ)) (limit more : ℕ) (inputs : List Input)
         → limit ≤ more → reading_of text ports limit ≡ Ok inputs
         → reading_of text ports more ≡ Ok inputs }
 {}
 
-/// A line ends at its line feed, or with the text, and loses one carriage return there.
+/// A line ends at its line feed, or with the text, and one carriage return before that is dropped.
 pub fn lines_end_at_line_feeds()
     ensures line { (line rest : List ℕ) → HasNoFeed line
         → lines_of (line ++ 10 ∷ rest) ≡ line ∷ lines_of rest }
@@ -44,7 +45,7 @@ pub fn lines_end_at_line_feeds()
     ensures carriage_return { (line : List ℕ) → without_return (line ++ 13 ∷ []) ≡ line }
 {}
 
-/// The fields of a line are what stands between blanks.
+/// The fields of a line are what is between blanks.
 pub fn fields_stand_between_blanks()
     ensures blanks { (blanks rest : List ℕ) → IsBlank blanks
         → fields_of (blanks ++ rest) ≡ fields_of rest }
@@ -52,7 +53,7 @@ pub fn fields_stand_between_blanks()
         → fields_of (field ++ rest) ≡ field ∷ fields_of rest }
 {}
 
-/// A tick without a microstep says its start, however it is written.
+/// A tick without a microstep means its start, with any number of leading zeros.
 pub fn a_tick_alone_says_its_start()
     ensures { (field : List ℕ) (tick : ℕ) → tick_in field ≡ Some tick
         → time_in field ≡ Some (start_of tick) }
@@ -67,7 +68,8 @@ pub fn numbers_are_read_as_printed()
         → value_in (signed_decimal value) ≡ Some value }
 {}
 
-/// A tick above the greatest is refused, and so is a time whose microstep is above the greatest limit.
+/// A tick above the greatest is refused, and so is a time whose microstep is above the greatest
+/// limit.
 pub fn numbers_past_the_greatest_are_refused()
     ensures tick { (tick : ℕ) → greatest_tick < tick → tick < 2 ^ 64
         → tick_in (decimal tick) ≡ None }
@@ -75,14 +77,15 @@ pub fn numbers_past_the_greatest_are_refused()
         → time.micro < 2 ^ 64 → time_in (time_text time) ≡ None }
 {}
 
-/// Inputs within a limit that are written as a text, a line each, are read from it, all of them and in their order.
+/// Inputs within a limit that are written as a text, one in a line, are read from it, all of them
+/// and in order.
 pub fn inputs_are_read_as_written()
     ensures { (ports : List (List ℕ)) (limit : ℕ) (inputs : List Input)
         → IsByTime inputs → All (CanBeSaid ports limit) inputs
         → reading_of (text_of ports inputs) ports limit ≡ Ok inputs }
 {}
 
-/// What lines say.
+/// What lines mean.
 pub fn rows_of_inputs()
     ensures once { reading_of (codes "5 x 10") x_and_y 20 ≡ Ok (input 5 0 (pos 10) ∷ []) }
     ensures copies { reading_of (two_lines (codes "5 y 10") feed (codes "5 y 10")) x_and_y 20
@@ -109,7 +112,7 @@ pub fn rows_of_inputs()
         ≡ Ok (input 5 0 (pos 1) ∷ input 5 1 (pos 2) ∷ []) }
 {}
 
-/// What lines are refused.
+/// Which lines are refused, and why.
 pub fn rows_of_refusals()
     ensures two_fields { reading_of (codes "5 x") x_and_y 20 ≡ Err (refusal I1 1) }
     ensures sign_before_a_blank { reading_of (codes " # 5 x") x_and_y 20 ≡ Err (refusal I1 1) }

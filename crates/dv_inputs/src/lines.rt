@@ -33,7 +33,7 @@ pub(crate) fn bytes_from(bytes: &[u8], offset: usize) -> &[u8]
     &bytes[offset..]
 }
 
-/// The first line of a text that is not empty, and what follows its line feed.
+/// The first line of a text that is not empty, and what is behind its line feed.
 pub(crate) fn split_line(text: &[u8]) -> (&[u8], &[u8])
     requires { 0 < length text.now }
     ensures lines { lines_of text.now ≡ result.0.now ∷ lines_of result.1.now }
@@ -45,7 +45,7 @@ pub(crate) fn split_line(text: &[u8]) -> (&[u8], &[u8])
     }
 }
 
-/// The line without one carriage return at its end, where it has one.
+/// The line without one carriage return at its end, if there is one.
 pub(crate) fn without_return(line: &[u8]) -> &[u8]
     ensures { result.now ≡ without_return line.now }
 {
@@ -55,7 +55,7 @@ pub(crate) fn without_return(line: &[u8]) -> &[u8]
     }
 }
 
-/// Whether the line is empty, has a `#` in front, or is of blanks alone.
+/// Whether the line is empty, begins with `#`, or has only blanks.
 pub(crate) fn is_passed_over(line: &[u8]) -> bool
     ensures { result ≡ is_passed_over line.now }
 {

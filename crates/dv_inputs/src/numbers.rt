@@ -15,14 +15,14 @@ fn all_digits(bytes: &[u8]) -> bool
     bytes.iter().all(|byte| byte.is_ascii_digit())
 }
 
-// Whether the bytes are decimal digits, and some.
+// Whether the bytes are decimal digits, at least one.
 fn is_numeral(bytes: &[u8]) -> bool
     ensures { result ≡ is_numeral bytes.now }
 {
     !bytes.is_empty() && all_digits(bytes)
 }
 
-// The number that decimal digits write, where it is below a bound.
+// The value of decimal digits, if it is below a bound.
 fn number_below(bound: u64, bytes: &[u8]) -> Option<u64>
     ensures { result ≡ number_below bound bytes.now }
 {
@@ -38,7 +38,7 @@ fn number_below(bound: u64, bytes: &[u8]) -> Option<u64>
     if number < bound { Some(number) } else { None }
 }
 
-// The number of decimal digits with its sign turned, where it is from -2^63 on.
+// The negated value of decimal digits, if it is at least -2^63.
 fn negative(bytes: &[u8]) -> Option<i64>
     ensures { result ≡ option_map (λ n. neg_ℤ (pos n)) (number_below (2 ^ 63 + 1) bytes.now) }
 {
@@ -46,7 +46,7 @@ fn negative(bytes: &[u8]) -> Option<i64>
     Some(-i128::from(number) as i64)
 }
 
-// The number of decimal digits, where it is at most 2^63 - 1.
+// The value of decimal digits, if it is at most 2^63 - 1.
 fn positive(bytes: &[u8]) -> Option<i64>
     ensures { result ≡ option_map pos (number_below (2 ^ 63) bytes.now) }
 {
@@ -54,14 +54,14 @@ fn positive(bytes: &[u8]) -> Option<i64>
     Some(number as i64)
 }
 
-// The tick that decimal digits write.
+// The tick of decimal digits, if it is not too great.
 fn tick_in(digits: &[u8]) -> Option<u64>
     ensures { result ≡ tick_in digits.now }
 {
     number_below(GREATEST_TICK + 1, digits)
 }
 
-// The microstep that decimal digits write.
+// The microstep of decimal digits, if it is not too great.
 fn micro_in(digits: &[u8]) -> Option<u32>
     ensures { result ≡ micro_in digits.now }
 {
@@ -76,7 +76,7 @@ fn dot_offset(field: &[u8]) -> Option<usize>
     field.iter().position(|byte| *byte == b'.')
 }
 
-/// The time that a field says.
+/// The time in a field, if it is one.
 pub(crate) fn time_in(field: &[u8]) -> Option<Time>
     ensures { result ≡ time_in field.now }
 {
@@ -93,7 +93,7 @@ pub(crate) fn time_in(field: &[u8]) -> Option<Time>
     }
 }
 
-/// The value that a field says.
+/// The value in a field, if it is one.
 pub(crate) fn value_in(field: &[u8]) -> Option<i64>
     ensures { result ≡ value_in field.now }
 {

@@ -10,7 +10,7 @@ use std::alloc::{AllocError, Global};
 /// The numbers of ports by the bytes of their names.
 pub(crate) type PortNumbers<'a> = IndexMap<&'a [u8], u32>;
 
-/// The numbers of ports that have these names, the first of a name that stands twice.
+/// The numbers of the ports with these names: if a name occurs twice, the first counts.
 pub(crate) fn port_numbers<'a>(
     alloc: Global,
     ports: &'a [String],
@@ -29,7 +29,7 @@ pub(crate) fn port_numbers<'a>(
     Ok(numbers)
 }
 
-/// The number of the port of this name.
+/// The number of the port with this name, if there is one.
 pub(crate) fn number_of(numbers: &PortNumbers<'_>, name: &[u8]) -> Option<u32>
     ensures { result ≡ number_in numbers.now name.now }
 {

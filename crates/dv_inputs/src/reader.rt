@@ -14,7 +14,7 @@ use dv_bag::{Input, Inputs};
 use dv_time::Time;
 use std::alloc::Global;
 
-// The input that a line says to a run with this limit, after one at the last time.
+// The input in a line, for a run with this limit, after an input at the time `last`.
 fn input_of(
     numbers: &PortNumbers<'_>,
     limit: u32,
@@ -44,7 +44,7 @@ fn input_of(
     Ok(Input { time, port, value })
 }
 
-// The input that a line says, where it is UTF-8.
+// The input in a line, which has to be UTF-8.
 fn tested_line(
     numbers: &PortNumbers<'_>,
     limit: u32,
@@ -59,7 +59,8 @@ fn tested_line(
     }
 }
 
-// The input of a line with this number, after those before it, where the line is not passed over.
+// Adds the input of a line to those before it, unless the line is a comment or blank. `line` is its
+// number.
 fn read_line(
     numbers: &PortNumbers<'_>,
     limit: u32,
@@ -82,7 +83,7 @@ fn read_line(
     }
 }
 
-// The inputs of all lines of a text, after those before them.
+// Adds the inputs of all lines of a text.
 fn read_lines(
     numbers: &PortNumbers<'_>,
     limit: u32,
@@ -108,15 +109,17 @@ fn read_lines(
     Ok(())
 }
 
-/// The inputs that a text says to a run with this microstep limit, where the root's input ports have these names, by number.
+/// The inputs of a text, for a run with this microstep limit, when the root's input ports have
+/// these names.
 ///
 /// # Errors
 ///
-/// `Refused` with the first refused line, counted from 1, and the least number that it has: `I1` where the line is not
-/// UTF-8, has not three fields, or its time is not decimal digits up to the greatest tick, with a dot and decimal digits up
-/// to the greatest microstep limit behind them or not; `I2` where no port has its name; `I3` where its time is before that
-/// of the input before; `I4` where its value is no number from -2^63 to 2^63 - 1; `I5` where its microstep is above the
-/// limit. `Memory` where an allocation was refused.
+/// `Refused` with the first refused line, counted from 1, and the least number that applies: `I1`
+/// if the line is not UTF-8, does not have three fields, or its time is not a tick up to the
+/// greatest in decimal digits, with or without a dot and a microstep up to the greatest limit; `I2`
+/// if no port has its name; `I3` if its time is before that of the previous input; `I4` if its
+/// value is not a number from -2^63 to 2^63 - 1; `I5` if its microstep is above the limit. `Memory`
+/// if an allocation was refused.
 pub fn read_inputs(
     alloc: Global,
     text: &[u8],
