@@ -1,4 +1,4 @@
-//! Laws of states that fit: what keeps to them, and behaviours that agree at them.
+//! Laws of states that fit: how they are kept, and behaviours that agree in them.
 
 ghost use Rattle.std.specs.Prelude.{◌≡◌, ℕ, ◌<◌, Bool, List};
 ghost use Rattle.dv_bag.specs.Bag.{Counts};
@@ -7,7 +7,8 @@ ghost use Rattle.dv_devs.specs.Network.{Network, components_at, emissions_at, tr
 ghost use Rattle.dv_devs.specs.Parts.{part_before};
 ghost use Rattle.dv_bag.specs.declared.state.State.{State};
 
-/// Where behaviours keep to the states that fit and only what may come arrives, the states of a run fit.
+/// If behaviours lead from states that fit to states that fit, and only what is allowed arrives,
+/// the states of a run fit.
 pub fn states_stay_fit<I>()
     ensures { (fits : ℕ → State → Bool) (comes : List Counts → Bool) (limit : ℕ)
         (net : Network I) (inputs : ℕ → I) (n : ℕ)
@@ -16,8 +17,9 @@ pub fn states_stay_fit<I>()
         → AllFit fits 0 (components_at limit net inputs n) }
 {}
 
-/// Networks whose behaviours agree at the states that fit, and in which values travel alike, run alike: as a text's
-/// network does by its rules and its coupling tree, so does one of compiled rules and direct links.
+/// Networks whose behaviours agree in the states that fit, and whose routing is the same, have the
+/// same runs. So a text's network, with its rules and its coupling tree, and one with compiled
+/// rules and direct links have the same runs.
 pub fn alike_networks_run_alike<I>()
     ensures components { (fits : ℕ → State → Bool) (comes : List Counts → Bool) (limit : ℕ)
         (net also : Network I) (inputs : ℕ → I) (n : ℕ)

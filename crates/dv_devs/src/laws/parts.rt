@@ -14,8 +14,9 @@ ghost use Rattle.dv_bag.specs.declared.entry.Outer.{Outer};
 
 use dv_bag::laws::bags;
 
-/// All that an instant adds is at its time: entries by the numbers of their components, and what leaves by port. All
-/// that was added before a rank is before its time. So a trace is its instants, one after the other.
+/// All that an instant adds is at its time: entries by the numbers of their components, and what
+/// leaves by port. All that was added before a rank is before its time. So a trace is its instants,
+/// one after the other.
 pub fn instants_are_at_their_time<I>()
     ensures at { (limit : ℕ) (net : Network I) (now : ℕ) (input : I) (cs : List Component)
         → IsAllAt (time_of limit now) (part_of_instant limit net now input cs) }
@@ -31,7 +32,7 @@ pub fn instants_are_at_their_time<I>()
         → IsAllBefore (time_of limit n) (part_before who limit net inputs n) }
 {}
 
-/// A trace, and each part of it, stands by time.
+/// A trace, and each part of it, is in the order of time.
 pub fn parts_are_by_time<I>()
     ensures trace { (limit : ℕ) (net : Network I) (inputs : ℕ → I) (n : ℕ)
         → IsByTime (trace_before limit net inputs n) }
@@ -39,7 +40,7 @@ pub fn parts_are_by_time<I>()
         → IsByTime (part_before who limit net inputs n) }
 {}
 
-/// The numbers of a whole model, counted from 0 on, rise.
+/// The numbers of a whole model, counted from 0 on, are ascending.
 pub fn counted_numbers_rise()
     ensures { (count : ℕ) → RiseFrom 0 (range_with_len 0 count) }
 {}
@@ -54,7 +55,8 @@ pub fn parts_are_of_the_trace<I>()
         ≡ filter (λ (e : Entry). who e.component) (trace_before limit net inputs n).entries }
 {}
 
-/// What is before a time stays: a part, or the trace, of a later rank cut there is that of the time.
+/// What is before a time does not change: a part, or the trace, of a later rank, cut there, is that
+/// of the time.
 pub fn cuts_are_earlier_parts<I>()
     ensures part { (limit : ℕ) (net : Network I) (inputs : ℕ → I) (who : ℕ → Bool) (n m : ℕ) → n ≤ m
         → before (time_of limit n) (part_before who limit net inputs m)
@@ -64,7 +66,8 @@ pub fn cuts_are_earlier_parts<I>()
         ≡ trace_before limit net inputs n }
 {}
 
-/// What is since a time in a part, or in the trace, of a later rank is what the instants between add.
+/// What is at a time or later in a part, or in the trace, of a later rank is what the instants
+/// between add.
 pub fn the_rest_is_between<I>()
     ensures part { (limit : ℕ) (net : Network I) (inputs : ℕ → I) (who : ℕ → Bool) (n m : ℕ) → n ≤ m
         → since (time_of limit n) (part_before who limit net inputs m)
@@ -84,8 +87,8 @@ pub fn parts_are_continued<I>()
         ≡ trace_before limit net inputs m }
 {}
 
-/// What leaves of disjoint sets of components, united by time and port, is what leaves of them together; of a set
-/// and of all others it is what leaves the model.
+/// What leaves disjoint sets of components, united by time and port, is what leaves them together;
+/// for a set and all other components it is what leaves the model.
 pub fn what_leaves_is_united<I>()
     ensures part { (limit : ℕ) (net : Network I) (inputs : ℕ → I) (who also : ℕ → Bool) (n : ℕ)
         → LeavesLinearly net → SendsBags limit net inputs n

@@ -6,7 +6,7 @@ pub mod clocks;
 /// Inputs at the end of a hold.
 pub mod confluent;
 
-/// What ends in a fault, and what just does not.
+/// What ends in a fault, and what does not, though it nearly does.
 pub mod faults;
 
 /// Inputs during a hold.

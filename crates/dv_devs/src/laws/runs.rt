@@ -8,8 +8,8 @@ ghost use Rattle.dv_devs.specs.Network.{Network, components_after, components_at
 ghost use Rattle.dv_devs.specs.Network.{trace_at, trace_before};
 ghost use Rattle.dv_devs.specs.NextTimes.{AllFrom, AllQuietForGood, HasEntry, IsFrom, IsReady, least_next};
 
-/// What is before a rank depends on what arrives before it, and what is sent at a rank depends on what arrives
-/// strictly before it: the heart of conservative execution.
+/// What is before a rank depends on what arrives before it, and what is sent at a rank depends on
+/// what arrives strictly before it. Conservative execution rests on this law.
 pub fn inputs_come_before<I>()
     ensures components { (limit : ℕ) (net : Network I) (i j : ℕ → I) (n : ℕ)
         → ArriveAlikeBefore net i j n
@@ -22,7 +22,8 @@ pub fn inputs_come_before<I>()
         → trace_before limit net i n ≡ trace_before limit net j n }
 {}
 
-/// Where no component is imminent, none sends. An instant at which none is and no values come changes nothing.
+/// If no component is imminent, none sends. An instant at which none is imminent and no values come
+/// changes nothing.
 pub fn idle_instants_change_nothing<I>()
     ensures emissions { (net : Network I) (now : ℕ) (cs : List Component)
         → IsTrue (none_imminent now cs) → length net.behaviours ≡ length cs
@@ -52,8 +53,8 @@ pub fn no_next_time_is_before_the_least()
         → n < m → IsFrom m (least_next cs) → IsTrue (none_imminent n cs) }
 {}
 
-/// No next time is missed: before the instant at a rank every next time is at that rank or later. A component that
-/// is quiet has none, and each behaviour keeps its component.
+/// No next time is missed: before the instant at a rank every next time is at that rank or later. A
+/// quiet component has none, and each behaviour keeps its component.
 pub fn next_times_rise<I>()
     ensures after_an_instant { (limit : ℕ) (net : Network I) (n : ℕ) (input : I)
         (cs : List Component)
@@ -69,7 +70,8 @@ pub fn next_times_rise<I>()
         → length net.behaviours ≡ length (components_at limit net inputs n) }
 {}
 
-/// Between one instant at which something happens and the next, the components and the trace stay.
+/// Between one instant at which something happens and the next, the components and the trace stay
+/// the same.
 pub fn runs_rest_between_instants<I>()
     ensures components { (limit : ℕ) (net : Network I) (inputs : ℕ → I)
         → IsReady net → (n m : ℕ) → n ≤ m
@@ -81,8 +83,9 @@ pub fn runs_rest_between_instants<I>()
         → trace_before limit net inputs m ≡ trace_before limit net inputs n }
 {}
 
-/// The next instant at which anything happens is that of the least of the components' next times, or of the next
-/// outside input. Nothing happens before it, and at the least next time a component that is imminent has an entry.
+/// The next instant at which anything happens is that of the least of the components' next times,
+/// or of the next outside input. Nothing happens before it, and at the least next time a component
+/// that is imminent has an entry.
 pub fn next_instant_is_the_least_next_time<I>()
     ensures components { (limit : ℕ) (net : Network I) (inputs : ℕ → I)
         → IsReady net → (n m : ℕ) → n ≤ m

@@ -15,7 +15,7 @@ pub fn a_clock_ticks()
     } }
 {}
 
-/// Within a horizon of 0 the clock does nothing.
+/// With a horizon of 0 the clock does nothing.
 pub fn horizon_zero()
     ensures { trace_to 1 0 clock no_input ≡ nothing }
 {}

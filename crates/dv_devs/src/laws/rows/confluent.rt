@@ -5,7 +5,8 @@ ghost use Rattle.dv_devs.specs.Models.{confluent_alone, fed_cell, relay_inputs, 
 ghost use Rattle.dv_devs.specs.Rows.{at, counter, input_at, inputs_at, no_input, one, phase_alone, trace_to, transition};
 ghost use Rattle.dv_bag.specs.declared.entry.Kind.TheVariants.{Internal, External, Confluent};
 
-/// An input at the end of the hold: the output is from before it, then the internal and the external transition.
+/// An input at the end of the hold: the output function is applied to the state before it, then
+/// come the internal and the external transition.
 pub fn confluent_at_the_hold()
     ensures { trace_to 1 5 fed_cell (input_at 10 (one (pos 10))) ≡ record {
       entries = transition (at 5 0) 0 Confluent (counter 0 (pos 11)) (one (pos 0) ∷ []) ∷ [];
@@ -24,8 +25,8 @@ pub fn value_arrives_twice()
     } }
 {}
 
-/// Two relays in a ring: at 12.0 an input comes as the first one's delay ends, and at 22.0 the value of each comes as
-/// the other's delay ends.
+/// Two relays in a ring: at 12.0 an input comes as the first one's delay ends, and at 22.0 the
+/// value of each comes as the other's delay ends.
 pub fn relays_meet()
     ensures { trace_to 1 22 (ring 10) relay_inputs ≡ record {
       entries = transition (at 2 0) 0 External (phase_alone 1) []
@@ -37,8 +38,8 @@ pub fn relays_meet()
     } }
 {}
 
-/// The hold that begins between the two rules of a default confluent transition asks for no microstep: at 2.1, the
-/// last one of its tick, a hold of 0 begins and is given up again.
+/// The hold that begins between the two rules of a default confluent transition needs no microstep:
+/// at 2.1, the last one of its tick, a hold of 0 begins and is replaced.
 pub fn the_hold_between_is_given_up()
     ensures { trace_to 1 3 (single short_hold (phase_alone 0) 5) (input_at 5 (one (pos 7)))
         ≡ record {
@@ -47,7 +48,7 @@ pub fn the_hold_between_is_given_up()
         } }
 {}
 
-/// A confluent rule stands in place of both others, and a hold begins after it also without a goto.
+/// A confluent rule replaces both others, and a hold begins after it even without a goto.
 pub fn a_confluent_rule_begins_a_hold()
     ensures { trace_to 1 5 (single confluent_alone (phase_alone 0) 4) (inputs_at 4 8 (one (pos 7)))
         ≡ record {

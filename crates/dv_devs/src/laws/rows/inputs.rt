@@ -5,7 +5,7 @@ ghost use Rattle.dv_devs.specs.Models.{fed_cell, fed_stopwatch};
 ghost use Rattle.dv_devs.specs.Rows.{at, counter, input_at, inputs_at, one, trace_to, transition};
 ghost use Rattle.dv_bag.specs.declared.entry.Kind.TheVariants.{Internal, External};
 
-/// An input at 3.0 leaves the hold that ends at 5.0 as it is.
+/// An input at 3.0 does not change the hold that ends at 5.0.
 pub fn hold_continues()
     ensures { trace_to 1 5 fed_cell (input_at 6 (one (pos 10))) ≡ record {
       entries = transition (at 3 0) 0 External (counter 0 (pos 10)) []
@@ -14,7 +14,8 @@ pub fn hold_continues()
     } }
 {}
 
-/// The elapsed time counts the ticks since the last transition, one after which the hold continued included.
+/// The elapsed time counts the ticks since the last transition, also one after which the hold
+/// continued.
 pub fn time_elapses_since_the_last_transition()
     ensures { trace_to 1 10 fed_stopwatch (inputs_at 6 15 (one (pos 7))) ≡ record {
       entries = transition (at 3 0) 0 External (counter 0 (pos 3)) []

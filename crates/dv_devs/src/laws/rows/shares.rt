@@ -7,7 +7,8 @@ ghost use Rattle.dv_devs.specs.Parts.{part_before};
 ghost use Rattle.dv_devs.specs.Rows.{at, one, phase_alone, trace_to, transition};
 ghost use Rattle.dv_bag.specs.declared.entry.Kind.TheVariants.{External, Confluent};
 
-/// The second of two relays, fed with what the first one sends it, has the trace that is its part of the ring's.
+/// The second of two relays, if it receives what the first one sends, has the trace that is its
+/// part of the ring's trace.
 pub fn a_relay_runs_alone()
     ensures alone { trace_to 1 22 (second_relay 10) (sent_by_first 1 10 relay_inputs)
         ≡ record {
