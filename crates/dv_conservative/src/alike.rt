@@ -8,9 +8,10 @@ ghost use Rattle.dv_conservative.specs.Process.{IsSettled, Outgoing, Packet, Sha
 ghost use Rattle.dv_conservative.specs.Process.{components_by, packet_of, part_by, promise, refusal_of, sent_on};
 ghost use Rattle.dv_conservative.specs.Turn.{IsTurnOf, Position, turned};
 
-/// Shares that are alike run alike, whatever they receive: they stand at the same components, commit the same parts, send the
-/// same in the same packets, promise the same, and refuse the same; a turn of one is a turn of the other, with the same answer.
-/// So a process that has a share of a plan runs as its share of the job.
+/// Shares that are alike run alike, for everything that they receive: they have the same
+/// components, commit the same parts, send the same in the same packets, promise the same, and
+/// refuse the same; a turn of one is a turn of the other, with the same answer. So a process with a
+/// share of a plan runs as its share of the job.
 pub fn alike_shares_run_alike()
     ensures itself { (s : Share) → AreAlike s s }
     ensures components { (s t : Share) (events : ℕ → List Event) (n : ℕ) → AreAlike s t

@@ -6,8 +6,9 @@ ghost use Rattle.dv_conservative.specs.Rounds.{AllHaveSources};
 ghost use Rattle.dv_conservative.specs.Sound.{AllHeard, AreApart};
 ghost use Rattle.dv_conservative.specs.World.{Channel, Job};
 
-/// Where there is a link from one process to another wherever a link between components crosses, each process hears from
-/// every other one that sends to it, and from each by one link alone; and each link leads from a process of the job to one.
+/// If there is a channel from one process to another wherever a link between components crosses,
+/// each process receives from every other one that sends to it, from each by one channel; and each
+/// channel leads from a process of the job to one.
 pub fn channels_are_where_links_cross()
     ensures apart { (job : Job) → job.channels ≡ all_channels job.owner job.flat.links job.processes
         → (q : ℕ) → AreApart job q job.channels }

@@ -12,8 +12,8 @@ pub fn deliveries_in_order_deliver_the_same()
     ensures { (who : ℕ → Bool) (ds : List Delivery) → SameFor who (in_order ds) ds }
 {}
 
-/// The events of a window are in order, each with a copy, and at each rank of it they are what is sent there, in order; at
-/// other ranks there are none.
+/// The events of a window are in order, each with a copy, and at each rank of the window they are
+/// what is sent there, in order; at other ranks there are none.
 pub fn the_events_of_a_window()
     ensures order { (limit : ℕ) (stream : ℕ → List Delivery) (from upto : ℕ)
         → AreInOrder (events_between limit stream from upto) }
@@ -28,7 +28,8 @@ pub fn the_events_of_a_window()
         → deliveries_at limit (events_between limit stream from upto) n ≡ [] }
 {}
 
-/// Two lists of events of a run, in order and with copies, that deliver the same at each rank are the same list.
+/// Two lists of events of a run, in order and with copies, that deliver the same at each rank are
+/// the same list.
 pub fn events_in_order_are_what_they_deliver()
     ensures { (limit : ℕ) (es fs : List Event) → AreInOrder es → AreInOrder fs → AllHaveCopies es
         → AllHaveCopies fs

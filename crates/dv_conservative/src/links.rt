@@ -7,7 +7,8 @@ ghost use Rattle.dv_devs.specs.Idle.{BringsNothing, LeavesOnlyWhatIsSent};
 ghost use Rattle.dv_conservative.specs.Flat.{Flat, network};
 ghost use Rattle.dv_conservative.specs.Links.{Delivery, Link, SameFor, carried_by, delivered, leads_to, times};
 
-/// A link adds the bag sent, with each count times its copies, at its port and nowhere else.
+/// A link adds the bag that is sent, with each count times its copies, at its port and nowhere
+/// else.
 pub fn a_link_adds_its_copies()
     ensures here { (l : Link) (sent bag : Counts)
         → delivered l.to l.to_port (carried_by l sent) bag ≡ union bag (times l.copies sent) }
@@ -25,7 +26,7 @@ pub fn deliveries_are_bags()
         (record { component = k; port = port; value = v; copies = capped (n + m) } ∷ ds) }
 {}
 
-/// Where nobody sends and nothing comes, nothing arrives and nothing leaves.
+/// If nothing is sent and nothing comes, nothing arrives and nothing leaves.
 pub fn nothing_comes_of_nothing()
     ensures arrives { (f : Flat) (outside : List Counts) → IsTrue (all_empty outside)
         → BringsNothing (network f) (outside, []) }

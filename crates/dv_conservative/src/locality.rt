@@ -1,4 +1,4 @@
-//! What the run of a share is of the whole run.
+//! The run of a share and the whole run.
 
 ghost use Rattle.std.specs.Prelude.{◌≡◌, ℕ, Bool, ◌<◌, List};
 ghost use Rattle.dv_bag.specs.Bag.{Counts};
@@ -7,9 +7,10 @@ ghost use Rattle.dv_devs.specs.Parts.{part_before};
 ghost use Rattle.dv_conservative.specs.Flat.{Flat, crossings, fed, kept, network, numbers, others, sends_by, share, whole};
 ghost use Rattle.dv_conservative.specs.Links.{Delivery, SameFor, links_between};
 
-/// Locality: of the rest of the model a set of components needs what truly crosses to it and nothing else. Fed with that
-/// and with the same bags from outside, before a rank, it runs by itself as it runs in the whole: at the rank its
-/// components are in the same states and send the same, and it has committed exactly its part of the trace.
+/// Locality: a set of components needs from the rest of the model what truly crosses to it and
+/// nothing else. If it receives that, and the same bags from outside, before a rank, it runs by
+/// itself as it runs in the whole: at the rank its components are in the same states and send the
+/// same, and it has committed exactly its part of the trace.
 pub fn a_share_runs_as_its_part()
     ensures components { (limit : ℕ) (f : Flat) (outside : ℕ → List Counts) (who : ℕ → Bool)
         (deliveries : ℕ → List Delivery) (n : ℕ)

@@ -1,4 +1,4 @@
-//! What a process knows of what it sends, whatever it received.
+//! What a process knows of what it sends, for everything that it received.
 
 ghost use Rattle.std.specs.Prelude.{◌≡◌, ℕ, suc, Bool, false, ◌<◌, ◌≤◌, List, None, min};
 ghost use Rattle.dv_bag.specs.declared.state.State.{State};
@@ -10,8 +10,8 @@ ghost use Rattle.dv_conservative.specs.Process.{events_by, known_until, least_cl
 ghost use Rattle.dv_conservative.specs.Process.{with_packet};
 ghost use Rattle.dv_conservative.specs.Sound.{AllReceivedNumbers, IsSoundShare};
 
-/// Promise: what a process sends before its promise is settled by what it received, true or not. A promise is later than
-/// the clock, or the end.
+/// Promise: what a process sends before its promise is settled by what it received, true or not. A
+/// promise is later than the clock, or at the end.
 pub fn promises_are_settled()
     ensures settled { (fits : ℕ → State → Bool) (s : Share) (received : ℕ → List Packet) (k : ℕ)
         (out : Outgoing) (u : Time)
@@ -25,8 +25,8 @@ pub fn promises_are_settled()
         → promise s received k ≤ end_rank s }
 {}
 
-/// A packet that is accepted changes nothing of the local run before the least channel clock: what stood, what was committed
-/// and what was sent there stay.
+/// A packet that is accepted changes nothing of the local run before the least channel clock:
+/// states, and what was committed and sent there, stay the same.
 pub fn packets_come_later()
     ensures components { (s : Share) (received : ℕ → List Packet) (p : Packet) (n : ℕ)
         → refusal_of s received p ≡ None
@@ -43,8 +43,8 @@ pub fn packets_come_later()
         ≡ sent_on s (events_by received) out n }
 {}
 
-/// Until when a process knows what comes, by its first input: a rank before which nothing comes, and at which something does
-/// or the least channel clock is.
+/// How long a process knows what comes, by its first input: a rank before which nothing comes, and
+/// at which something comes or the least channel clock is.
 pub fn inputs_are_known_until_the_first()
     ensures { (s : Share) (received : ℕ → List Packet) (k n : ℕ) → k ≤ n
         → n ≤ least_clock s received
@@ -53,8 +53,8 @@ pub fn inputs_are_known_until_the_first()
         → known_until s received k ≡ n }
 {}
 
-/// What is settled stays so: where a packet of numbers is accepted, what is sent before a settled time is the same as
-/// before, and the time is settled still.
+/// What is settled stays settled: if a packet of numbers is accepted, what is sent before a settled
+/// time is the same as before, and the time is settled still.
 pub fn what_is_settled_stays()
     ensures sent { (s : Share) (received : ℕ → List Packet) (p : Packet) (out : Outgoing) (u : Time)
         (n : ℕ)

@@ -1,4 +1,4 @@
-//! Until when what a run sends is known.
+//! How long it is known what a run sends.
 
 ghost use Rattle.std.specs.Prelude.{◌≡◌, ℕ, suc, Bool, ◌<◌, ◌≤◌, List, Option};
 ghost use Rattle.dv_bag.specs.Bag.{Counts};
@@ -9,8 +9,9 @@ ghost use Rattle.dv_time.specs.Time.{earlier};
 ghost use Rattle.dv_devs.specs.NextTimes.{IsFrom, IsReady, least_next};
 ghost use Rattle.dv_conservative.specs.Promise.{IsDecided, IsWaiting, foreseen, reach};
 
-/// Before its next time, and before an answer to the first input, a waiting run sends nothing; and what it sends before
-/// what is foreseen is the same whatever comes from the first input on. What is foreseen is always later than the run stands.
+/// Before its next time, and before it can answer its first input, a waiting run sends nothing; and
+/// what it sends before the rank that is foreseen is the same for all that comes from the first
+/// input on. The rank that is foreseen is always later than that of the run.
 pub fn what_is_foreseen_is_decided<I>()
     ensures silent { (fits : ℕ → State → Bool) (comes : List Counts → Bool) (r : Option ℕ)
         (limit : ℕ)

@@ -6,8 +6,9 @@ ghost use Rattle.dv_conservative.specs.Process.{channel_clock};
 ghost use Rattle.dv_conservative.specs.Rounds.{AllHaveSources, AreRounds};
 ghost use Rattle.dv_conservative.specs.World.{Channel, IsRun, Job, Reply, Step, World, new_world, received_in};
 
-/// After each round of a new world that has memory every channel clock is a rank further, and every clock follows one rank
-/// behind; so one round more than there are ranks before the end brings all clocks to the end.
+/// After each round of a new world that has memory every channel clock is a rank further, and every
+/// clock follows one rank behind; so one more round than there are ranks before the end brings all
+/// clocks to the end.
 pub fn rounds_are_enough()
     ensures clocks { (job : Job) (capacity k : ℕ) (w : World) → 0 < capacity
         → AllHaveSources job.processes job.channels
@@ -25,7 +26,7 @@ pub fn rounds_are_enough()
         → (p : ℕ) → p < job.processes → w.clock p ≡ record { tick = job.horizon + 1; micro = 0 } }
 {}
 
-/// Rounds are a run of the world, so all that is so after every run is so after them.
+/// Rounds are a run of the world, so whatever is true after every run is true after them.
 pub fn rounds_are_runs()
     ensures { (job : Job) (k : ℕ) (w v : World) → AreRounds job k w v
         → (steps : List (Step × Reply)) × IsRun job steps w v }

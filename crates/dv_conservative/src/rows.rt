@@ -25,8 +25,8 @@ pub fn the_whole()
     } }
 {}
 
-/// There is one link, from the clock's process to the cell's. The packet up to 5.1 carries what the clock sends at 5.0, with
-/// its two copies.
+/// There is one channel, from the clock's process to the cell's. The packet up to 5.1 carries what
+/// the clock sends at 5.0, with its two copies.
 pub fn the_clock_sends()
     ensures channels { clock_and_cell.channels ≡ record { source = 0; target = 1 } ∷ [] }
     ensures packet { packet_of (share_of clock_and_cell 0) (events_by nothing_received)
@@ -35,7 +35,7 @@ pub fn the_clock_sends()
         (record { time = at 5 0; component = 1; port = 0; value = pos 0; copies = 2 } ∷ []) }
 {}
 
-/// Fed with what crosses, the cell's process commits its part.
+/// If it receives what crosses, the cell's process commits its part.
 pub fn the_cell_alone()
     ensures { part_by (share_of clock_and_cell 1)
         (λ l. events_between 1
@@ -48,8 +48,9 @@ pub fn the_cell_alone()
         } }
 {}
 
-/// At 0.0 both promise up to 5.0, their next time, since neither ever answers an input. At 5.0, its next time, the clock
-/// promises up to 5.1. A relay that may answer at once promises up to 0.1, and past the end nobody promises.
+/// At 0.0 both promise up to 5.0, their next time, since neither ever answers an input. At 5.0, its
+/// next time, the clock promises up to 5.1. A relay that may answer at once promises up to 0.1, and
+/// past the end there is no promise.
 pub fn promises()
     ensures cell { promise (share_of clock_and_cell 1) nothing_received 0 ≡ 10 }
     ensures clock { promise (share_of clock_and_cell 0) nothing_received 0 ≡ 10 }
@@ -59,7 +60,7 @@ pub fn promises()
         ≡ end_of 1 10 }
 {}
 
-/// What a process that has received nothing answers to packets, and to one that comes again.
+/// How a process that has received nothing answers packets, and one packet that comes twice.
 pub fn packets_are_refused()
     ensures other_link { answer_to (packet 1 (at 0 0) (at 1 0) []) ≡ Some P1 }
     ensures later { answer_to (packet 0 (at 0 1) (at 1 0) []) ≡ Some P2 }
@@ -81,7 +82,8 @@ pub fn packets_are_refused()
         (packet 0 (at 0 0) (at 1 0) []) ≡ Some P2 }
 {}
 
-/// Two relays in a ring, each in a process of its own, are a job; so what is asked of jobs can be met.
+/// Two relays in a ring, each in a process of its own, are a job; so the requirements on jobs can
+/// be met.
 pub fn two_relays_are_a_job()
     ensures { IsJob (λ k s. true) two_relays }
 {}

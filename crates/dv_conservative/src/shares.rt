@@ -1,4 +1,4 @@
-//! What the process of a share starts from.
+//! The start of the process of a share.
 
 ghost use Rattle.std.specs.Prelude.{◌≡◌, ℕ, Bool, IsTrue, List, [], map};
 ghost use Rattle.std.specs.List.{list_all};
@@ -13,9 +13,9 @@ ghost use Rattle.dv_conservative.specs.Process.{Outgoing, Packet, Share, all_eve
 ghost use Rattle.dv_conservative.specs.Sound.{AllReceivedNumbers, IsJob, IsSoundShare, are_of_numbers, by_index};
 ghost use Rattle.dv_conservative.specs.World.{Job, share_of};
 
-/// The components of a process of a job are sound, and numbers come to them from outside. None has a next time before
-/// a rank where none of the whole model has. The links that lead to a process, and those that lead away, stand in the
-/// order of their numbers, each once.
+/// The components of a process of a job are sound, and numbers come to them from outside. None has
+/// a next time before a rank if none of the whole model has. The links that lead to a process, and
+/// those that lead away, are in the order of their numbers, each once.
 pub fn processes_start_sound()
     ensures sound { (fits : ℕ → State → Bool) (job : Job) (p : ℕ) → IsJob fits job
         → IsSoundShare fits (share_of job p) }
@@ -26,8 +26,9 @@ pub fn processes_start_sound()
         → RiseFrom 0 (map (λ (o : Outgoing). o.number) (share_of job p).outgoing) }
 {}
 
-/// Where packets of numbers are received, all of a process stays of numbers of the language: at each rank the states of its
-/// components fit, and before it numbers alone arrive at them and are sent by them.
+/// If packets of numbers are received, a process has numbers of the language alone: at each rank
+/// the states of its components fit, and before it only numbers arrive at them and are sent by
+/// them.
 pub fn numbers_stay_in_a_run()
     ensures states { (fits : ℕ → State → Bool) (s : Share) (received : ℕ → List Packet) (n : ℕ)
         → IsSoundShare fits s → AllReceivedNumbers received s.incoming
@@ -42,7 +43,8 @@ pub fn numbers_stay_in_a_run()
         (emissions_at s.limit (network s.flat) (inputs_by s (events_by received)) n)) }
 {}
 
-/// A process that has all components needs to hear from nobody: where no events come it commits the whole trace.
+/// A process that has all components receives from no other: without events it commits the whole
+/// trace.
 pub fn one_process_commits_the_trace()
     ensures { (job : Job) (p n : ℕ) (events : ℕ → List Event) → ((k : ℕ) → job.owner k ≡ p)
         → all_events (share_of job p).incoming events ≡ []

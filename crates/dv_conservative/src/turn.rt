@@ -8,7 +8,8 @@ ghost use Rattle.dv_conservative.specs.Turn.{AllStayOn, IsTurnOf, MayTurn, Posit
 ghost use Rattle.dv_conservative.specs.World.{IsRun, IsTurn, Job, Reply, StaysBeside, Step, World, new_world, position_in};
 ghost use Rattle.dv_conservative.specs.World.{received_in, share_of};
 
-/// What a turn may do is a step of the world, in every world that steps lead to: what it promises is settled.
+/// A turn that is allowed is a step of the world, in every world that steps lead to: what it
+/// promises is settled.
 pub fn a_turn_is_a_step()
     ensures { (fits : ℕ → State → Bool) (job : Job) (capacity : ℕ) (steps : List (Step × Reply))
         (w v : World) (p : ℕ)
@@ -18,7 +19,8 @@ pub fn a_turn_is_a_step()
         → IsTurn job p w v }
 {}
 
-/// After a turn that answers Waiting a further one changes nothing, as long as nothing is received and nothing is sent.
+/// After a turn that answers Waiting another one changes nothing, as long as nothing is received
+/// and nothing is sent.
 pub fn waiting_turns_change_nothing()
     ensures clock { (s : Share) (received : ℕ → List Packet) (before after later : Position)
         → IsTurnOf s received before after → turned s before after ≡ Waiting

@@ -1,4 +1,4 @@
-//! Every run of processes that exchange packets.
+//! All runs of processes that exchange packets.
 
 ghost use Rattle.std.specs.Prelude.{◌≡◌, ℕ, ◌+◌, ◌<◌, ◌≤◌, Bool, List, ◌∷◌, Some, None, length, nat_eq, slice_get};
 ghost use Rattle.std.specs.List.{filter};
@@ -16,9 +16,10 @@ ghost use Rattle.dv_conservative.specs.Sound.{IsJob};
 ghost use Rattle.dv_conservative.specs.True.{AreTrue, united};
 ghost use Rattle.dv_conservative.specs.World.{Channel, IsRun, Job, Reply, Step, World, all_of, new_world, owned, received_in, share_of};
 
-/// After any steps in any order, those that are refused and stops among them: every packet is true and joins the one before
-/// it; no clock passes a channel clock or the end; and each process stands where its part of the whole run stands before its
-/// clock, and has committed exactly its part of the trace before its clock.
+/// After any steps in any order, with refused ones and stops among them: every packet is true and
+/// continues the one before it; no clock passes a channel clock or the end; each process is where
+/// its part of the whole run is before its clock, and has committed exactly its part of the trace
+/// before its clock.
 pub fn every_process_commits_its_part()
     ensures packets { (fits : ℕ → State → Bool) (job : Job) (capacity : ℕ)
         (steps : List (Step × Reply)) (w : World)
@@ -68,7 +69,7 @@ pub fn no_packet_is_refused()
         → refusal_of (share_of job c.target) (received_in w) p ≡ None }
 {}
 
-/// Where every clock is at the end, each process has committed its part of the whole trace.
+/// If every clock is at the end, each process has committed its part of the whole trace.
 pub fn a_whole_run_is_the_trace()
     ensures { (fits : ℕ → State → Bool) (job : Job) (capacity : ℕ) (steps : List (Step × Reply))
         (w : World) (p : ℕ)
@@ -79,8 +80,8 @@ pub fn a_whole_run_is_the_trace()
         (end_of job.limit job.horizon) }
 {}
 
-/// The parts of all processes are the trace: each holds the entries of its components, and what leaves of all of them, united
-/// by time and port, is what leaves the model.
+/// The parts of all processes are the trace: each has the entries of its components, and what
+/// leaves all of them, united by time and port, is what leaves the model.
 pub fn parts_of_processes_are_the_trace<I>()
     ensures entries { (limit : ℕ) (net : Network I) (inputs : ℕ → I) (owner : ℕ → ℕ) (n p : ℕ)
         → (part_before (λ k. nat_eq (owner k) p) limit net inputs n).entries
