@@ -1,4 +1,4 @@
-//! The lines of a listing, put at the end of the text so far.
+//! The lines of a listing, appended to the text so far.
 
 ghost use Rattle.std.specs.Prelude.{◌≡◌, ◌++◌, length, OnOk, string_bytes};
 ghost use Rattle.dv_syntax.specs.Trees.{atomic_of};
@@ -16,7 +16,7 @@ use dv_syntax::Atomic;
 use dv_tree::Tree;
 use std::alloc::{AllocError, Global};
 
-/// An atomic model, with an empty line before it unless it is the first.
+/// Appends an atomic model, with an empty line before it unless it is the first.
 pub fn push_model(
     alloc: Global,
     text: &mut String,
@@ -32,7 +32,7 @@ pub fn push_model(
     push_model_in(alloc, text, tree, is_first, model, &scope)
 }
 
-// The same, where the names of the model are in this scope.
+// The same, for the scope of the model.
 fn push_model_in(
     alloc: Global,
     text: &mut String,
@@ -53,7 +53,7 @@ fn push_model_in(
     push_phases(text, tree, scope.phases(), &code.phases)
 }
 
-// An empty line, but before the first of all.
+// Appends an empty line, except before the first model.
 fn push_gap(text: &mut String, is_first: bool) -> Result<(), AllocError>
     ensures { OnOk result (string_bytes text.new ≡ string_bytes text.old ++ gap is_first) }
 {
@@ -63,7 +63,7 @@ fn push_gap(text: &mut String, is_first: bool) -> Result<(), AllocError>
     text.push('\n')
 }
 
-// A line for each name that a model declares, with its index.
+// Appends a line for each name that a model declares, with its index.
 fn push_scope(text: &mut String, tree: &Tree, scope: &Scope) -> Result<(), AllocError>
     ensures { OnOk result (string_bytes text.new
         ≡ string_bytes text.old ++ scope_text tree.now.names scope.now) }
@@ -74,7 +74,7 @@ fn push_scope(text: &mut String, tree: &Tree, scope: &Scope) -> Result<(), Alloc
     push_names(text, tree, "phase", scope.phases())
 }
 
-// A line for each of some names, with its index.
+// Appends a line for each of some names, with its index.
 fn push_names(text: &mut String, tree: &Tree, word: &str, names: &[u32]) -> Result<(), AllocError>
     ensures { OnOk result (string_bytes text.new
         ≡ string_bytes text.old ++ names_text tree.now.names word.now names.now) }
@@ -85,7 +85,7 @@ fn push_names(text: &mut String, tree: &Tree, word: &str, names: &[u32]) -> Resu
     Ok(())
 }
 
-// A line for each variable, flag, bag and queue, with its index.
+// Appends a line for each variable, flag, bag and queue, with its index.
 fn push_slots(text: &mut String, tree: &Tree, scope: &Scope) -> Result<(), AllocError>
     ensures { OnOk result (string_bytes text.new
         ≡ string_bytes text.old ++ slots_text tree.now.names scope.now.variables) }
@@ -119,7 +119,7 @@ fn word_of(domain: Domain) -> &'static str
     }
 }
 
-// The programs of phases, by the names of the phases.
+// Appends the programs of phases, by the names of the phases.
 fn push_phases(
     text: &mut String,
     tree: &Tree,

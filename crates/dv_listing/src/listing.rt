@@ -15,13 +15,14 @@ use dv_tree::Tree;
 use std::alloc::Global;
 use std::io::Write;
 
-/// Writes the listing of a text: the programs of each of its atomic models, in the order of the text. A model's
-/// programs are dropped before those of the next are generated. A write that failed is not tried again.
+/// Writes the listing of a text: the programs of each of its atomic models, in the order of the
+/// text. Only the programs of one model are in memory at a time. A write that failed is not tried
+/// again.
 ///
 /// # Errors
 ///
-/// `WriteError::Write` where a write failed or took nothing, `WriteError::Memory` where memory was refused. A
-/// beginning of the listing was written then, and not all of it.
+/// `WriteError::Write` if a write failed or wrote nothing, `WriteError::Memory` if memory was
+/// refused. A beginning of the listing has then been written, but not all of it.
 pub fn write_listing<W: Write>(alloc: Global, tree: &Tree, writer: &mut W) -> Result<(), WriteError>
     requires { All (λ (m : ModelTree). IsCompilableModel m) (file_of tree.now.file).models }
     ensures ok { OnOk result (Appends (W.contents writer.old) (W.contents writer.new)
