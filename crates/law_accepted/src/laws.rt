@@ -1,5 +1,5 @@
-//! What acceptance says of states, names and values. Each function stands for the law in its contract; its body does
-//! nothing.
+//! Laws of states, names and values of accepted texts. Each function states a law in its contract;
+//! its body does nothing.
 
 ghost use Rattle.std.specs.Prelude.{◌≡◌, ℕ, ℤ, ◌<◌, length, true, List, Option, Ok, Some, []};
 ghost use Rattle.std.specs.List.{All};
@@ -20,15 +20,15 @@ ghost use Rattle.dv_check.specs.Rules.{atomic_refusals, known_in, known_in_rule}
 ghost use Rattle.law_accepted.specs.Fitting.{are_names_known, are_ticks_known, context_within, domain_named, fits, HoldsDatum};
 ghost use Rattle.law_accepted.specs.Fitting.{in_phase, is_of_type, known_within, LeadsToPhase, ReadsPort};
 
-/// The start state of an accepted model fits the model: its phase is one of the model's, each variable has a number
-/// within its range, each flag a truth value, and each bag and each queue no more values than its capacity, which is at
-/// most 4,096.
+/// The start state of an accepted model fits the model: its phase is one of the model's, each
+/// variable has a number within its range, each flag a truth value, and each bag and each queue no
+/// more values than its capacity, which is at most 4,096.
 pub fn start_states_fit()
     ensures { (m : AtomicTree) → atomic_refusals m ≡ [] → fits m (start_state m) ≡ true }
 {}
 
-/// From a state that fits its model a rule leads to one that fits, and a `goto` leads to a phase of the model, in which the
-/// state fits too: whatever has arrived, and however long ago the last transition was.
+/// From a state that fits its model a rule leads to one that fits, and a `goto` leads to a phase of
+/// the model, in which the state fits too: for any arrivals, and any elapsed time.
 pub fn rules_keep_to_the_ranges()
     ensures state { (m : AtomicTree) (body : Statements) (arrivals : Arrivals) (s : State)
         (e : Effect) → fits m s ≡ true →
@@ -40,18 +40,19 @@ pub fn rules_keep_to_the_ranges()
         index < length (scope_of m).phases → fits m (in_phase s index) ≡ true }
 {}
 
-/// What a rule sends stands in bags, whatever has arrived.
+/// What a rule sends is a list of bags, for any arrivals.
 pub fn rules_send_bags()
     ensures { (m : AtomicTree) (body : Statements) (arrivals : Arrivals) (s : State) (e : Effect)
         → effect_of (scope_of m) body arrivals s ≡ Ok e → AreBags e.sent }
 {}
 
-/// The rules and the holds of an accepted model name only what the model declares and the variables of the loops
-/// around, which are never assigned. Where a bag or a queue is read, the name is that of one which the state holds; where
-/// a bag can be read, in an external or a confluent rule also that of an input port. Where one is changed, the name is that
-/// of one which the state holds, a bag or a queue as the change wants. `elapsed` stands in external rules alone. In a state
-/// that fits, a variable has a number within its range, a flag a truth value, and a bag or a queue no more values than its
-/// capacity; and the name of an input port stands for what has arrived there: no name is ever unknown.
+/// The rules and the holds of an accepted model name only what the model declares and the variables
+/// of the loops around, which are never assigned. Where a bag or a queue is read, the name is that
+/// of one in the state; where a bag is read in an external or a confluent rule, it may also be that
+/// of an input port. Where one is changed, the name is that of one in the state, of the discipline
+/// of the change. `elapsed` occurs in external rules alone. In a state that fits, a variable has a
+/// number within its range, a flag a truth value, and a bag or a queue no more values than its
+/// capacity; the name of an input port denotes what arrived there. No name is ever unknown.
 pub fn accepted_names_are_known()
     ensures rules { (m : AtomicTree) → atomic_refusals m ≡ [] →
         All (λ (r : RuleTree). are_names_known (scope_of m) (Some r.sort) [] r.body ≡ true)
@@ -64,9 +65,10 @@ pub fn accepted_names_are_known()
         is_declared name (scope_of m).inputs ≡ true → ReadsPort (scope_of m) name }
 {}
 
-/// An expression that is accepted where a type is wanted is of that type. In a state that fits, its value, if it
-/// has one, is of that type, outside of loops and in their blocks, in a hold and in rules of each sort, whatever has
-/// arrived: a truth value is never taken for a number, nor a number for a truth value.
+/// An expression that is accepted where a type is wanted is of that type. In a state that fits, its
+/// value, if it has one, is of that type, outside of loops and in their blocks, in a hold and in
+/// rules of each sort, for any arrivals: a truth value is never taken for a number, nor a number
+/// for a truth value.
 pub fn accepted_values_are_of_their_types()
     ensures typed { (known : Known) (wanted : ValueType) (e : Expression) →
         offset_refusals wanted known e ≡ [] → type_of known e ≡ Some wanted }

@@ -21,24 +21,24 @@ pub fn a_clock_is_accepted()
     ensures { refusal_of (clock (link_at 400 ∷ [])) ≡ None }
 {}
 
-/// The same link once more is a repeated link.
+/// The same link, repeated, is refused.
 pub fn a_link_stands_once()
     ensures { refusal_of (clock (link_at 400 ∷ (link_at 450 ∷ [])))
         ≡ Some (refusal number.E14 450) }
 {}
 
-/// Of several refusals on one line the first is answered, whatever its number.
+/// Of several refusals on one line the one at the least offset is the answer, for any numbers.
 pub fn the_first_offset_is_answered()
     ensures { refusal_of on_one_line ≡ Some (refusal number.E7 38) }
 {}
 
-/// A link that stands twice is no repeated link where the model of its part is unknown.
+/// A repeated link is not refused as such if the model of its part is unknown.
 pub fn unknown_ends_are_not_repeated()
     ensures { refusal_of of_an_unknown_part ≡ Some (refusal number.E7 69) }
 {}
 
-/// A flag takes a truth value: a number is refused at its first token. What an operator wants is asked of each operand
-/// by itself.
+/// A flag takes a truth value: a number is refused at its first token. The operands of an operator
+/// are tested one by one.
 pub fn flags_take_truth_values()
     ensures negated { refusal_of (with_flag (Prefixed prefix.Not 86 (Named (named 1 90)))) ≡ None }
     ensures joined { refusal_of (with_flag (Binary operator.And (Named (named 1 86))
@@ -52,8 +52,8 @@ pub fn flags_take_truth_values()
         (literal 1 93))) ≡ Some (refusal number.E8 86) }
 {}
 
-/// A bag is asked by calls, which give numbers: its name alone is no value. A call of what is no bag is refused at the
-/// name, and a call where a truth value is wanted at its word.
+/// A bag is read by calls, which give numbers: its name alone is not a value. A call on another
+/// name is refused at the name, and a call where a truth value is wanted at its word.
 pub fn bags_are_asked_by_calls()
     ensures size { refusal_of (assigning (size_at 205 3)) ≡ None }
     ensures times { refusal_of (assigning (Times 205 (Named (named 2 211)) (named 3 214))) ≡ None }
@@ -67,8 +67,8 @@ pub fn bags_are_asked_by_calls()
         ≡ Some (refusal number.E8 209) }
 {}
 
-/// A queue is asked for its size and its first value, and is pushed to and popped. What asks or changes bags is refused
-/// at the name of a queue, and what asks or changes queues at that of a bag.
+/// A queue has a size and a first value, and is changed by `push` and `pop`. Calls and statements
+/// for bags are refused at the name of a queue, and those for queues at the name of a bag.
 pub fn queues_and_bags_have_words_of_their_own()
     ensures size { refusal_of (asking Size 3) ≡ None }
     ensures front { refusal_of (asking Front 3) ≡ None }
@@ -81,8 +81,8 @@ pub fn queues_and_bags_have_words_of_their_own()
     ensures pop_of_bag { refusal_of (popping_from 4) ≡ Some (refusal number.E8 109) }
 {}
 
-/// A hold that faults at the start is refused at the phase after `start`, but not where it names a bag whose capacity
-/// is refused.
+/// A hold that faults at the start is refused at the phase after `start`, but not if it names a bag
+/// whose capacity is refused.
 pub fn holds_of_refused_bags_are_not_asked()
     ensures asked { refusal_of (with_bag 8 below_nothing (literal 1 205))
         ≡ Some (refusal number.E11 81) }

@@ -1,5 +1,5 @@
-//! Laws of compiled models. Each function stands for the laws in its contract; its body only names those that it
-//! rests on.
+//! Laws of compiled models. Each function states laws in its contract; its body only calls the laws
+//! that they follow from.
 
 ghost use Rattle.std.specs.Prelude.{◌≡◌, ℕ, Bool, true, List, Some, None, Ok};
 ghost use Rattle.dv_syntax.specs.Trees.{AtomicTree, FileTree};
@@ -32,8 +32,8 @@ use dv_gen::laws::{
 };
 use law_accepted::laws::{rules_keep_to_the_ranges, rules_send_bags, start_states_fit};
 
-/// The rules of an accepted model keep to the states that fit it, and at those states its programs behave as its rules,
-/// whatever arrives that floods no port.
+/// The rules of an accepted model lead from states that fit it to states that fit it, and in those
+/// states its programs behave as its rules, for any arrivals that flood no port.
 pub fn programs_behave_as_rules()
     ensures keeps { (m : AtomicTree) (comes : List Counts → Bool) → IsCompilable m
         → Keeps (fits m) comes (behaviour_of m) }
@@ -49,9 +49,10 @@ pub fn programs_behave_as_rules()
     programs_give_how_their_runs_end();
 }
 
-/// Where the program of an external rule goes to a phase, the hold that begins there by its program, if it ends, is not
-/// below the model's response: from any state that fits, whatever has arrived that floods no port. The state in which
-/// the hold begins holds numbers of the language alone, as each state of the code does by its type.
+/// If the program of an external rule goes to a phase, the hold that begins there by its program is
+/// not below the model's response, if it ends: from any state that fits, and for any arrivals that
+/// flood no port. The state in which the hold begins holds only numbers of the language, as each
+/// state of the code does by its type.
 pub fn hold_programs_are_not_below_the_response()
     ensures { (m : AtomicTree) (elapsed ticks : ℕ) (bags : List Counts) (s : State) (c : Change)
         → IsCompilable m → AreFew bags → fits m s ≡ true
@@ -64,8 +65,8 @@ pub fn hold_programs_are_not_below_the_response()
     holds_are_not_below_the_response();
 }
 
-/// The compiled model is the model: the network of programs and links of an accepted text has the trace of the text,
-/// for every list of inputs, horizon and microstep limit.
+/// The compiled model is the model: the network of programs and links of an accepted text has the
+/// trace of the text, for every list of inputs, horizon and microstep limit.
 pub fn the_compiled_model_is_the_model()
     ensures { (names : List (List ℕ)) (f : FileTree) (inputs : List Input) (horizon limit : ℕ)
         → AreOfOneText names f → refusal_of f ≡ None

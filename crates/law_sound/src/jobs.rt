@@ -40,8 +40,8 @@ use dv_plain::laws::networks_of_texts;
 use law_accepted::laws::{rules_send_bags, start_states_fit};
 use law_compiled::laws::programs_behave_as_rules;
 
-/// An accepted text with inputs of numbers of the language may be run in processes, whoever has which component. The
-/// response of a process is the least of its components'.
+/// An accepted text with inputs of numbers of the language may be run in processes, for any
+/// partition. The response of a process is the least of its components'.
 pub fn texts_are_jobs()
     ensures { (names : List (List ℕ)) (f : FileTree) (inputs : List Input)
         (limit horizon processes : ℕ) (owner : ℕ → ℕ)
@@ -55,8 +55,8 @@ pub fn texts_are_jobs()
     channels_are_where_links_cross();
 }
 
-/// A text's flat model stands where the text's network stands, its components send the same, and the part of a set of them
-/// is that of the text.
+/// The run of a text's flat model has the same components as the run of the text's network, they
+/// send the same, and the part of a set of components is that of the text.
 pub fn parts_of_the_flat_model_are_those_of_the_text()
     ensures components { (names : List (List ℕ)) (f : FileTree) (inputs : List Input) (limit n : ℕ)
         → AreOfOneText names f → refusal_of f ≡ None
@@ -81,8 +81,8 @@ pub fn parts_of_the_flat_model_are_those_of_the_text()
     alike_networks_run_alike::<Bags>();
 }
 
-/// One process that has all components of a text has no link to another, and commits exactly what the trace of the text
-/// has: before each rank, and in the end all of it.
+/// One process with all components of a text has no link to another, and commits exactly the trace
+/// of the text: before each rank, and in the end all of it.
 pub fn one_process_commits_the_trace_of_the_text()
     ensures incoming { (f : FileTree) (inputs : List Input) (limit horizon : ℕ) (owner : ℕ → ℕ)
         → (share_of (job_of limit horizon f inputs 1 owner) 0).incoming ≡ [] }
@@ -105,8 +105,9 @@ pub fn one_process_commits_the_trace_of_the_text()
     networks_of_texts();
 }
 
-/// Whatever steps are taken, in any order, a process of a text stands where its components stand in the run of the text just
-/// before its clock, and has committed exactly their part, before its clock, of the trace of the text.
+/// After any steps in any order, the components of a process of a text are as in the run of the
+/// text just before the process's clock, and it has committed exactly their part of the trace of
+/// the text before its clock.
 pub fn processes_commit_their_parts_of_the_text()
     ensures components { (names : List (List ℕ)) (f : FileTree) (inputs : List Input)
         (limit horizon processes capacity : ℕ)
@@ -135,8 +136,9 @@ pub fn processes_commit_their_parts_of_the_text()
     every_process_commits_its_part();
 }
 
-/// Where every clock is at the end, each process of a text has the entries of its components in the trace of the text, and
-/// what leaves of all processes, united by time and port, is what leaves the text.
+/// If every clock is at the end, each process of a text has the entries of its components in the
+/// trace of the text, and what leaves all processes, united by time and port, is what leaves the
+/// text.
 pub fn a_whole_run_has_the_trace_of_the_text()
     ensures entries { (names : List (List ℕ)) (f : FileTree) (inputs : List Input)
         (limit horizon processes capacity : ℕ)
@@ -170,7 +172,8 @@ pub fn a_whole_run_has_the_trace_of_the_text()
     networks_of_texts();
 }
 
-/// One round more than there are ranks before the end gives the trace of the text, where there is memory.
+/// One more round than there are ranks before the end gives the trace of the text, if there is
+/// memory.
 pub fn rounds_give_the_trace_of_the_text()
     ensures { (names : List (List ℕ)) (f : FileTree) (inputs : List Input)
         (limit horizon processes capacity k : ℕ)

@@ -1,4 +1,4 @@
-//! Numbers of the language stay so along rules.
+//! Rules keep to numbers of the language.
 
 ghost use Rattle.std.specs.Prelude.{◌≡◌, ℕ, IfOk, IsTrue, List, Ok};
 ghost use Rattle.std.specs.List.{AllByRecursion};
@@ -16,8 +16,8 @@ ghost use Rattle.dv_inputs.specs.Reading.{reading_of};
 ghost use Rattle.law_sound.specs.Jobs.{AllInputNumbers, IsModelOfNumbers};
 ghost use Rattle.law_sound.specs.Kept.{are_kept, name_numbers};
 
-/// From a state that holds numbers of the language alone, where such numbers arrive and flood no port, a rule leads to
-/// one, and sends such numbers.
+/// From a state that holds only numbers of the language, if such numbers arrive and flood no port,
+/// a rule leads to such a state, and sends such numbers.
 pub fn rules_keep_numbers()
     ensures state { (scope : Scope) (body : Statements) (arrivals : Arrivals) (s : State)
         → IsTrue (name_numbers body) → IsTrue (are_of_numbers arrivals.received)
@@ -32,8 +32,8 @@ pub fn rules_keep_numbers()
         → IfOk (effect_of scope body arrivals s) (λ (e : Effect). IsTrue (are_of_numbers e.sent)) }
 {}
 
-/// Each number of a file is that of a token of its text, and those are at most 2^63 - 1; so the rules of its models name
-/// numbers of the language alone, and their start states hold such numbers.
+/// Each number of a file is that of a token of its text, and those are at most 2^63 - 1; so the
+/// rules of its models name only numbers of the language, and their start states hold such numbers.
 pub fn files_are_of_numbers()
     ensures { (names : List (List ℕ)) (f : FileTree) → AreOfOneText names f
         → AllByRecursion IsModelOfNumbers f.models }

@@ -23,8 +23,8 @@ use dv_plain::laws::networks_of_texts;
 use dv_tree::laws::routing_is_linear;
 use law_accepted::laws::rules_send_bags;
 
-/// The components of a text send bags, and what leaves it is linear in what they send; so what leaves of disjoint sets of
-/// components, united, is what leaves of them together.
+/// The components of a text send bags, and what leaves it is linear in what they send; so what
+/// leaves disjoint sets of components, united, is what leaves them together.
 pub fn what_leaves_a_text_is_linear()
     ensures linear { (limit : ℕ) (f : FileTree) → LeavesLinearly (network_of limit f) }
     ensures bags { (limit : ℕ) (f : FileTree) (inputs : ℕ → List Counts) (n : ℕ)
@@ -34,8 +34,9 @@ pub fn what_leaves_a_text_is_linear()
     rules_send_bags();
 }
 
-/// The same of a text as a flat model: it is ready for a run, with components in the order of their numbers; they send
-/// bags; and what leaves was sent by a component, and is linear in what they send.
+/// The same for a text as a flat model: it is ready for a run, with components in the order of
+/// their numbers; they send bags; and what leaves was sent by a component, and is linear in what
+/// they send.
 pub fn what_leaves_a_flat_model_is_linear()
     ensures ready { (limit : ℕ) (f : FileTree) → IsReady (whole (flat_of limit f)) }
     ensures numbers { (limit : ℕ) (f : FileTree) → RiseFrom 0 (whole (flat_of limit f)).numbers }
@@ -53,8 +54,8 @@ pub fn what_leaves_a_flat_model_is_linear()
     counted_numbers_rise();
 }
 
-/// The network of a text by its programs and links is ready for a run. Where nobody sends and nothing comes from outside,
-/// nothing arrives; and what leaves was sent by a component.
+/// The network of a text by its programs and links is ready for a run. If nothing is sent and
+/// nothing comes from outside, nothing arrives; and what leaves was sent by a component.
 pub fn compiled_networks_of_texts()
     ensures ready { (limit : ℕ) (f : FileTree) → IsReady (compiled_network limit f) }
     ensures inputs { (limit : ℕ) (f : FileTree)

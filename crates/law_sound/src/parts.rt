@@ -1,4 +1,4 @@
-//! What the processes of a text committed, together.
+//! What the processes of a text commit, together.
 
 ghost use Rattle.std.specs.Prelude.{◌≡◌, ◌<◌, ℕ, List, None, Some, length, nat_eq, slice_get};
 ghost use Rattle.dv_syntax.specs.Trees.{FileTree};
@@ -16,8 +16,9 @@ use crate::outside::what_leaves_a_text_is_linear;
 use dv_devs::laws::parts::counted_numbers_rise;
 use dv_plain::laws::networks_of_texts;
 
-/// Parts before one rank of the flat model of a text, one of each process, are what processes commit of the run of the
-/// text itself; so merged they are the trace of the text before that rank.
+/// Parts before one rank of the flat model of a text, one of each process, are what processes
+/// commit of the run of the text itself; so, merged, they are the trace of the text before that
+/// rank.
 pub fn processes_commit_the_run_of_the_text()
     ensures { (names : List (List ℕ)) (f : FileTree) (inputs : List Input) (limit n : ℕ)
         (owner : ℕ → ℕ) (parts : List PartOf)

@@ -1,4 +1,4 @@
-//! What a process of a text starts from.
+//! The start of a process of a text.
 
 ghost use Rattle.std.specs.Prelude.{◌≡◌, ◌<◌, ℕ, List, [], None, map};
 ghost use Rattle.dv_syntax.specs.Trees.{FileTree};
@@ -19,9 +19,10 @@ use crate::jobs::texts_are_jobs;
 use dv_conservative::shares::processes_start_sound;
 use dv_devs::laws::runs::holds_end_later;
 
-/// A process of a text is sound: its components keep to the states that fit them and hold numbers, and numbers come from
-/// outside. Where its components start, nothing is committed, nothing came and no visit was counted, it has begun, since no
-/// hold of a start state ends at 0.0. No link that leads to a process has the number of another, and none that leads away.
+/// A process of a text is sound: the states of its components fit them and hold numbers, and
+/// numbers come from outside. If its components are in their start states, and nothing was
+/// committed, received or counted, the process has begun correctly, since no hold of a start state
+/// ends at 0.0. The links to a process have different numbers, and so have those from it.
 pub fn processes_of_texts_start_sound()
     ensures sound { (names : List (List ℕ)) (f : FileTree) (inputs : List Input)
         (limit horizon processes p : ℕ) (owner : ℕ → ℕ)

@@ -1,4 +1,4 @@
-//! What the components of a text are asked for.
+//! The components of a text are sound.
 
 ghost use Rattle.std.specs.Prelude.{◌≡◌, ℕ, Bool, IsTrue, List, Ok, Some};
 ghost use Rattle.std.specs.List.{AllByRecursion};
@@ -21,7 +21,8 @@ use dv_gen::laws::generated_programs_go_where_the_tree_goes;
 use law_accepted::laws::{accepted_names_are_known, start_states_fit};
 use law_compiled::laws::{hold_programs_are_not_below_the_response, programs_behave_as_rules};
 
-/// The programs of a model keep to the states that fit it, whatever arrives that floods no port.
+/// The programs of a model lead from states that fit it to states that fit it, for any arrivals
+/// that flood no port.
 pub fn programs_keep_to_the_states_that_fit()
     ensures { (m : AtomicTree) (comes : List Counts → Bool) → IsCompilable m
         → Keeps (fits m) comes (behaviour_by (phase_codes m)) }
@@ -29,8 +30,9 @@ pub fn programs_keep_to_the_states_that_fit()
     programs_behave_as_rules();
 }
 
-/// Wherever a `Go` of an external rule's program leads, whether it runs or not, the hold that begins there by its program
-/// is not below the model's response, if it ends: from any state that fits and holds numbers of the language.
+/// Wherever a `Go` of an external rule's program leads, even one that does not run, the hold that
+/// begins there by its program is not below the model's response, if it ends: from any state that
+/// fits and holds numbers of the language.
 pub fn holds_where_programs_go_are_not_below_the_response()
     ensures { (m : AtomicTree) → IsCompilable m
         → AllByRecursion (λ (c : PhaseCode). AllByRecursion (λ (index : ℕ). (s : State) (ticks : ℕ)
@@ -44,8 +46,8 @@ pub fn holds_where_programs_go_are_not_below_the_response()
     holds_of_gotos_are_not_below_the_response();
 }
 
-/// A component of an accepted text is sound, by its programs: they keep to the states that fit and hold numbers of the
-/// language, send such numbers from them, and have the model's response.
+/// A component of an accepted text is sound, by its programs: their states fit and hold numbers of
+/// the language, they send such numbers from them, and they have the model's response.
 pub fn components_are_sound()
     ensures { (limit k : ℕ) (m : AtomicTree) → IsCompilable m → IsOfNumbers m
         → IsSound (fits_kept m) (response_of m) (member_of limit k m) }

@@ -16,7 +16,7 @@ ghost use Rattle.law_sound.specs.Members.{flat_of};
 
 use law_compiled::laws::the_compiled_model_is_the_model;
 
-/// A text as a flat model routes as its links do, whatever its components send.
+/// A text as a flat model routes as its links do, for everything that its components send.
 pub fn flat_models_route_by_links()
     ensures arrives { (limit : ℕ) (f : FileTree) (sent : List (List Counts)) (input : List Counts)
         → length sent ≤ length (instances f)
