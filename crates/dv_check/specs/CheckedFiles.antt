@@ -1,6 +1,6 @@
--- What the checks say of a file: its root is a coupled model, whose tree keeps the limits; the parts of coupled models have known
--- models, and links lead from an output of a part or an input of the model itself to an input of another part or an output of
--- the model itself.
+-- What the checks guarantee of a file: its root is a coupled model, whose tree is within the limits; the parts of coupled models have known
+-- models, and links lead from an output of a part or an input of the model itself to an input of another part or an output of the model
+-- itself.
 use Rattle.std.specs.Prelude.{◌≡◌, suc, ◌+◌, ◌<◌, ◌≤◌, true, false, List, [], length, Option, Some, None}
 use Rattle.std.specs.List.{AllByRecursion}
 use Rattle.dv_syntax.specs.declared.tree.Name.{Name}

@@ -22,7 +22,7 @@ use Rattle.dv_check.specs.Ports.{ports_of}
 abbrev pub name_of_part : Part → Name
 name_of_part p = p.name
 
--- the parts of a coupled model by their names, of which the first counts
+-- the parts of a coupled model by their names; the first of equal names counts
 unfoldable pub parts_in : List Part → ℕ → Option Part
 parts_in parts q = part_named q parts
 
@@ -35,7 +35,7 @@ pub record Interior : Type 0 where
 abbrev pub interior_of : List ModelTree → CoupledTree → Interior
 interior_of models m = record { port = sort_in (ports_of m); part = parts_in m.parts; face = faces_in models }
 
--- what tables know
+-- what the tables contain
 abbrev pub interior_by : tables.Interior → Interior
 interior_by t = record { port = value_for t.ports; part = value_for t.parts; face = faces_by t.faces.now }
 
@@ -49,7 +49,7 @@ part_refusals w p = part_model_refusals (w.face p.model.number) p.model.offset
 
 -- ---- The ends of links
 
--- a port that stands for an input, and one that stands for an output; from outside a model has ports alone
+-- a port that is an input, and one that is an output; only the ports of a model can be named outside of it
 abbrev pub is_input : Option NameSort → Bool
 is_input (Some Input) = true
 is_input (Some Output) = false
@@ -80,12 +80,12 @@ input_refusals sort offset = port_refusals (is_input sort) (is_output sort) offs
 abbrev pub output_refusals : Option NameSort → ℕ → List Refusal
 output_refusals sort offset = port_refusals (is_output sort) (is_input sort) offset
 
--- a port of a part where a link begins; the ports of a part whose model is unknown are not tested
+-- a port of a part at the beginning of a link; the ports of a part whose model is unknown are not tested
 abbrev pub part_source_refusals : Option Face → Name → List Refusal
 part_source_refusals None port = []
 part_source_refusals (Some face) port = output_refusals (face port.number) port.offset
 
--- and where it ends
+-- and one at its end
 abbrev pub part_target_refusals : Option Face → Name → List Refusal
 part_target_refusals None port = []
 part_target_refusals (Some face) port = input_refusals (face port.number) port.offset
@@ -109,7 +109,7 @@ abbrev pub target_refusals : Interior → Option Name → Name → List Refusal
 target_refusals w None port = output_refusals (w.port port.number) port.offset
 target_refusals w (Some name) port = target_at_part w (w.part name.number) name port
 
--- a port of a part that is known, with its model
+-- a port of a known part, with its model
 abbrev pub is_output_shown : Option Face → ℕ → Bool
 is_output_shown None port = false
 is_output_shown (Some face) port = is_output (face port)
@@ -134,7 +134,7 @@ abbrev pub is_target : Interior → Option Name → ℕ → Bool
 is_target w None port = is_output (w.port port)
 is_target w (Some name) port = is_input_of_part w (w.part name.number) port
 
--- a link of which both ends are known and of the right direction
+-- a link of which both ends are known and have the right directions
 abbrev pub has_ends : Interior → Link → Bool
 has_ends w l = is_source w l.from.part l.from.port.number && is_target w l.to.part l.to.port.number
 
@@ -150,14 +150,14 @@ same_part (Some a) (Some b) = a.number == b.number
 abbrev pub leads_back : Link → Bool
 leads_back l = same_part l.from.part l.to.part
 
--- both ends, and where they are known that the link does not lead back
+-- both ends, and if they are known, that the link does not lead back
 abbrev pub link_refusals : Interior → Link → List Refusal
 link_refusals w l =
     source_refusals w l.from.part l.from.port
     ++ (target_refusals w l.to.part l.to.port
     ++ refusal_if (leads_back l && has_ends w l) E13 l.offset)
 
--- the links that stand again behind the seen ones, where both their ends are known
+-- the repeated links behind those that were seen, if both their ends are known
 abbrev pub repeated_links_after : Interior → (Link → Bool) → List Link → List Refusal
 repeated_links_after w seen [] = []
 repeated_links_after w seen (l ∷ links) =
@@ -165,7 +165,7 @@ repeated_links_after w seen (l ∷ links) =
 
 -- ---- All of them
 
--- names of a kind that stand twice, or are too many
+-- names of one kind that are declared twice, or are too many
 abbrev pub kind_refusals : List Name → List Refusal
 kind_refusals names = repeats E6 names ++ excess names
 

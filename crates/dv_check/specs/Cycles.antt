@@ -1,5 +1,5 @@
--- Models that contain themselves: the graph of the models of a file, and the parts that lie on its cycles. Of the parts of one
--- name the first counts.
+-- Models that contain themselves: the graph of the models of a file, and the parts on its cycles. Of the parts of one name only the first
+-- counts.
 use Rattle.std.specs.Prelude.{ℕ, ◌+◌, ◌==◌, Bool, List, [], ◌∷◌, ◌++◌, map, filter_map, slice_index_or, Option, Some, None}
 use Rattle.std.specs.List.{flat_map, position}
 use Rattle.dv_lex.specs.declared.error.Refusal.{Refusal}
@@ -17,8 +17,7 @@ position_of models number = position (λ m. (name_of_model m).number == number) 
 abbrev pub position_inside : (ℕ → Option ℕ) → Part → Option ℕ
 position_inside position p = position p.model.number
 
--- the positions of the models of a model's parts that count, where names stand for models at these positions; an atomic model has
--- no parts
+-- the positions of the models of a model's parts that count, by the positions of the names of models; an atomic model has no parts
 abbrev pub positions_inside : (ℕ → Option ℕ) → ModelTree → List ℕ
 positions_inside position (AtomicModel m) = []
 positions_inside position (CoupledModel m) = filter_map (position_inside position) (first_parts m.parts)
@@ -30,7 +29,7 @@ models_inside models m = positions_inside (position_of models) m
 unfoldable pub containment : List ModelTree → List (List ℕ)
 containment models = map (models_inside models) models
 
--- what tells whether the model at one position leads to the model at another
+-- whether the model at one position leads to the model at another
 abbrev pub Test : Type 0
 Test = ℕ → ℕ → Bool
 
@@ -47,16 +46,16 @@ model_cycle_refusals leads position outer (AtomicModel m) = []
 model_cycle_refusals leads position outer (CoupledModel m) =
     flat_map (part_cycle_refusals leads position outer) (first_parts m.parts)
 
--- of the models from a position on
+-- the refusals of the models from a position on
 abbrev pub cycle_refusals_from : Test → (ℕ → Option ℕ) → ℕ → List ModelTree → List Refusal
 cycle_refusals_from leads position outer [] = []
 cycle_refusals_from leads position outer (m ∷ models) =
     model_cycle_refusals leads position outer m ++ cycle_refusals_from leads position (outer + 1) models
 
--- models of one number, by their positions
+-- whether two models have the same number, by their positions
 abbrev pub same_number : List ℕ → Test
 same_number numbers inner outer = slice_index_or numbers inner 0 == slice_index_or numbers outer 0
 
--- the parts of all models of a file that count and lie on a cycle
+-- the refusals of all parts of a file that count and are on a cycle
 unfoldable pub cycle_refusals : List ModelTree → List Refusal
 cycle_refusals models = cycle_refusals_from (has_way (containment models)) (position_of models) 0 models

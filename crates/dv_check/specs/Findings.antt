@@ -1,4 +1,4 @@
--- What has been found wrong so far: the first of the refusals.
+-- The first refusal that was found so far.
 use Rattle.std.specs.Prelude.{List, fold, Some, None}
 use Rattle.dv_lex.specs.declared.error.Refusal.{Refusal}
 use Rattle.dv_lex.specs.Order.{earlier}

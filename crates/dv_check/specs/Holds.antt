@@ -6,6 +6,6 @@ use Rattle.dv_eval.specs.Scope.{Scope}
 use Rattle.dv_eval.specs.Meaning.{hold_of}
 use Rattle.dv_check.specs.Rules.{is_fault}
 
--- the ticks fault in no state, whatever names stand for
+-- the ticks fault in no state, for any meaning of the names
 abbrev pub NeverFaults : Option Expression → Type 0
 NeverFaults ticks = (scope : Scope) (s : State) → is_fault (hold_of scope ticks s) ≡ false

@@ -10,12 +10,12 @@ pub mod Couplings
 pub mod Cycles
 pub mod Tree
 pub mod Refusals
--- What the laws speak of.
+-- What laws use.
 pub mod CheckedFiles
 pub mod Loops
 pub mod Relays
 pub mod Nests
--- What serves proofs.
+-- What proofs need.
 pub mod Findings
 pub mod Tables
 pub mod Sizes

@@ -14,7 +14,7 @@ end_key_of e = record { part = option_map (λ n. n.number) e.part; port = e.port
 abbrev pub key_of : Link → LinkKey
 key_of l = record { from = end_key_of l.from; to = end_key_of l.to }
 
--- links are the same where the names of their parts and ports are
+-- links are the same if the names of their parts and ports are
 abbrev pub same_end : EndKey → EndKey → Bool
 same_end a b = option_eq nat_eq a.part b.part && nat_eq a.port b.port
 
@@ -24,7 +24,7 @@ same_key a b = same_end a.from b.from && same_end a.to b.to
 abbrev pub same_link : Link → Link → Bool
 same_link a b = same_key (key_of a) (key_of b)
 
--- a set of links as a test: none, and one more
+-- a set of links as a function: the empty one, and one with another link
 unfoldable pub no_link : Link → Bool
 no_link l = false
 

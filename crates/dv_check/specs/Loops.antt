@@ -1,4 +1,4 @@
--- A model with one rule, by what it declares and by what the rule says.
+-- A model with one rule, by its declarations and its rule.
 use Rattle.std.specs.Prelude.{ℕ, ◌+◌, List, [], ◌∷◌, false, Option, Some, None}
 use Rattle.dv_lex.specs.declared.error.Refusal.{Refusal}
 use Rattle.dv_syntax.specs.declared.tree.Name.{Name}
@@ -56,7 +56,7 @@ heap_held ticks declarations sort body = record {
 abbrev pub heap : List Declaration → RuleSort → Statements → AtomicTree
 heap declarations sort body = heap_held None declarations sort body
 
--- what is wrong where bag b 8; stands in front, with these declarations and this rule
+-- what is wrong with bag b 8; before these declarations and this rule
 abbrev pub wrong_under : RuleSort → List Declaration → Statements → List Refusal
 wrong_under sort declarations body = atomic_refusals (heap (bag_at 2 15 8 ∷ declarations) sort body)
 
@@ -67,10 +67,10 @@ wrong_inside declarations body = wrong_under rule.Internal declarations body
 abbrev pub wrong_outside : List Declaration → Statements → List Refusal
 wrong_outside declarations body = wrong_under rule.Output declarations body
 
--- with an internal rule, where queue v 8; stands behind it
+-- with an internal rule, and queue v 8; behind it
 abbrev pub wrong_queued : Statements → List Refusal
 wrong_queued body = wrong_inside (queue_at 1 30 8 ∷ []) body
 
--- with an empty rule, and such a hold
+-- with an empty rule, and this hold
 abbrev pub wrong_held : List Declaration → Expression → List Refusal
 wrong_held declarations ticks = atomic_refusals (heap_held (Some ticks) declarations rule.Internal Done)

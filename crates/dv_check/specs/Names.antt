@@ -1,4 +1,4 @@
--- What the names of a text stand for, and names that are declared twice or too often.
+-- What the names of a text denote, and names that are declared twice or too often.
 use Rattle.std.specs.Prelude.{ℕ, ◌==◌, Bool, true, false, if◌then◌else◌, slice_get, List, [], ◌∷◌, ◌++◌, map, take, Option, Some, None}
 use Rattle.std.specs.List.{list_any}
 use Rattle.dv_lex.specs.declared.error.Refusal.{Refusal}
@@ -29,7 +29,7 @@ first_of number value (x ∷ xs) q = if number x == q then Some (value x) else f
 unfoldable pub among : List Name → ℕ → Bool
 among names number = list_any (λ (n : Name). n.number == number) names
 
--- a set of numbers as a test: none, and one more
+-- a set of numbers as a function: the empty one, and one with another number
 unfoldable pub no_number : ℕ → Bool
 no_number q = false
 
@@ -41,7 +41,7 @@ abbrev pub repeats_after : (ℕ → Bool) → RefusalNumber → List Name → Li
 repeats_after seen number [] = []
 repeats_after seen number (n ∷ names) = refusal_if (seen n.number) number n.offset ++ repeats_after (with_number seen n.number) number names
 
--- the names that stand behind an equal one
+-- the names that occur before in the list
 abbrev pub repeats : RefusalNumber → List Name → List Refusal
 repeats number names = repeats_after no_number number names
 
@@ -57,7 +57,7 @@ excess_past limit names = excess_of (slice_get names limit)
 abbrev pub excess : List Name → List Refusal
 excess names = excess_past greatest_names names
 
--- what stands within a limit
+-- the items within a limit
 unfoldable pub within_limit : {A : Type 0} → ℕ → List A → List A
 within_limit limit xs = take limit xs
 
@@ -75,7 +75,7 @@ abbrev pub part_named : ℕ → List Part → Option Part
 part_named number [] = None
 part_named number (p ∷ parts) = if p.name.number == number then Some p else part_named number parts
 
--- a part in front of others, unless its name was seen before
+-- a part before others, unless its name was seen before
 abbrev pub with_part_unless : Bool → Part → List Part → List Part
 with_part_unless true p parts = parts
 with_part_unless false p parts = p ∷ parts
@@ -86,6 +86,6 @@ first_parts_after seen [] = []
 first_parts_after seen (p ∷ parts) =
     with_part_unless (seen p.name.number) p (first_parts_after (with_number seen p.name.number) parts)
 
--- the parts that count: of each name the first
+-- the parts that count: the first of each name
 abbrev pub first_parts : List Part → List Part
 first_parts parts = first_parts_after no_number parts

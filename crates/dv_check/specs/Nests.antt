@@ -1,4 +1,4 @@
--- Coupled models that have parts alone.
+-- Coupled models that have only parts.
 use Rattle.std.specs.Prelude.{ℕ, zero, suc, ◌+◌, List, [], ◌∷◌}
 use Rattle.dv_syntax.specs.declared.tree.Part.{Part}
 use Rattle.dv_syntax.specs.declared.tree.RuleSort.TheVariants.{Internal}
@@ -13,7 +13,7 @@ part_at offset number model = record { name = name_at number (offset + 5); model
 abbrev pub around : ℕ → List Part → ModelTree
 around number parts = CoupledModel (record { name = name_at number 0; inputs = []; outputs = []; parts = parts; links = [] })
 
--- so many coupled models, each around the one before, and the first around an atomic one
+-- a number of coupled models, each around the one before, and the first around an atomic one
 abbrev pub tower : ℕ → List ModelTree
 tower zero = AtomicModel (heap [] Internal Done) ∷ []
 tower (suc n) = around (suc n) (part_at 0 0 n ∷ []) ∷ tower n

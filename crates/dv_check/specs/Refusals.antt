@@ -1,4 +1,4 @@
--- Why a file is refused: every rule that it breaks, and the one that is answered.
+-- Why a file is refused: every rule that it breaks, and the one that is the answer.
 use Rattle.std.specs.Prelude.{◌≡◌, ℕ, suc, ◌==◌, nat_lt, Bool, ◌||◌, List, [], ◌∷◌, ◌++◌, map, Option, Some, None}
 use Rattle.std.specs.List.{flat_map}
 use Rattle.std.specs.Option.{option_or}
@@ -28,7 +28,7 @@ root_refusals None offset = refusal E7 offset ∷ []
 root_refusals (Some (AtomicModel m)) offset = refusal E16 offset ∷ []
 root_refusals (Some (CoupledModel m)) offset = []
 
--- every rule that a file breaks, each at its offset, without the limits on the whole tree
+-- every rule that a file breaks, with its offset, without the limits on the whole tree
 abbrev pub refusals : FileTree → List Refusal
 refusals f =
     repeats E6 (map name_of_model f.models)
@@ -36,7 +36,8 @@ refusals f =
     ++ (cycle_refusals f.models
     ++ root_refusals (model_named f.root.number f.models) f.root.offset))
 
--- is a limit on the whole tree passed: no component or too many, too many instances, the root counted, or coupled too deep
+-- whether a limit on the whole tree is exceeded: no component or too many, too many instances, the root counted, or coupled models nested
+-- too deeply
 abbrev pub passes_limit : PartTree → Bool
 passes_limit t =
     component_count t == 0
@@ -48,15 +49,15 @@ root_limit_refusals models (Some (CoupledModel m)) offset = refusal_if (passes_l
 root_limit_refusals models (Some (AtomicModel m)) offset = []
 root_limit_refusals models None offset = []
 
--- the limits on the whole tree that a file breaks, at the root's name
+-- the limits on the whole tree that a file exceeds, at the root's name
 abbrev pub limit_refusals : FileTree → List Refusal
 limit_refusals f = root_limit_refusals f.models (model_named f.root.number f.models) f.root.offset
 
--- The refusal that is answered: the first, or where there is none the first of the limits on the whole tree.
+-- The refusal that is the answer: the first, or if there is none the first of the limits on the whole tree.
 abbrev pub refusal_of : FileTree → Option Refusal
 refusal_of f = option_or (first_refusal (refusals f)) (first_refusal (limit_refusals f))
 
--- an error that is the file's refusal; where memory runs out nothing is said
+-- an error that is the file's refusal; nothing is said if memory runs out
 abbrev pub IsAnswerTo : FileTree → LoadError → Type 0
 IsAnswerTo f (Refused r) = refusal_of f ≡ Some r
 IsAnswerTo f Memory = Unit {0}

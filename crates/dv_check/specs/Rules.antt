@@ -64,11 +64,11 @@ sort_of (Var v) = ForVariable
 sort_of (Flag f) = ForFlag
 sort_of (Held c) = ForHeld c.discipline
 
--- what a name of a port, variable, flag, bag or queue stands for: of a name that is declared twice the first declaration counts
+-- what a name of a port, variable, flag, bag or queue denotes: if it is declared twice the first declaration counts
 abbrev pub sort_in : List Declaration → ℕ → Option NameSort
 sort_in declarations = first_of number_of_declaration sort_of declarations
 
--- where the first declaration of a name stands
+-- the offset of the first declaration of a name
 abbrev pub offset_in : List Declaration → ℕ → Option ℕ
 offset_in declarations = first_of number_of_declaration offset_of_declaration declarations
 
@@ -85,7 +85,7 @@ known_in m = record {
 abbrev pub known_in_rule : Option RuleSort → Known → Known
 known_in_rule rule known = record { sort = known.sort; offset = known.offset; has_phase = known.has_phase; rule = rule }
 
--- in the block of a loop its variable is known, and hides what else has its name
+-- in the block of a loop its variable is known, and hides other meanings of its name
 abbrev pub known_in_loop : Name → Known → Known
 known_in_loop v known = record {
   sort = λ q. if v.number == q then Some ForLoopVariable else known.sort q;
@@ -94,11 +94,11 @@ known_in_loop v known = record {
   rule = known.rule;
 }
 
--- what tables know
+-- what the tables contain
 abbrev pub known_by : Declarations → Known
 known_by d = record { sort = value_for d.sorts; offset = value_for d.offsets; has_phase = has d.phases; rule = None }
 
--- what an environment knows: its model's tables, the rule around, and the variables of the loops around
+-- what an environment contains: its model's tables, the rule around, and the variables of the loops around
 abbrev pub environment_step : Environment-F Known → Known
 environment_step (Environment-F.Model declarations rule) = known_in_rule rule (known_by declarations.now)
 environment_step (Environment-F.Loop variable outer) = known_in_loop variable outer.now
@@ -136,7 +136,7 @@ ports_in declarations = filter_map port_of declarations
 abbrev pub name_of_state_variable : Name × Domain → Name
 name_of_state_variable v = v.0
 
--- names that are declared twice, two rules of one sort for one phase, and more names of a kind than there may be
+-- names that are declared twice, two rules of one sort for one phase, and too many names of a kind
 abbrev pub names_refusals : AtomicTree → List Refusal
 names_refusals m =
     repeats E6 (map name_of_declaration m.declarations)
@@ -149,9 +149,9 @@ names_refusals m =
     ++ (excess (map name_of_state_variable (state_variables_in m.declarations))
     ++ excess (phases_in m.phases))))))))
 
--- ---- What has to stand once
+-- ---- What must occur once
 
--- an item that has to stand once: missing at the model's name, again at the second one's word
+-- an item that must occur once: missing at the model's name, repeated at the second one's word
 abbrev pub once_refusals : ℕ → List ℕ → List Refusal
 once_refusals model_offset [] = refusal E10 model_offset ∷ []
 once_refusals model_offset (offset ∷ []) = []
@@ -166,8 +166,8 @@ first_phases (p ∷ items) = p.names
 abbrev pub is_hold_missing : (ℕ → Bool) → List Name → Bool
 is_hold_missing held phases = list_any (λ (p : Name). not (held p.number)) phases
 
--- a second hold of a phase, at its word; a phase without one, at the model's name: only phases of the first item and within
--- the limit need one
+-- a second hold of a phase, at its word; a phase without one, at the model's name: only phases of the first item and within the limit need
+-- one
 abbrev pub holds_once_refusals : AtomicTree → List Refusal
 holds_once_refusals m =
     repeats E10 (held_phases m.holds)
@@ -180,7 +180,7 @@ phases_offsets items = map (λ (p : PhasesTree). p.offset) items
 abbrev pub start_offsets : List Start → List ℕ
 start_offsets items = map (λ (s : Start). s.offset) items
 
--- phases, start and holds, each of which has to stand once
+-- phases, start and holds, each of which must occur once
 abbrev pub standing_refusals : AtomicTree → List Refusal
 standing_refusals m =
     once_refusals m.name.offset (phases_offsets m.phases)
@@ -227,17 +227,17 @@ changed_refusals d (Some ForLoopVariable) offset = refusal E8 offset ∷ []
 abbrev pub phase_refusals : Known → Name → List Refusal
 phase_refusals known phase = refusal_if (not (known.has_phase phase.number)) E7 phase.offset
 
--- a loop variable whose name is that of an item or of the variable of a loop around: of the two the second in the text is refused
+-- a loop variable whose name is that of an item or of the variable of a loop around: the second in the text is refused
 abbrev pub loop_variable_refusals : Option ℕ → ℕ → List Refusal
 loop_variable_refusals None offset = []
 loop_variable_refusals (Some declared) offset = refusal E6 (max declared offset) ∷ []
 
--- the name of a command: a phase to go to, or a queue that loses its first value
+-- the name of a command: a phase for `goto`, or a queue for `pop`
 abbrev pub command_name_refusals : Known → Command → Name → List Refusal
 command_name_refusals known command.Goto name = phase_refusals known name
 command_name_refusals known command.Pop name = changed_refusals discipline.Queue (known.sort name.number) name.offset
 
--- a collection is changed with a value: not in an output rule
+-- a change of a collection by a value: not in an output rule
 abbrev pub change_refusals : Known → Change → ℕ → Expression → Name → List Refusal
 change_refusals known c offset value collection =
     refusal_if (is_output_rule known.rule) E9 offset
@@ -267,21 +267,21 @@ statements_refusals known (For offset variable bag block rest) =
 statements_refusals known (Changes c offset value collection rest) =
     change_refusals known c offset value collection ++ statements_refusals known rest
 
--- an empty range, or a start value outside of it
+-- an empty range, or one without the start value
 abbrev pub is_out_of_range : VariableRange → Bool
 is_out_of_range r = int_lt r.high r.low || (int_lt r.start r.low || int_lt r.high r.start)
 
 abbrev pub variable_refusals : Variable → List Refusal
 variable_refusals v = refusal_if (is_out_of_range (range_of v)) E11 v.name.offset
 
--- what a bag or a queue may be declared to hold at most: at least one value
+-- the capacity of a bag or a queue: at least one value
 abbrev pub is_capacity : ℕ → Bool
 is_capacity n = nat_le 1 n && nat_le n greatest_count
 
 abbrev pub collection_refusals : StateCollection → List Refusal
 collection_refusals c = refusal_if (not (is_capacity c.capacity.value)) E17 c.capacity.offset
 
--- what a declaration says wrong of its name
+-- what is wrong with a declaration
 abbrev pub declaration_refusals : Declaration → List Refusal
 declaration_refusals (In port) = []
 declaration_refusals (Out port) = []
@@ -302,7 +302,7 @@ hold_refusals known h = phase_refusals known h.phase ++ ticks_refusals known h.t
 abbrev pub rule_refusals : Known → RuleTree → List Refusal
 rule_refusals known r = phase_refusals known r.phase ++ statements_refusals (known_in_rule (Some r.sort) known) r.body
 
--- what the items do wrong, each by itself
+-- what is wrong with the items, one by one
 abbrev pub items_refusals : Known → AtomicTree → List Refusal
 items_refusals known m =
     flat_map declaration_refusals m.declarations
@@ -321,7 +321,7 @@ abbrev pub is_fault : {A B : Type 0} → Result A B → Bool
 is_fault (Ok x) = false
 is_fault (Err f) = true
 
--- a state variable that is there, and whose declaration is not refused: that of a flag never is
+-- a known state variable whose declaration is not refused: that of a flag never is
 abbrev pub is_in_range : Option Domain → Bool
 is_in_range None = false
 is_in_range (Some (domain.Number range)) = not (is_out_of_range range)
@@ -339,11 +339,11 @@ unfoldable pub is_start_known : List (Name × Domain) → ℕ → Bool
 is_start_known variables name =
     is_in_range (first_of number_of_state_variable domain_of_state_variable (within_limit greatest_names variables) name)
 
--- what tables know
+-- what the tables contain
 unfoldable pub is_start_known_by : Starts → ℕ → Bool
 is_start_known_by starts name = is_in_range (value_for starts.domains name)
 
--- an expression without names but these
+-- an expression with no other names
 abbrev pub names_only : (ℕ → Bool) → Expression → Bool
 names_only known (Literal n) = true
 names_only known (TruthValue offset value) = true
@@ -363,11 +363,11 @@ ticks_names_only known (Some e) = names_only known e
 abbrev pub is_hold_fine : Known → Name → Option Expression → Bool
 is_hold_fine known phase ticks = is_none_left (phase_refusals known phase ++ ticks_refusals known ticks)
 
--- a hold that can be asked: nothing is wrong with it, nor with the first declarations of the names in it
+-- a hold that can be evaluated: nothing is wrong with it, nor with the first declarations of the names in it
 abbrev pub can_ask_hold : Known → List (Name × Domain) → Name → Option Expression → Bool
 can_ask_hold known variables phase ticks = is_hold_fine known phase ticks && ticks_names_only (is_start_known variables) ticks
 
--- a hold that can be asked, and faults in the start state
+-- a hold that can be evaluated, and faults in the start state
 abbrev pub is_start_fault : Known → AtomicTree → Name → Bool
 is_start_fault known m phase =
     can_ask_hold known (state_variables_in m.declarations) phase (hold_ticks phase.number m.holds)

@@ -22,16 +22,16 @@ alone = record { depth = 1; components = 0; instances = 1 }
 abbrev pub size_of_tree : PartTree → Size
 size_of_tree t = record { depth = depth_of t; components = component_count t; instances = suc (instance_count t) }
 
--- a model whose parts show down to so many levels
+-- a model, down to a number of levels
 abbrev pub size_to : ℕ → List ModelTree → ModelTree → Size
 size_to levels models (AtomicModel m) = component
 size_to levels models (CoupledModel m) = size_of_tree (parts_to levels models m)
 
--- what is kept of a size: a number past the greatest that the code has is kept as that one
+-- what is kept of a size: a number past the greatest of the code counts as that one
 abbrev pub kept : Size → Size
 kept s = record { depth = capped s.depth; components = capped s.components; instances = capped s.instances }
 
--- a model with one part more
+-- a model with one more part
 abbrev pub with_part : Size → Size → Size
 with_part s part = record {
   depth = max s.depth (capped (part.depth + 1));
@@ -47,7 +47,7 @@ with_known_part s (Some part) = with_part s part
 abbrev pub with_part_at : List Size → Size → ℕ → Size
 with_part_at sizes s position = with_known_part s (slice_get sizes position)
 
--- what is inside a model: the positions of the models of its parts, or none of an atomic one
+-- what is inside a model: the positions of the models of its parts, or none for an atomic one
 abbrev pub contents_of : (ℕ → Option ℕ) → ModelTree → Option (List ℕ)
 contents_of position (AtomicModel m) = None
 contents_of position (CoupledModel m) = Some (filter_map (position_inside position) m.parts)
@@ -62,18 +62,18 @@ abbrev pub size_by : List Size → Option (List ℕ) → Size
 size_by sizes None = component
 size_by sizes (Some positions) = fold (with_part_at sizes) alone positions
 
--- the sizes of the models whose parts show down to fewer levels than this
+-- the sizes of the models, down to fewer levels than this
 abbrev pub sizes_below : ℕ → List (Option (List ℕ)) → List Size
 sizes_below zero contents = []
 sizes_below (suc levels) contents = map (size_by (sizes_below levels contents)) contents
 
--- does a size pass a limit: no component, or too many, too many instances, or coupled too deep
+-- whether a size exceeds a limit: no component, or too many, too many instances, or coupled models nested too deeply
 abbrev pub size_passes_limit : Size → Bool
 size_passes_limit s =
     s.components == 0
     || (nat_lt greatest_components s.components
     || (nat_lt greatest_instances s.instances || nat_lt greatest_depth s.depth))
 
--- the components of a tree that passes no limit
+-- the components of a tree within the limits
 abbrev pub components_within : PartTree → Option ℕ
 components_within t = if passes_limit t then None else Some (component_count t)

@@ -12,7 +12,7 @@ use Rattle.dv_check.specs.Names.{first_of}
 unfoldable pub entry_for : {V : Type 0} → List (ℕ × V) → ℕ → Option V
 entry_for {V} entries q = first_of (λ (e : ℕ × V). e.0) (λ (e : ℕ × V). e.1) entries q
 
--- the value at an index of a list that has empty offsets
+-- the value at an index of a list in which values may be missing
 unfoldable pub value_at : {V : Type 0} → List (Option V) → ℕ → Option V
 value_at offsets index = option_flatten (slice_get offsets index)
 
@@ -29,7 +29,7 @@ value_for (Many table) q = table_value table.value q
 unfoldable pub has : NumberSet → ℕ → Bool
 has s q = is_some (value_for s.numbers q)
 
--- no value for any number, and one value more: the first of a number stays
+-- the empty table, and one with another value: the first of a number counts
 unfoldable pub no_value : {V : Type 0} → ℕ → Option V
 no_value q = None
 

@@ -12,7 +12,7 @@ pub data PartTree : Type 0 where
   AtomicPart : (name : Name) → (model : AtomicTree) → (rest : PartTree) → PartTree
   CoupledPart : (name : Name) → (model : CoupledTree) → (inside rest : PartTree) → PartTree
 
--- a part by its model, before the rest; a part whose model is unknown is none
+-- a part by its model, before the rest; a part whose model is unknown is left out
 abbrev pub with_part : (CoupledTree → PartTree) → Name → Option ModelTree → PartTree → PartTree
 with_part inside name None rest = rest
 with_part inside name (Some (AtomicModel m)) rest = AtomicPart name m rest
@@ -22,16 +22,16 @@ abbrev pub parts_by : (CoupledTree → PartTree) → List ModelTree → List Par
 parts_by inside models [] = NoParts
 parts_by inside models (p ∷ parts) = with_part inside p.name (model_named p.model.number models) (parts_by inside models parts)
 
--- the parts of a coupled model, down to so many levels
+-- the parts of a coupled model, down to a number of levels
 abbrev pub parts_to : ℕ → List ModelTree → CoupledTree → PartTree
 parts_to zero models m = NoParts
 parts_to (suc levels) models m = parts_by (parts_to levels models) models m.parts
 
--- The parts of a model, down to the greatest depth. A deeper model shows there, without its parts: its depth is too great.
+-- The parts of a model, down to the greatest depth. A model below it appears without its parts: its depth is too great.
 abbrev pub tree_of : List ModelTree → CoupledTree → PartTree
 tree_of models m = parts_to greatest_depth models m
 
--- how deep coupled models lie in one another, the model of these parts counted
+-- how deep coupled models are nested, with the model of these parts
 abbrev pub depth_of : PartTree → ℕ
 depth_of NoParts = 1
 depth_of (AtomicPart name m rest) = depth_of rest

@@ -23,15 +23,15 @@ use Rattle.dv_bag.specs.declared.value.ValueType.{ValueType}
 use Rattle.dv_bag.specs.declared.value.ValueType.TheVariants.{Number, Truth}
 use Rattle.dv_check.specs.Names.{refusal, refusal_if}
 
--- what is known at an offset of an atomic model: what ports, variables, flags, bags, queues and loop variables stand for, where they
--- are declared, the phases, and the sort of the rule around; a hold stands in no rule
+-- what is known at an offset of an atomic model: what ports, variables, flags, bags, queues and loop variables denote, where they are
+-- declared, the phases, and the sort of the rule around; a hold is in no rule
 pub record Known : Type 0 where
   pub sort : ℕ → Option NameSort
   pub offset : ℕ → Option ℕ
   pub has_phase : ℕ → Bool
   pub rule : Option RuleSort
 
--- `elapsed` is known in external rules alone
+-- `elapsed` is known only in external rules
 abbrev pub knows_elapsed : Option RuleSort → Bool
 knows_elapsed None = false
 knows_elapsed (Some rule.Output) = false
@@ -39,7 +39,7 @@ knows_elapsed (Some rule.Internal) = false
 knows_elapsed (Some rule.External) = true
 knows_elapsed (Some rule.Confluent) = false
 
--- and what came to input ports in external and confluent ones
+-- and the values at input ports in external and confluent ones
 abbrev pub sees_inputs : Option RuleSort → Bool
 sees_inputs None = false
 sees_inputs (Some rule.Output) = false
@@ -74,7 +74,7 @@ type_of_name (Some Input) = None
 type_of_name (Some Output) = None
 type_of_name (Some LoopVariable) = Some Number
 
--- what a call reads: a bag, a queue, or the values of either
+-- what a call reads: a bag, a queue, or either
 abbrev pub wanted_by : BagCall → Wanted
 wanted_by call.Size = wanted.Values
 wanted_by call.Sum = wanted.Bag
@@ -82,7 +82,7 @@ wanted_by call.Least = wanted.Bag
 wanted_by call.Most = wanted.Bag
 wanted_by call.Front = wanted.Queue
 
--- a collection of a discipline where this is wanted
+-- whether a collection of a discipline is suitable
 abbrev pub suits : Wanted → Discipline → Bool
 suits wanted.Values d = true
 suits wanted.Bag d = same_discipline d discipline.Bag
@@ -92,7 +92,7 @@ suits wanted.Queue d = same_discipline d discipline.Queue
 abbrev pub suits_port : Wanted → Bool
 suits_port w = suits w discipline.Bag
 
--- a name of what is wanted, which can be read: a collection of the state, and where inputs are seen an input port
+-- a name of a suitable collection that can be read: of the state, or an input port if inputs can be read
 abbrev pub is_readable : Wanted → Option RuleSort → Option NameSort → Bool
 is_readable w rule None = false
 is_readable w rule (Some Variable) = false
@@ -120,12 +120,12 @@ type_if false t = None
 abbrev pub both_of : ValueType → Option ValueType → Option ValueType → Bool
 both_of wanted a b = is_of wanted a && is_of wanted b
 
--- what an operator before its operand wants, and gives
+-- the type of the operand and of the result of a prefix operator
 abbrev pub type_of_prefix : Prefix → ValueType
 type_of_prefix Minus = Number
 type_of_prefix Not = Truth
 
--- what an operator makes of its operands, where they are of the types that it wants
+-- the type of the result of an operator, if its operands have the right types
 abbrev pub type_of_operator : Operator → Option ValueType → Option ValueType → Option ValueType
 type_of_operator Or a b = type_if (both_of Truth a b) Truth
 type_of_operator And a b = type_if (both_of Truth a b) Truth
@@ -141,7 +141,7 @@ type_of_operator AtMost a b = type_if (both_of Number a b) Truth
 type_of_operator Greater a b = type_if (both_of Number a b) Truth
 type_of_operator AtLeast a b = type_if (both_of Number a b) Truth
 
--- the type of an expression; what is refused, or has a refused part, has none
+-- the type of an expression; none if it, or a part of it, is refused
 abbrev pub type_of : Known → Expression → Option ValueType
 type_of known (Literal n) = Some Number
 type_of known (TruthValue offset value) = Some Truth
@@ -154,7 +154,7 @@ type_of known (Elapsed offset) = type_if (knows_elapsed known.rule) Number
 type_of known (Times offset e bag) =
     type_if (is_of Number (type_of known e) && is_readable wanted.Bag known.rule (known.sort bag.number)) Number
 
--- an expression of another type than its offset wants
+-- an expression of another type than is wanted
 abbrev pub type_refusals : ValueType → Option ValueType → ℕ → List Refusal
 type_refusals wanted None offset = []
 type_refusals wanted (Some t) offset = refusal_if (not (same_type wanted t)) E8 offset
@@ -164,11 +164,11 @@ differ None b = false
 differ (Some a) None = false
 differ (Some a) (Some b) = not (same_type a b)
 
--- two operands where this type is wanted of both
+-- two operands that both should have a type
 abbrev pub operands_wanted : ValueType → Option ValueType → ℕ → Option ValueType → ℕ → List Refusal
 operands_wanted wanted a a_offset b b_offset = type_refusals wanted a a_offset ++ type_refusals wanted b b_offset
 
--- what an operator finds wrong with its operands, which begin at these offsets
+-- what is wrong with the operands of an operator, which begin at these offsets
 abbrev pub operand_refusals : Operator → Option ValueType → ℕ → Option ValueType → ℕ → List Refusal
 operand_refusals Or a a_offset b b_offset = operands_wanted Truth a a_offset b b_offset
 operand_refusals And a a_offset b b_offset = operands_wanted Truth a a_offset b b_offset
@@ -184,7 +184,7 @@ operand_refusals AtMost a a_offset b b_offset = operands_wanted Number a a_offse
 operand_refusals Greater a a_offset b b_offset = operands_wanted Number a a_offset b b_offset
 operand_refusals AtLeast a a_offset b b_offset = operands_wanted Number a a_offset b b_offset
 
--- a name where a value is wanted: that of a variable, a flag or a loop variable
+-- a name where a value is wanted: it must be a variable, a flag or a loop variable
 abbrev pub value_name_refusals : Option NameSort → ℕ → List Refusal
 value_name_refusals None offset = refusal E7 offset ∷ []
 value_name_refusals (Some Variable) offset = []
@@ -194,11 +194,11 @@ value_name_refusals (Some Input) offset = refusal E8 offset ∷ []
 value_name_refusals (Some Output) offset = refusal E8 offset ∷ []
 value_name_refusals (Some LoopVariable) offset = []
 
--- an input port where this is wanted: it is a bag, which can be read in external and confluent rules alone
+-- an input port where a collection is wanted: it is a bag, which can be read only in external and confluent rules
 abbrev pub port_refusals : Wanted → Option RuleSort → ℕ → List Refusal
 port_refusals w rule offset = if suits_port w then refusal_if (not (sees_inputs rule)) E9 offset else refusal E8 offset ∷ []
 
--- a name where this is wanted, to be read
+-- a name where a collection is read
 abbrev pub held_name_refusals : Wanted → Option RuleSort → Option NameSort → ℕ → List Refusal
 held_name_refusals w rule None offset = refusal E7 offset ∷ []
 held_name_refusals w rule (Some Variable) offset = refusal E8 offset ∷ []
@@ -226,11 +226,11 @@ expression_refusals known (Times offset e bag) =
     ++ (type_refusals Number (type_of known e) (first_offset e)
     ++ held_name_refusals wanted.Bag known.rule (known.sort bag.number) bag.offset)
 
--- an expression in an offset that wants a type
+-- an expression of which a type is wanted
 abbrev pub offset_refusals : ValueType → Known → Expression → List Refusal
 offset_refusals wanted known e = expression_refusals known e ++ type_refusals wanted (type_of known e) (first_offset e)
 
--- an expression whose value goes where this type is wanted, or where nothing is wanted of it
+-- an expression of which a type is wanted, or none
 abbrev pub value_refusals : Option ValueType → Known → Expression → List Refusal
 value_refusals None known e = expression_refusals known e
 value_refusals (Some wanted) known e = offset_refusals wanted known e
