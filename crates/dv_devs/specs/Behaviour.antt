@@ -18,13 +18,13 @@ use Rattle.dv_bag.specs.declared.entry.Kind.TheVariants.{Internal, External, Con
 use Rattle.dv_bag.specs.declared.entry.What.{What}
 use Rattle.dv_bag.specs.declared.entry.What.TheVariants as what
 
--- what a rule that may change the state leaves: the state, and whether a goto ran
+-- what a rule that may change the state gives: the state, and whether a goto ran
 pub record Change : Type 0 where
   pub state : State
   pub goes : Bool
 
--- What an atomic model is to the rest of the world: its output function, its transitions and its time advance.
--- The bags stand by port. A hold is a number of ticks, or forever. A phase without a confluent rule has None.
+-- An atomic model as functions: its output function, its transitions and its time advance. Bags are listed by port. A hold is a number of
+-- ticks, or forever. A phase without a confluent rule has None.
 pub record Behaviour : Type 0 where
   pub output : State → Result (List Counts) Fault
   pub internal : State → Result Change Fault
@@ -32,15 +32,15 @@ pub record Behaviour : Type 0 where
   pub confluent : List Counts → State → Option (Result Change Fault)
   pub hold : State → Result (Option ℕ) Fault
 
--- A state, the tick of the last transition, and the rank of the next one, if there is one.
--- A component that had a fault is quiet: it has no next time and swallows what it receives.
+-- A state, the tick of the last transition, and the rank of the next one, if there is one. A component that had a fault is quiet: it has no
+-- next time and ignores what it receives.
 pub record Component : Type 0 where
   pub state : State
   pub last : ℕ
   pub next : Option ℕ
   pub quiet : Bool
 
--- the entry of an instant, where there is one: what happened and what was sent; and the component after it
+-- the entry of an instant, if there is one: what happened and what was sent; and the component after it
 pub record Reaction : Type 0 where
   pub event : Option (What × List Counts)
   pub component : Component
@@ -58,7 +58,7 @@ state_with_hold b s = b.hold s >>= λ ticks. Ok (s, Begins ticks)
 abbrev pub internal_of : Behaviour → State → Result (State × Hold) Fault
 internal_of b s = b.internal s >>= λ m. state_with_hold b m.state
 
--- the external rule, which leaves the hold as it is where no goto ran
+-- the external rule; the hold continues if no goto ran
 abbrev pub external_of : Behaviour → ℕ → List Counts → State × Hold → Result (State × Hold) Fault
 external_of b elapsed bags before =
     b.external elapsed bags before.0 >>= λ m. if m.goes then state_with_hold b m.state else Ok (m.state, before.1)
@@ -68,12 +68,12 @@ abbrev pub confluent_of : Behaviour → List Counts → State → Option (Result
 confluent_of b bags s None = internal_of b s >>= external_of b 0 bags
 confluent_of b bags s (Some rule) = rule >>= λ m. state_with_hold b m.state
 
--- is a next time this rank
+-- whether a next time is this rank
 abbrev pub is_at : ℕ → Option ℕ → Bool
 is_at now None = false
 is_at now (Some next) = nat_eq next now
 
--- imminent: its hold runs out now
+-- imminent: its hold ends now
 abbrev pub is_imminent : ℕ → Component → Bool
 is_imminent now c = is_at now c.next
 
@@ -89,7 +89,7 @@ are_few bags = list_all (λ b. nat_le (size b) greatest_count) bags
 abbrev pub bags_or_flood : List Counts → Result (List Counts) Fault
 bags_or_flood bags = if are_few bags then Ok bags else Err Flood
 
--- the output function of a component that is imminent; it sees the state alone
+-- the output function of a component that is imminent; it reads only the state
 abbrev pub emission : Behaviour → ℕ → Component → Result (List Counts) Fault
 emission b now c = if is_imminent now c then b.output c.state else Ok []
 
@@ -104,12 +104,12 @@ transition_of limit b now c bags =
     then (if all_empty bags then internal_of b c.state else confluent_of b bags c.state (b.confluent bags c.state))
     else external_of b (tick_of limit now - c.last) bags (c.state, Continues)
 
--- the rank of the end of a hold, or the fault that the microsteps have run out
+-- the rank of the end of a hold, or the fault of too many microsteps
 abbrev pub rank_or_fault : ℕ → Result Time NoMicrostep → Result (Option ℕ) Fault
 rank_or_fault limit (Ok t) = Ok (Some (rank limit t))
 rank_or_fault limit (Err e) = Err Microsteps
 
--- when a hold that begins now runs out
+-- when a hold that begins now ends
 abbrev pub end_of_hold : ℕ → ℕ → Option ℕ → Result (Option ℕ) Fault
 end_of_hold limit now None = Ok None
 end_of_hold limit now (Some ticks) = rank_or_fault limit (after limit (time_of limit now) ticks)
@@ -130,9 +130,8 @@ reaction_with tick c kind sent (Ok r) = record {
   component = record { state = r.0; last = tick; next = r.1; quiet = false };
 }
 
--- The reaction by what the output function gave. The order of tests: the output, the flood of what came, the transition
--- with its hold, the microsteps.
--- A fault in the output sends nothing; before a later fault what was sent stays sent.
+-- The reaction after the output function. The order of tests: the output, the flood of what arrived, the transition with its hold, the
+-- microsteps. A fault in the output sends nothing; before a later fault what was sent remains sent.
 abbrev pub reaction_after_output : ℕ → Behaviour → ℕ → Component → List Counts → Result (List Counts) Fault → Reaction
 reaction_after_output limit b now c bags (Err f) = reaction_with (tick_of limit now) c (kind_of now c bags) [] (Err f)
 reaction_after_output limit b now c bags (Ok sent) =
@@ -142,8 +141,7 @@ reaction_after_output limit b now c bags (Ok sent) =
     next_of limit now c.next m.1 >>= λ next.
     Ok (m.0, next))
 
--- What happens to one component at one instant. One that is quiet, or that is not imminent and receives no values, only
--- grows older.
+-- What happens to one component at one instant. If it is quiet, or is not imminent and receives no values, only its elapsed time grows.
 abbrev pub reaction : ℕ → Behaviour → ℕ → Component → List Counts → Reaction
 reaction limit b now c bags =
     if not c.quiet && (is_imminent now c || not (all_empty bags))

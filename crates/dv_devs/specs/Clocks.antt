@@ -1,4 +1,4 @@
--- How far a run in parts came.
+-- How far a run in parts has come.
 use Rattle.std.specs.Prelude.{ℕ, List, [], ◌∷◌, min}
 use Rattle.dv_time.specs.Time.{rank}
 use Rattle.dv_time.specs.declared.time.Time.{Time}

@@ -32,7 +32,7 @@ IsAllBefore t p =
     All (λ (e : Entry). time_cmp e.time t ≡ Less) p.entries
     × All (λ (o : Outer). time_cmp o.time t ≡ Less) p.outer
 
--- numbers rise, from one on
+-- numbers are ascending, from one on
 abbrev pub RiseFrom : ℕ → List ℕ → Type 0
 RiseFrom low [] = Unit {0}
 RiseFrom low (k ∷ ks) = (low ≤ k) × RiseFrom (suc k) ks

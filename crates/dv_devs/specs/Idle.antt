@@ -13,15 +13,15 @@ no_values received = list_all all_empty received
 abbrev pub nothing_sent : {I : Type 0} → Network I → List (List Counts)
 nothing_sent net = map (λ (b : Behaviour). []) net.behaviours
 
--- an input with no values: where nobody sends, none arrive
+-- an input with no values: if nothing is sent, none arrive
 abbrev pub BringsNothing : {I : Type 0} → Network I → I → Type 0
 BringsNothing net input = IsTrue (no_values (net.arrives (nothing_sent net) input))
 
--- what leaves the network was sent by a component: where nobody sends, nothing leaves
+-- what leaves the network was sent by a component: if nothing is sent, nothing leaves
 abbrev pub LeavesOnlyWhatIsSent : {I : Type 0} → Network I → Type 0
 LeavesOnlyWhatIsSent net = IsTrue (all_empty (net.leaves (nothing_sent net)))
 
--- no hold runs out now; of a quiet component none does
+-- no hold ends now; a quiet component has none
 abbrev pub none_imminent : ℕ → List Component → Bool
 none_imminent now cs = list_all (λ c. c.quiet || not (is_imminent now c)) cs
 

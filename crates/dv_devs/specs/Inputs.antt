@@ -1,9 +1,9 @@
--- Inputs that cannot be told apart.
+-- Inputs that cannot be distinguished.
 use Rattle.std.specs.Prelude.{◌≡◌, ℕ, ◌<◌, List}
 use Rattle.dv_bag.specs.Bag.{Counts}
 use Rattle.dv_devs.specs.Network.{Network}
 
--- whatever is sent, both inputs bring the same
+-- for everything that is sent, both inputs bring the same
 abbrev pub ArriveAlike : {I : Type 0} → Network I → I → I → Type 0
 ArriveAlike net x y = (sent : List (List Counts)) → net.arrives sent x ≡ net.arrives sent y
 

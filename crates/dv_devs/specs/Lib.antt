@@ -3,7 +3,7 @@ pub mod Behaviour
 pub mod Network
 pub mod Parts
 pub mod Clocks
--- What the laws speak of.
+-- What laws use.
 pub mod Cuts
 pub mod Fits
 pub mod Idle

@@ -65,7 +65,7 @@ stopwatch = record {
   hold = λ s. Ok (Some 10);
 }
 
--- a relay: an input takes it from phase 0, which holds forever, to phase 1; so many ticks later it sends 1 and goes back
+-- a relay: an input takes it from phase 0, which holds forever, to phase 1; after a delay it sends 1 and goes back
 abbrev pub relay : ℕ → Behaviour
 relay delay = record {
   output = λ s. Ok ((if nat_eq s.phase 1 then one (pos 1) else []) ∷ []);

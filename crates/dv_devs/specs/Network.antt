@@ -10,10 +10,9 @@ use Rattle.dv_bag.specs.declared.entry.Entry.{Entry}
 use Rattle.dv_bag.specs.declared.entry.Outer.{Outer}
 use Rattle.dv_bag.specs.declared.entry.What.{What}
 
--- Components with their numbers in the model and their behaviours, and how values travel. A whole model's numbers are 0, 1, 2
--- and so on. I is what comes from outside at one instant: the root's input bags, or the events of packets. What each component
--- sends stands by component and port, and so does what each receives. What leaves depends on what is sent alone, since no
--- input of a model is coupled to its output.
+-- Components with their numbers in the model and their behaviours, and routing. A whole model's numbers are 0, 1, 2 and so on. I is what
+-- comes from outside at one instant: the root's input bags, or the events of packets. What each component sends is listed by component and
+-- port, and so is what each receives. What leaves depends only on what is sent, since no input of a model is coupled to its output.
 pub record Network (I : Type 0) : Type 0 where
   pub numbers : List ℕ
   pub behaviours : List Behaviour
@@ -48,7 +47,7 @@ reactions limit (b ∷ bs) now [] received = []
 reactions limit (b ∷ bs) now (c ∷ cs) received =
     reaction limit b now c (first_bags received) ∷ reactions limit bs now cs (other_bags received)
 
--- one instant: the imminent emit, the values travel, and each component reacts
+-- one instant: the imminent components emit, the values are routed, and each component reacts
 abbrev pub instant : {I : Type 0} → ℕ → Network I → ℕ → I → List Component → List Reaction
 instant limit net now input cs = reactions limit net.behaviours now cs (net.arrives (emissions net.behaviours now cs) input)
 
@@ -65,7 +64,7 @@ components_at limit net inputs (suc n) = components_after limit net n (inputs n)
 abbrev pub emissions_at : {I : Type 0} → ℕ → Network I → (ℕ → I) → ℕ → List (List Counts)
 emissions_at limit net inputs n = emissions net.behaviours n (components_at limit net inputs n)
 
--- the entry of a component, where there is one
+-- the entry of a component, if there is one
 abbrev pub entry_of : ℕ → ℕ → ℕ → Option (What × List Counts) → List Entry
 entry_of limit now k None = []
 entry_of limit now k (Some event) = record { time = time_of limit now; component = k; what = event.0; sent = event.1 } ∷ []

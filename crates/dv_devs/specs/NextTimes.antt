@@ -1,4 +1,4 @@
--- The components' next times, and what is so of them in every run.
+-- The components' next times, and what is true of them in every run.
 use Rattle.std.specs.Prelude.{◌≡◌, ℕ, ◌≤◌, IsTrue, List, [], ◌∷◌, length, Option, Some, None}
 use Rattle.std.specs.List.{Contains}
 use Rattle.dv_time.specs.Time.{earlier, time_of}
@@ -26,7 +26,7 @@ abbrev pub AllQuietForGood : List Component → Type 0
 AllQuietForGood [] = Unit {0}
 AllQuietForGood (c ∷ cs) = (IsTrue c.quiet → c.next ≡ None) × AllQuietForGood cs
 
--- a network as a run begins: each component has its behaviour and its number, and one that is quiet has no next time
+-- a network at the beginning of a run: each component has its behaviour and its number, and a quiet one has no next time
 pub record IsReady {I : Type 0} (net : Network I) : Type 0 where
   pub matched : length net.behaviours ≡ length net.start
   pub numbered : length net.numbers ≡ length net.behaviours

@@ -1,4 +1,4 @@
--- What leaves of several sets of components, united by time and port.
+-- What leaves several sets of components, united by time and port.
 use Rattle.std.specs.Prelude.{◌≡◌, ℕ, ◌<◌, List, [], ◌∷◌}
 use Rattle.std.specs.List.{All}
 use Rattle.std.specs.Ordering.{match_ordering, nat_cmp, ordering_then}
@@ -12,7 +12,7 @@ use Rattle.dv_devs.specs.Network.{Network, emissions_at}
 abbrev pub line_cmp : Outer → Outer → Ordering
 line_cmp a b = ordering_then (time_cmp a.time b.time) (nat_cmp a.port b.port)
 
--- with one line more; where a line of its time and port stands, their bags are united
+-- with one more line; if there is a line of its time and port, their bags are united
 abbrev pub with_line : Outer → List Outer → List Outer
 with_line o [] = o ∷ []
 with_line o (p ∷ ps) =
@@ -46,7 +46,7 @@ AllBags sent = All (All IsBag) sent
 abbrev pub SendsBags : {I : Type 0} → ℕ → Network I → (ℕ → I) → ℕ → Type 0
 SendsBags limit net inputs n = (k : ℕ) → k < n → AllBags (emissions_at limit net inputs k)
 
--- what leaves is linear: bags where bags are sent, and of what is sent in both it is the union
+-- what leaves is linear: bags if bags are sent, and for the union of what is sent in both it is the union
 pub record LeavesLinearly {I : Type 0} (net : Network I) : Type 0 where
   pub bags : (sent : List (List Counts)) → AllBags sent → All IsBag (net.leaves sent)
   pub union : (a b : List (List Counts)) → AllBags a → AllBags b

@@ -5,7 +5,7 @@ use Rattle.dv_bag.specs.Part.{PartOf}
 use Rattle.dv_bag.specs.declared.entry.Entry.{Entry}
 use Rattle.dv_devs.specs.Network.{Network, all_before, emissions_at, outer_from, trace_at}
 
--- what the components of a set send, where the others send nothing
+-- what the components of a set send, while the others send nothing
 abbrev pub sent_among : (ℕ → Bool) → List ℕ → List (List Counts) → List (List Counts)
 sent_among who [] sent = []
 sent_among who (k ∷ ks) [] = []

@@ -1,4 +1,4 @@
--- Short words for worked rows.
+-- Abbreviations for worked rows.
 use Rattle.std.specs.Prelude.{ℕ, false, nat_eq, if◌then◌else◌, List, [], ◌∷◌, Option, ℤ}
 use Rattle.dv_bag.specs.Bag.{Counts}
 use Rattle.dv_bag.specs.Part.{PartOf}
@@ -25,7 +25,7 @@ phase_alone p = record { phase = p; variables = [] }
 abbrev pub component_until : State → Option ℕ → Component
 component_until s next = record { state = s; last = 0; next = next; quiet = false }
 
--- so many copies of a value, and one
+-- copies of a value, and one copy
 abbrev pub copies : ℤ → ℕ → Counts
 copies v n = (v, n) ∷ []
 
