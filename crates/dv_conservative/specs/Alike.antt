@@ -1,4 +1,4 @@
--- Shares that run alike: they differ at most in what comes from outside and leads to none of their components.
+-- Shares that run alike: they differ at most in bags from outside that arrive at none of their components.
 use Rattle.std.specs.Prelude.{◌≡◌, ℕ, List}
 use Rattle.dv_bag.specs.Bag.{Counts}
 use Rattle.dv_devs.specs.Inputs.{ArriveAlike}
@@ -6,7 +6,7 @@ use Rattle.dv_conservative.specs.Flat.{network}
 use Rattle.dv_conservative.specs.Links.{Delivery}
 use Rattle.dv_conservative.specs.Process.{Share}
 
--- a share, with other bags that come from outside
+-- a share, with other bags from outside
 abbrev pub with_outside : (ℕ → List Counts) → Share → Share
 with_outside outside s = record {
   limit = s.limit;
@@ -18,7 +18,7 @@ with_outside outside s = record {
   response = s.response;
 }
 
--- one is the other but for the outside, of which the same arrives
+-- two shares are the same but for the outside, of which the same arrives
 pub record AreAlike (s t : Share) : Type 0 where
   pub same : s ≡ with_outside s.outside t
   pub outside : (n : ℕ) (ds : List Delivery) → ArriveAlike (network t.flat) (s.outside n, ds) (t.outside n, ds)

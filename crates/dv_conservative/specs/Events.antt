@@ -8,7 +8,7 @@ use Rattle.dv_time.specs.declared.time.Time.{Time}
 use Rattle.dv_bag.specs.Bag.{capped}
 use Rattle.dv_conservative.specs.Links.{Delivery, delivered}
 
--- at a time, so many copies of a value for an input port of a component
+-- copies of a value for an input port of a component, at a time
 pub record Event : Type 0 where
   pub time : Time
   pub component : ℕ
@@ -45,7 +45,7 @@ abbrev pub AllHaveCopies : List Event → Type 0
 AllHaveCopies [] = Unit {0}
 AllHaveCopies (e ∷ es) = (0 < e.copies) × (e.copies < 2 ^ 64) × AllHaveCopies es
 
--- with one delivery more, which joins that of its port and value, if there is one
+-- with one more delivery, which joins that of its port and value, if there is one
 abbrev pub with_delivery : Delivery → List Delivery → List Delivery
 with_delivery d [] = record { component = d.component; port = d.port; value = d.value; copies = capped d.copies } ∷ []
 with_delivery d (e ∷ es) =
@@ -54,22 +54,22 @@ with_delivery d (e ∷ es) =
     (record { component = e.component; port = e.port; value = e.value; copies = capped (d.copies + e.copies) } ∷ es)
     (e ∷ with_delivery d es)
 
--- deliveries in order: those of one port and value are one, and none is without copies
+-- deliveries in order: those of one port and value are joined, and none has zero copies
 abbrev pub in_order : List Delivery → List Delivery
 in_order [] = []
 in_order (d ∷ ds) = if nat_eq d.copies 0 then in_order ds else with_delivery d (in_order ds)
 
--- is a time this one
+-- whether a time is this one
 abbrev pub same_time : Time → Time → Bool
 same_time t u = nat_eq t.tick u.tick && nat_eq t.micro u.micro
 
--- what comes of events at a rank
+-- what events deliver at a rank
 abbrev pub deliveries_at : ℕ → List Event → ℕ → List Delivery
 deliveries_at limit [] n = []
 deliveries_at limit (e ∷ es) n =
     if same_time e.time (time_of limit n) then delivery_of e ∷ deliveries_at limit es n else deliveries_at limit es n
 
--- the events of so many ranks from one on
+-- the events of a number of ranks from one on
 abbrev pub events_from : ℕ → (ℕ → List Delivery) → ℕ → ℕ → List Event
 events_from limit stream n zero = []
 events_from limit stream n (suc count) =
@@ -79,7 +79,7 @@ events_from limit stream n (suc count) =
 abbrev pub events_between : ℕ → (ℕ → List Delivery) → ℕ → ℕ → List Event
 events_between limit stream from upto = events_from limit stream from (upto - from)
 
--- the times of events are of the run
+-- the times of events are times of the run
 abbrev pub AllOfRun : ℕ → List Event → Type 0
 AllOfRun limit [] = Unit {0}
 AllOfRun limit (e ∷ es) = IsOfRun limit e.time × AllOfRun limit es

@@ -5,15 +5,15 @@ use Rattle.dv_devs.specs.Behaviour.{Behaviour, Component}
 use Rattle.dv_devs.specs.Network.{Network, emissions_at}
 use Rattle.dv_conservative.specs.Links.{Link, Delivery, carried, inbox, sent_of, links_between}
 
--- a component: its number in the model, how many input ports it has, what it does and how it starts
+-- a component: its number in the model, the number of its input ports, its behaviour and its start
 pub record Member : Type 0 where
   pub number : ℕ
   pub ports : ℕ
   pub behaviour : Behaviour
   pub start : Component
 
--- components in the order of their numbers, links between them, links from outside and to the outside, and how many ports the
--- outside has
+-- components in the order of their numbers, links between them, links from outside and to the outside, and the number of ports of the
+-- outside
 pub record Flat : Type 0 where
   pub members : List Member
   pub links : List Link
@@ -32,7 +32,7 @@ abbrev pub received : List Member → List Delivery → List (List Counts)
 received [] ds = []
 received (m ∷ ms) ds = inbox m.number ds 0 m.ports ∷ received ms ds
 
--- Its network. What comes at an instant are the bags of the outside, and deliveries from components that are not its own.
+-- Its network. At an instant come the bags of the outside, and deliveries from components that are not its own.
 abbrev pub network : Flat → Network (List Counts × List Delivery)
 network f = record {
   numbers = numbers f.members;
@@ -63,7 +63,7 @@ share who f = record {
   outputs = f.outputs;
 }
 
--- of a list in the order of numbers, what stands at those of a set
+-- of a list in the order of numbers, the elements of a set of numbers
 abbrev pub kept : {X : Type 0} → (ℕ → Bool) → List ℕ → List X → List X
 kept who [] xs = []
 kept who (k ∷ ks) [] = []
@@ -81,7 +81,7 @@ crossings limit f outside from to n =
 abbrev pub others : (ℕ → Bool) → ℕ → Bool
 others who k = not (who k)
 
--- what a share's run sends by links that lead away at a rank
+-- what a share's run sends by outgoing links at a rank
 abbrev pub sends_by : ℕ → Flat → List Link → (ℕ → List Counts × List Delivery) → ℕ → List Delivery
 sends_by limit f away inputs n = carried away (sent_of (numbers f.members) (emissions_at limit (network f) inputs n))
 

@@ -9,7 +9,7 @@ pub mod World
 pub mod Channels
 pub mod Responses
 pub mod Alike
--- What the laws speak of.
+-- What laws use.
 pub mod Sound
 pub mod True
 pub mod Rounds

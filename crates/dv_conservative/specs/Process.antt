@@ -1,4 +1,4 @@
--- One process: its share of the model, the packets that it received, what it runs of them, and until when it knows what it sends.
+-- One process: its share of the model, the packets that it received, its local run, and how long it knows what it sends.
 use Rattle.std.specs.Prelude.{◌≡◌, ℕ, zero, suc, ◌+◌, ◌-◌, ◌^◌, ◌<◌, ◌≤◌, min, Bool, true, false, not, ◌&&◌, ◌||◌, nat_eq}
 use Rattle.std.specs.Prelude.{nat_lt, nat_le, if◌then◌else◌, IsTrue, List, [], ◌∷◌, ◌++◌, Option, Some, None}
 use Rattle.std.specs.List.{list_any, list_all}
@@ -27,8 +27,8 @@ pub record Outgoing : Type 0 where
   pub number : ℕ
   pub links : List Link
 
--- What a process has of the model: its components with the links between them and from and to the outside, what comes from
--- outside at each rank, the numbers of the links that lead here, the links that lead away, and a response of its components.
+-- What a process has of the model: its components with the links between them and from and to the outside, what comes from outside at each
+-- rank, the numbers of the incoming links, the outgoing links, and a response of its components.
 pub record Share : Type 0 where
   pub limit : ℕ
   pub horizon : ℕ
@@ -49,7 +49,7 @@ IsWithin s t = (t.micro ≤ s.limit) × (rank s.limit t ≤ end_rank s)
 abbrev pub first_time : Time
 first_time = record { tick = 0; micro = 0 }
 
--- the channel clock: where the window of the last packet ends
+-- the channel clock: the end of the window of the last packet
 abbrev pub clock_after : Time → List Packet → Time
 clock_after start [] = start
 clock_after start (p ∷ ps) = clock_after p.upto ps
@@ -57,7 +57,7 @@ clock_after start (p ∷ ps) = clock_after p.upto ps
 abbrev pub channel_clock : List Packet → Time
 channel_clock ps = clock_after first_time ps
 
--- the rank of the least channel clock, or the end where that is less or no link leads here
+-- the rank of the least channel clock, or the end if that is less or there is no incoming link
 abbrev pub least_of : ℕ → ℕ → List ℕ → (ℕ → List Packet) → ℕ
 least_of limit bound [] received = bound
 least_of limit bound (l ∷ ls) received = min (rank limit (channel_clock (received l))) (least_of limit bound ls received)
@@ -78,7 +78,7 @@ abbrev pub all_events : List ℕ → (ℕ → List Event) → List Event
 all_events [] events = []
 all_events (l ∷ ls) events = events l ++ all_events ls events
 
--- The local run: the components of the share alone, fed with what comes from outside and with these events, by link.
+-- The local run: the components of the share alone, which receive what comes from outside and these events, by link.
 abbrev pub inputs_by : Share → (ℕ → List Event) → ℕ → List Counts × List Delivery
 inputs_by s events n = (s.outside n, deliveries_at s.limit (all_events s.incoming events) n)
 
@@ -88,7 +88,7 @@ components_by s events n = components_at s.limit (network s.flat) (inputs_by s e
 abbrev pub part_by : Share → (ℕ → List Event) → ℕ → PartOf
 part_by s events n = trace_before s.limit (network s.flat) (inputs_by s events) n
 
--- what it sends by a link at a rank
+-- what it sends on a link at a rank
 abbrev pub sent_on : Share → (ℕ → List Event) → Outgoing → ℕ → List Delivery
 sent_on s events out n = sends_by s.limit s.flat out.links (inputs_by s events) n
 
@@ -117,24 +117,23 @@ AllMayCome limit received (l ∷ ls) further =
 abbrev pub and_further : (ℕ → List Packet) → (ℕ → List Event) → ℕ → List Event
 and_further received further l = events_by received l ++ further l
 
--- A time is settled for a link that leads away: what is sent on it before is the same, whatever events still come.
+-- A time is settled for an outgoing link: what is sent on it before is the same for all events that still come.
 abbrev pub IsSettled : Share → (ℕ → List Packet) → Outgoing → Time → Type 0
 IsSettled s received out u =
     (further : ℕ → List Event) → AllMayCome s.limit received s.incoming further
     → (n : ℕ) → n < rank s.limit u → n < end_rank s
     → in_order (sent_on s (and_further received further) out n) ≡ in_order (sent_on s (events_by received) out n)
 
--- comes anything at a rank, if nobody in the share sends
+-- whether anything comes at a rank, if nothing is sent in the share
 abbrev pub brings : Share → (ℕ → List Event) → ℕ → Bool
 brings s events n = not (no_values ((network s.flat).arrives (nothing_sent (network s.flat)) (inputs_by s events n)))
 
--- the first of so many ranks from one on that passes a test; if none does, the rank after them
+-- the first of a number of ranks from one on that satisfies a test; if none does, the rank after them
 abbrev pub first_from : (ℕ → Bool) → ℕ → ℕ → ℕ
 first_from test n zero = n
 first_from test n (suc count) = if test n then n else first_from test (n + 1) count
 
--- Until when a process that stands at a rank knows what comes: the least of the end, its channel clocks and the inputs that it
--- holds and has not committed.
+-- How long a process at a rank knows what comes: the least of the end, its channel clocks and the inputs that it has and has not committed.
 abbrev pub known_until : Share → (ℕ → List Packet) → ℕ → ℕ
 known_until s received k = first_from (brings s (events_by received)) k (least_clock s received - k)
 
@@ -142,21 +141,21 @@ abbrev pub at_most : ℕ → Option ℕ → ℕ
 at_most bound None = bound
 at_most bound (Some n) = min bound n
 
--- The promise of a process that stands at a rank, which is never past the end: after its next time where that is now, and else
--- its next time or an answer to the first input, whichever is sooner.
+-- The promise of a process at a rank, which is never past the end: after its next time if that is now, and else its next time or an answer
+-- to the first input, whichever is sooner.
 abbrev pub promise : Share → (ℕ → List Packet) → ℕ → ℕ
 promise s received k =
     at_most (end_rank s)
     (foreseen s.limit k (components_by s (events_by received) k) (known_until s received k) s.response)
 
--- why a packet is refused: no such link; another window is next; the window is none; an event is none of it
+-- why a packet is refused: there is no such link; another window is next; the window is none; an event is not of it
 pub data Refused : Type 0 where
   P1 : Refused
   P2 : Refused
   P3 : Refused
   P4 : Refused
 
--- is there such a port of a component
+-- whether there is such a port of a component
 abbrev pub is_port_of : List Member → ℕ → ℕ → Bool
 is_port_of [] k port = false
 is_port_of (m ∷ ms) k port = (nat_eq m.number k && nat_lt port m.ports) || is_port_of ms k port
@@ -166,7 +165,7 @@ is_window s p =
     nat_lt (rank s.limit p.from) (rank s.limit p.upto)
     && (nat_le (rank s.limit p.upto) (end_rank s) && nat_le p.upto.micro s.limit)
 
--- is an event within the window of its packet, and for a port of the share
+-- whether an event is within the window of its packet, and for a port of the share
 abbrev pub is_event_of : Share → Packet → Event → Bool
 is_event_of s p e =
     nat_le e.time.micro s.limit
@@ -190,6 +189,6 @@ refusal_of s received p =
     else if not (are_in_order p.events && list_all (is_event_of s p) p.events) then Some P3
     else None
 
--- what was received, with a packet more on its link
+-- what was received, with one more packet on its link
 abbrev pub with_packet : (ℕ → List Packet) → Packet → ℕ → List Packet
 with_packet received p l = if nat_eq l p.link then received l ++ p ∷ [] else received l

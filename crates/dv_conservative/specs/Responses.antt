@@ -2,7 +2,7 @@
 use Rattle.std.specs.Prelude.{ℕ, ◌+◌, nat_eq, if◌then◌else◌, List, [], ◌∷◌, Option, None}
 use Rattle.dv_time.specs.Time.{earlier}
 
--- by the responses of the components from a number on, and who has which component
+-- by the responses of the components from a number on, and the process of each component
 abbrev pub least_response : (ℕ → ℕ) → ℕ → ℕ → List (Option ℕ) → Option ℕ
 least_response owner p k [] = None
 least_response owner p k (r ∷ rs) =

@@ -69,7 +69,7 @@ event_at t component value = record { time = t; component = component; port = 0;
 abbrev pub packet : ℕ → Time → Time → List Event → Packet
 packet link from upto events = record { link = link; from = from; upto = upto; events = events }
 
--- what the second relay's process, which has received nothing, or one packet, answers to another
+-- how the second relay's process, which has received nothing, or one packet, answers another
 abbrev pub answer_to : Packet → Option Refused
 answer_to p = refusal_of (share_of two_relays 1) nothing_received p
 

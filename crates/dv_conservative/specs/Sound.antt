@@ -1,5 +1,5 @@
--- What is asked of a model that is run in parts: numbers of the language, states that fit, links that lead to ports, and a link
--- between processes wherever one between components crosses.
+-- What is required of a model that is run in parts: numbers of the language, states that fit, links that lead to ports, and a link between
+-- processes wherever one between components crosses.
 use Rattle.std.specs.Prelude.{◌≡◌, ℕ, zero, suc, Bool, true, false, not, ◌||◌, ◌&&◌, nat_eq, IsTrue, IsFalse, IfOk, List, []}
 use Rattle.std.specs.Prelude.{◌∷◌, Option, None}
 use Rattle.std.specs.List.{list_all}
@@ -13,14 +13,14 @@ use Rattle.dv_conservative.specs.Process.{Packet, Share, events_by, is_port_of}
 use Rattle.dv_conservative.specs.Promise.{IsResponse}
 use Rattle.dv_conservative.specs.World.{Channel, Job, owned}
 
--- are all values numbers of the language
+-- whether all values are numbers of the language
 abbrev pub is_of_numbers : Counts → Bool
 is_of_numbers bag = list_all (λ p. is_number p.0) bag
 
 abbrev pub are_of_numbers : List Counts → Bool
 are_of_numbers bags = list_all is_of_numbers bags
 
--- A component keeps to the states that fit, sends numbers from them, and has this response.
+-- From the states that fit, a component leads to states that fit, sends numbers, and has this response.
 pub record IsSound (fits : State → Bool) (r : Option ℕ) (m : Member) : Type 0 where
   pub keeps : Keeps fits are_of_numbers m.behaviour
   pub responds : IsResponse fits are_of_numbers r m.behaviour
@@ -44,7 +44,7 @@ abbrev pub AllNumbers : List Event → Type 0
 AllNumbers [] = Unit {0}
 AllNumbers (e ∷ es) = IsTrue (is_number e.value) × AllNumbers es
 
--- of all packets that were received
+-- the same for all packets that were received
 abbrev pub AllReceivedNumbers : (ℕ → List Packet) → List ℕ → Type 0
 AllReceivedNumbers received [] = Unit {0}
 AllReceivedNumbers received (l ∷ ls) = AllNumbers (events_by received l) × AllReceivedNumbers received ls
@@ -59,7 +59,7 @@ abbrev pub AllLead : List Member → List Link → Type 0
 AllLead ms [] = Unit {0}
 AllLead ms (l ∷ ls) = IsTrue (is_port_of ms l.to l.to_port) × AllLead ms ls
 
--- is there a link to a process from that of a component
+-- whether there is a link to a process from that of a component
 abbrev pub is_heard : Job → ℕ → List Channel → ℕ → Bool
 is_heard job q [] k = false
 is_heard job q (c ∷ cs) k = (nat_eq c.target q && owned job c.source k) || is_heard job q cs k
@@ -70,7 +70,7 @@ AreApart job q [] = Unit {0}
 AreApart job q (c ∷ cs) =
     (IsTrue (nat_eq c.target q) → (k : ℕ) → IsTrue (owned job c.source k) → IsFalse (is_heard job q cs k)) × AreApart job q cs
 
--- where a link between components leads to a process from another, there is a link between these
+-- if a link between components leads to a process from another, there is a link between these
 abbrev pub AllHeard : Job → ℕ → List Link → Type 0
 AllHeard job q [] = Unit {0}
 AllHeard job q (l ∷ ls) =

@@ -5,15 +5,15 @@ use Rattle.dv_time.specs.Time.{rank}
 use Rattle.dv_time.specs.declared.time.Time.{Time}
 use Rattle.dv_conservative.specs.Process.{IsWithin, Outgoing, Packet, Share, end_rank, events_by, least_clock, packet_of, promise}
 
--- what a turn changes: the clock, and by the number of a link that leads away the packet that stands and where the last window
--- that was prepared ends
+-- what a turn changes: the clock, and by the number of an outgoing link the packet that is prepared and not put yet, and the end of the
+-- last window that was prepared
 pub record Position : Type 0 where
   pub clock : Time
   pub standing : ℕ → Option Packet
   pub promised : ℕ → Time
 
--- a packet was prepared on a link: its window is the next, its events are the local run's, and it ends after it begins and not
--- after the promise of the position that is left
+-- a packet was prepared on a link: its window is the next, its events are the local run's, and it ends after it begins and not after the
+-- promise of the position before the turn
 pub record Prepares (s : Share) (received : ℕ → List Packet) (out : Outgoing) (before after : Position) : Type 0 where
   pub upto : Time
   pub free : before.standing out.number ≡ None
@@ -36,7 +36,7 @@ abbrev pub AllMayBecome : Share → (ℕ → List Packet) → Position → Posit
 AllMayBecome s received before after [] = Unit {0}
 AllMayBecome s received before after (o ∷ os) = MayBecome s received o before after × AllMayBecome s received before after os
 
--- a link on which no packet stood has been promised at least the promise of the position that is left, and the clock passed
+-- a link without a prepared packet has been promised at least the promise of the position before the turn, and the clock passed
 abbrev pub IsPromised : Share → (ℕ → List Packet) → Position → Position → Outgoing → Type 0
 IsPromised s received before after o =
     before.standing o.number ≡ None
@@ -47,8 +47,8 @@ abbrev pub AllPromised : Share → (ℕ → List Packet) → Position → Positi
 AllPromised s received before after [] = Unit {0}
 AllPromised s received before after (o ∷ os) = IsPromised s received before after o × AllPromised s received before after os
 
--- What a turn may do: the clock does not fall and passes no channel clock and not the end; on a link that leads away and on which
--- no packet stands the next one may be prepared.
+-- What a turn may do: the clock does not fall and passes neither a channel clock nor the end; on an outgoing link without a prepared packet
+-- the next one may be prepared.
 pub record MayTurn (s : Share) (received : ℕ → List Packet) (before after : Position) : Type 0 where
   pub rises : rank s.limit before.clock ≤ rank s.limit after.clock
   pub within : IsWithin s after.clock
@@ -60,7 +60,7 @@ pub record Progresses (s : Share) (received : ℕ → List Packet) (before after
   pub clock : (rank s.limit after.clock ≡ least_clock s received) ⊎ (rank s.limit before.clock < rank s.limit after.clock)
   pub links : AllPromised s received before after s.outgoing
 
--- a turn as its contract has it
+-- a turn as in its contract
 pub record IsTurnOf (s : Share) (received : ℕ → List Packet) (before after : Position) : Type 0 where
   pub may : MayTurn s received before after
   pub must : Progresses s received before after
@@ -71,25 +71,25 @@ pub data Turned : Type 0 where
   Waiting : Turned
   Done : Turned
 
--- does no packet stand on a link that leads away
+-- whether no packet is prepared on any outgoing link
 abbrev pub all_free : Position → List Outgoing → Bool
 all_free x [] = true
 all_free x (o ∷ os) = is_none (x.standing o.number) && all_free x os
 
--- was a packet prepared: one stands where none stood
+-- whether a packet was prepared: there is one where there was none
 abbrev pub some_prepared : Position → Position → List Outgoing → Bool
 some_prepared before after [] = false
 some_prepared before after (o ∷ os) =
     (is_none (before.standing o.number) && is_some (after.standing o.number)) || some_prepared before after os
 
--- at the end, with no packet standing, it is done; else it moved where the clock rose or a packet was prepared
+-- at the end, without prepared packets, it is done; else it moved if the clock rose or a packet was prepared
 abbrev pub turned : Share → Position → Position → Turned
 turned s before after =
     if nat_eq (rank s.limit after.clock) (end_rank s) && all_free after s.outgoing then Done
     else if nat_lt (rank s.limit before.clock) (rank s.limit after.clock) || some_prepared before after s.outgoing then Moved
     else Waiting
 
--- two positions are the same: the clock, and what stands and was promised on the links that lead away
+-- two positions are the same: the clock, and what is prepared and was promised on the outgoing links
 abbrev pub AllStayOn : List Outgoing → Position → Position → Type 0
 AllStayOn [] before after = Unit {0}
 AllStayOn (o ∷ os) before after = StaysOn o before after × AllStayOn os before after

@@ -15,8 +15,8 @@ pub record Channel : Type 0 where
   pub source : ℕ
   pub target : ℕ
 
--- A flat model with what comes from outside at each rank, to a horizon, under a microstep limit; how many processes run it, which
--- one has a component, the links between them, in the order of their numbers, and a response of each.
+-- A flat model with what comes from outside at each rank, to a horizon, under a microstep limit; the number of processes, the process of
+-- each component, the links between processes, in the order of their numbers, and a response of each.
 pub record Job : Type 0 where
   pub limit : ℕ
   pub horizon : ℕ
@@ -27,7 +27,7 @@ pub record Job : Type 0 where
   pub channels : List Channel
   pub responses : ℕ → Option ℕ
 
--- is a component the process's own
+-- whether a component is the process's own
 abbrev pub owned : Job → ℕ → ℕ → Bool
 owned job p k = nat_eq (job.owner k) p
 
@@ -40,7 +40,7 @@ incoming_from q l (c ∷ cs) = if nat_eq c.target q then l ∷ incoming_from q (
 abbrev pub outgoing_on : Job → ℕ → Channel → Outgoing
 outgoing_on job l c = record { number = l; links = links_between (owned job c.source) (owned job c.target) job.flat.links }
 
--- the links that lead away from a process
+-- the outgoing links of a process
 abbrev pub outgoing_from : Job → ℕ → ℕ → List Channel → List Outgoing
 outgoing_from job p l [] = []
 outgoing_from job p l (c ∷ cs) =
@@ -58,8 +58,8 @@ share_of job p = record {
   response = job.responses p;
 }
 
--- A link with the packets that were put on it, in their order: those that its receiver has, those on their way, and one that
--- stands at its sender. So many may be on their way.
+-- A link with the packets that were put on it, in order: those that its receiver has, those in the queue, and one that its sender has
+-- prepared. `capacity` limits the queue.
 pub record LinkState : Type 0 where
   pub capacity : ℕ
   pub received : List Packet
@@ -72,7 +72,7 @@ pub record World : Type 0 where
   pub stopped : ℕ → Bool
   pub link : ℕ → LinkState
 
--- as it begins
+-- the world at the beginning
 abbrev pub new_world : ℕ → World
 new_world capacity = record {
   clock = λ p. first_time;
@@ -80,11 +80,11 @@ new_world capacity = record {
   link = λ l. record { capacity = capacity; received = []; queued = []; standing = None };
 }
 
--- what was received by each link
+-- what was received on each link
 abbrev pub received_in : World → ℕ → List Packet
 received_in w l = (w.link l).received
 
--- the packet that stands, if there is one
+-- the prepared packet, if there is one
 abbrev pub packets_in : Option Packet → List Packet
 packets_in None = []
 packets_in (Some p) = p ∷ []
@@ -93,7 +93,7 @@ packets_in (Some p) = p ∷ []
 abbrev pub all_of : LinkState → List Packet
 all_of x = x.received ++ (x.queued ++ packets_in x.standing)
 
--- where the last window that was prepared on a link ends
+-- the end of the last window that was prepared on a link
 abbrev pub promised_on : LinkState → Time
 promised_on x = clock_after first_time (all_of x)
 
@@ -104,7 +104,7 @@ pub data Step : Type 0 where
   Take : (number : ℕ) → Step
   Stop : (process : ℕ) → Step
 
--- what a step is answered; all but Done change nothing
+-- the answer to a step; all but Done change nothing
 pub data Reply : Type 0 where
   Done : Reply
   Refused : Reply
@@ -113,7 +113,7 @@ pub data Reply : Type 0 where
   Full : Reply
   Memory : Reply
 
--- the first of the refusals that holds
+-- the first of the refusals that applies
 abbrev pub of_process : Job → World → ℕ → Option Reply
 of_process job w p = if nat_lt p job.processes then (if w.stopped p then Some Stopped else None) else Some Refused
 
@@ -135,7 +135,7 @@ refusal job w (Put l) = of_link w (λ c. c.source) (slice_get job.channels l) (p
 refusal job w (Take l) = of_link w (λ c. c.target) (slice_get job.channels l) (take_reply (w.link l).queued)
 refusal job w (Stop p) = if nat_lt p job.processes then None else Some Refused
 
--- a link with the packet that stands at its sender put to the end, and with the front one taken
+-- a link after its prepared packet was put at the end, and after the front one was taken
 abbrev pub after_put : LinkState → LinkState
 after_put x = record { capacity = x.capacity; received = x.received; queued = x.queued ++ packets_in x.standing; standing = None }
 
@@ -149,8 +149,8 @@ after_take x = took_front x x.queued
 abbrev pub with_standing : LinkState → Packet → LinkState
 with_standing x p = record { capacity = x.capacity; received = x.received; queued = x.queued; standing = Some p }
 
--- A packet is prepared: none stood; its window joins the last one, ends after it begins, and where what is sent is settled; its
--- events are those of the local run.
+-- A packet is prepared: there was none; its window joins the last one, ends after it begins, and where what is sent is settled; its events
+-- are those of the local run.
 pub record IsPrepared (s : Share) (received : ℕ → List Packet) (out : Outgoing) (before after : LinkState) : Type 0 where
   pub upto : Time
   pub free : before.standing ≡ None
@@ -159,22 +159,22 @@ pub record IsPrepared (s : Share) (received : ℕ → List Packet) (out : Outgoi
   pub settled : IsSettled s received out upto
   pub made : after ≡ with_standing before (packet_of s (events_by received) out (promised_on before) upto)
 
--- on a link that leads away from a process
+-- on an outgoing link of a process
 pub record IsPreparedOn (job : Job) (p : ℕ) (w v : World) (l : ℕ) : Type 0 where
   pub channel : Channel
   pub there : slice_get job.channels l ≡ Some channel
   pub own : channel.source ≡ p
   pub prepared : IsPrepared (share_of job p) (received_in w) (outgoing_on job l channel) (w.link l) (v.link l)
 
--- all clocks but one stay, and all links but one
+-- all clocks but one stay the same, and all links but one
 abbrev pub OtherClocksStay : ℕ → World → World → Type 0
 OtherClocksStay p w v = (q : ℕ) → nat_eq q p ≡ false → v.clock q ≡ w.clock q
 
 abbrev pub OtherLinksStay : ℕ → World → World → Type 0
 OtherLinksStay l w v = (m : ℕ) → nat_eq m l ≡ false → v.link m ≡ w.link m
 
--- A turn of a process: its clock does not fall and passes no channel clock and not the end, and on links that lead away from it
--- packets may be prepared.
+-- A turn of a process: its clock does not fall and passes neither a channel clock nor the end, and on its outgoing links packets may be
+-- prepared.
 pub record IsTurn (job : Job) (p : ℕ) (w v : World) : Type 0 where
   pub rises : rank job.limit (w.clock p) ≤ rank job.limit (v.clock p)
   pub within : IsWithin (share_of job p) (v.clock p)
@@ -183,7 +183,7 @@ pub record IsTurn (job : Job) (p : ℕ) (w v : World) : Type 0 where
   pub stopped : v.stopped ≡ w.stopped
   pub links : (l : ℕ) → (v.link l ≡ w.link l) ⊎ IsPreparedOn job p w v l
 
--- a link becomes another, and all else stays
+-- a link becomes another, and everything else stays the same
 pub record IsMove (l : ℕ) (after : LinkState) (w v : World) : Type 0 where
   pub link : v.link l ≡ after
   pub others : OtherLinksStay l w v
@@ -203,8 +203,7 @@ Does job (Put l) w v = IsMove l (after_put (w.link l)) w v
 Does job (Take l) w v = IsMove l (after_take (w.link l)) w v
 Does job (Stop p) w v = IsStop p w v
 
--- The reply to a step, and the world after it, where nothing refuses it: only where memory runs out it is not done. A stop takes
--- none.
+-- The reply to a step, and the world after it, if it is not refused: it is not done only if memory runs out. A stop needs no memory.
 abbrev pub Answers : Job → Step → Reply → World → World → Type 0
 Answers job s Done w v = Does job s w v
 Answers job (Stop p) Memory w v = ⊥
@@ -228,7 +227,7 @@ abbrev pub position_in : World → ℕ → Position
 position_in w p =
     record { clock = w.clock p; standing = λ l. (w.link l).standing; promised = λ l. promised_on (w.link l) }
 
--- all but the position of a process stays: the other clocks, the links that do not lead away from it, and of those that do what is
+-- everything but the position of a process stays the same: the other clocks, the links that are not its outgoing ones, and of those what is
 -- received and queued
 pub record StaysBeside (job : Job) (p : ℕ) (w v : World) : Type 0 where
   pub clocks : OtherClocksStay p w v
