@@ -6,5 +6,5 @@ pub mod Answers
 -- What each part of the code does.
 pub mod Steps
 pub mod Grouped
--- The words of a refusal.
+-- The text of a refusal.
 pub mod Words

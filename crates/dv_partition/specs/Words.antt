@@ -1,4 +1,4 @@
--- The words of a refusal of a partition.
+-- The text of a refusal of a partition.
 use Rattle.std.specs.Prelude.{ℕ, List, codes}
 use Rattle.dv_partition.specs.declared.error.PartitionRefusal.{PartitionRefusal}
 use Rattle.dv_partition.specs.declared.error.PartitionRefusal.TheVariants.{Q1, Q2, Q3, Q4}
