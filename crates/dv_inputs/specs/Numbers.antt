@@ -1,4 +1,4 @@
--- What a field says: a time, a port, a value.
+-- The meaning of a field: a time, a port, a value.
 use Rattle.std.specs.Prelude.{ℕ, ◌+◌, ◌^◌, ◌==◌, Bool, ◌&&◌, if◌then◌else◌, List, [], ◌∷◌, length, take, drop, nat_lt, ℤ, pos, neg_ℤ}
 use Rattle.std.specs.Prelude.{Option, Some, None, option_map, position, bytes_eq}
 use Rattle.std.specs.Char.{is_ascii_digit}
@@ -12,7 +12,7 @@ use Rattle.dv_bag.specs.Inputs.{start_of}
 abbrev pub is_numeral : List ℕ → Bool
 is_numeral bytes = nat_lt 0 (length bytes) && list_all is_ascii_digit bytes
 
--- the number that decimal digits write, where it is below a bound
+-- the value of decimal digits, if it is below a bound
 abbrev pub number_below : ℕ → List ℕ → Option ℕ
 number_below bound bytes = if is_numeral bytes && nat_lt (digits_value 10 bytes) bound then Some (digits_value 10 bytes) else None
 
@@ -34,8 +34,8 @@ time_of_parts (Some tick) (Some micro) = Some (record { tick = tick; micro = mic
 time_of_parts (Some tick) None = None
 time_of_parts None micro = None
 
--- the time that a field says which has its first dot there: without a dot a tick, which is meant at its start, else a tick before
--- the dot and a microstep behind it
+-- the time in a field whose first dot is at an offset: without a dot a tick, which means its start, else a tick before the dot and a
+-- microstep behind it
 abbrev pub time_by_dot : List ℕ → Option ℕ → Option Time
 time_by_dot field None = option_map start_of (tick_in field)
 time_by_dot field (Some dot) = time_of_parts (tick_in (take dot field)) (micro_in (drop (dot + 1) field))

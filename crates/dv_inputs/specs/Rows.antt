@@ -1,4 +1,4 @@
--- What the rows speak of.
+-- Words for worked rows.
 use Rattle.std.specs.Prelude.{ℕ, List, ℤ, codes, ◌++◌, ◌∷◌, []}
 use Rattle.dv_bag.specs.Inputs.{start_of}
 use Rattle.dv_bag.specs.declared.inputs.Input.{Input}

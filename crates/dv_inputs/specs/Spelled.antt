@@ -1,4 +1,4 @@
--- What the laws speak of: the bytes of lines and of fields, and inputs written as a text.
+-- Words for laws: the bytes of lines and of fields, and inputs written as a text.
 use Rattle.std.specs.Prelude.{◌≡◌, ◌≢◌, ℕ, ◌<◌, ◌≤◌, ◌==◌, true, false, if◌then◌else◌, All, IsTrue, IsUtf8, List, [], ◌∷◌, ◌++◌}
 use Rattle.std.specs.Prelude.{length, slice_index_or, Some}
 use Rattle.std.specs.Fmt.{decimal, signed_decimal}
@@ -22,7 +22,7 @@ IsBlank bytes = All (λ b. is_blank b ≡ true) bytes
 abbrev pub IsField : List ℕ → Type 0
 IsField field = (0 < length field) × All (λ b. is_blank b ≡ false) field
 
--- a field ends here: nothing more, or a blank
+-- a field ends here: at the end, or before a blank
 abbrev pub EndsField : List ℕ → Type 0
 EndsField [] = Unit {0}
 EndsField (b ∷ bytes) = is_blank b ≡ true
@@ -37,8 +37,8 @@ pub record IsPortName (name : List ℕ) : Type 0 where
 abbrev pub name_of : List (List ℕ) → ℕ → List ℕ
 name_of ports port = slice_index_or ports port []
 
--- an input that a line can say to a run with this limit: its microstep is within the limit, and within the greatest that there is;
--- its port is found by its name, which can be a field, and its value is a number
+-- an input that a line can have for a run with this limit: its microstep is within the limit, and within the greatest one; its port is
+-- found by its name, which can be a field, and its value is a number
 pub record CanBeSaid (ports : List (List ℕ)) (limit : ℕ) (i : Input) : Type 0 where
   pub within : IsOfRun limit i.time
   pub few : i.time.micro ≤ greatest_limit
@@ -46,7 +46,7 @@ pub record CanBeSaid (ports : List (List ℕ)) (limit : ℕ) (i : Input) : Type 
   pub name : IsPortName (name_of ports i.port)
   pub value : IsTrue (is_number i.value)
 
--- a time as it stands in a line: `T` at the start of a tick, else `T.K`
+-- a time as it is written in a line: `T` at the start of a tick, else `T.K`
 abbrev pub written_time : Time → List ℕ
 written_time t = if t.micro == 0 then decimal t.tick else time_text t
 
