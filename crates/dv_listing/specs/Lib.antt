@@ -1,4 +1,4 @@
 -- What a reader believes: the bytes of a listing.
 pub mod Listing
--- What serves proofs.
+-- What proofs need.
 pub mod Placing

@@ -87,7 +87,7 @@ model_text names m =
     (codes "atomic " ++ (name_at names m.name.number ++ (10 ∷ [])))
     ++ (scope_text names (scope_of m) ++ phases_text names (scope_of m).phases (phase_codes m))
 
--- a coupled model has no programs of its own
+-- a coupled model has no programs
 abbrev pub text_of_model : List (List ℕ) → ModelTree → Option (List ℕ)
 text_of_model names (AtomicModel m) = Some (model_text names m)
 text_of_model names (CoupledModel m) = None
