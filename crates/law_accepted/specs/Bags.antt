@@ -1,4 +1,4 @@
--- A model with a bag, alone in a coupled model, by the capacity of the bag, what its hold is and what its rule assigns to a variable.
+-- A model with a bag, alone in a coupled model, by the capacity of the bag, its hold, and the value that its rule assigns to a variable.
 use Rattle.std.specs.Prelude.{ℕ, ◌+◌, [], ◌∷◌, false, Some}
 use Rattle.dv_syntax.specs.declared.tree.BagCall.TheVariants.{Size}
 use Rattle.dv_syntax.specs.declared.tree.Variable.{Variable}
@@ -68,7 +68,7 @@ with_bag capacity ticks value = record {
 abbrev pub size_at : ℕ → ℕ → Expression
 size_at offset name = Call Size offset (named name (offset + 5))
 
--- the file whose bag has 8 indices, and whose hold is as many ticks as the bag has values
+-- the file whose bag has a capacity of 8, and whose hold is the size of the bag
 abbrev pub assigning : Expression → FileTree
 assigning value = with_bag 8 (size_at 92 3) value
 

@@ -1,5 +1,5 @@
--- States that fit a model: what a model can reach. In such a state the meaning of what is accepted never takes a name for
--- unknown, nor a truth value for a number.
+-- States that fit a model: those that a model can reach. In such a state the meaning of what is accepted never uses an unknown name, nor a
+-- truth value as a number.
 use Rattle.std.specs.Prelude.{◌≡◌, ℕ, ℤ, ◌<◌, Bool, true, false, not, ◌&&◌, ◌||◌, nat_lt, nat_le, slice_get, List, [], ◌∷◌}
 use Rattle.std.specs.Prelude.{length, option_map, Option, Some, None}
 use Rattle.dv_syntax.specs.declared.tree.Name.{Name}
@@ -32,8 +32,8 @@ use Rattle.dv_check.specs.declared.wanted.Wanted.TheVariants as wanted
 use Rattle.dv_check.specs.Types.{Known, knows_elapsed, sees_inputs, suits, suits_port, wanted_by}
 use Rattle.dv_check.specs.Rules.{known_in_loop}
 
--- a number within the range of its variable, a truth value for a flag, and for a bag a bag, for a queue a queue with no more values
--- than its capacity, which is no greater than the greatest
+-- a number within the range of its variable, a truth value for a flag, for a bag a bag and for a queue a queue with no more values than its
+-- capacity, which is no greater than the greatest
 abbrev pub datum_fits : Domain → Datum → Bool
 datum_fits (domain.Number range) (datum.Number n) = is_within range.low range.high n
 datum_fits (domain.Number range) (datum.Flag b) = false
@@ -70,7 +70,7 @@ abbrev pub LeadsToPhase : Scope → Option ℕ → Type 0
 LeadsToPhase scope None = Unit {0}
 LeadsToPhase scope (Some index) = index < length scope.phases
 
--- what the variable, flag, bag or queue of a name may hold
+-- the domain of a variable, flag, bag or queue by its name
 abbrev pub domain_at : List (ℕ × Domain) → Option ℕ → Option Domain
 domain_at variables None = None
 domain_at variables (Some index) = option_map (λ v. v.1) (slice_get variables index)
@@ -84,7 +84,7 @@ has_value (Some (domain.Number range)) = true
 has_value (Some (domain.Flag start)) = true
 has_value (Some (domain.Held d capacity)) = false
 
--- a bag or a queue of which this is wanted
+-- a suitable bag or queue
 abbrev pub holds : Wanted → Option Domain → Bool
 holds w None = false
 holds w (Some (domain.Number range)) = false
@@ -95,15 +95,15 @@ holds w (Some (domain.Held d capacity)) = suits w d
 abbrev pub is_variable : Scope → ℕ → Bool
 is_variable scope name = has_value (domain_named scope name)
 
--- a bag or a queue of the state of which this is wanted
+-- a suitable bag or queue of the state
 abbrev pub is_held : Wanted → Scope → ℕ → Bool
 is_held w scope name = holds w (domain_named scope name)
 
--- the same where it is read: in external and confluent rules an input port is a bag, too
+-- the same if it is read: in external and confluent rules an input port is a bag, too
 abbrev pub is_readable : Wanted → Scope → Option RuleSort → ℕ → Bool
 is_readable w scope rule name = is_held w scope name || (suits_port w && (sees_inputs rule && is_declared name scope.inputs))
 
--- what is wanted where a collection of this discipline is changed
+-- what is suitable where a collection of this discipline is changed
 abbrev pub wanted_of : Discipline → Wanted
 wanted_of discipline.Bag = wanted.Bag
 wanted_of discipline.Queue = wanted.Queue
@@ -121,8 +121,8 @@ is_value scope loops name = is_declared name loops || is_variable scope name
 abbrev pub is_assignable : Scope → List ℕ → ℕ → Bool
 is_assignable scope loops name = is_variable scope name && not (is_declared name loops)
 
--- all names of an expression in a rule of a sort, or outside of all rules, are known: where a value is wanted of values, and else of
--- bags or queues that can be read, as the call wants; `elapsed` is known in external rules alone
+-- all names of an expression in a rule of a sort, or outside of all rules, are known: names of values where a value is wanted, and else of
+-- bags or queues that can be read, as the call requires; `elapsed` is known only in external rules
 abbrev pub are_terms_known : Scope → Option RuleSort → List ℕ → Expression → Bool
 are_terms_known scope rule loops (Literal n) = true
 are_terms_known scope rule loops (TruthValue offset value) = true
@@ -134,7 +134,7 @@ are_terms_known scope rule loops (Call call offset b) = is_readable (wanted_by c
 are_terms_known scope rule loops (Elapsed offset) = knows_elapsed rule
 are_terms_known scope rule loops (Times offset e b) = are_terms_known scope rule loops e && is_readable wanted.Bag scope rule b.number
 
--- those of a hold, which stands in no rule
+-- those of a hold, which is in no rule
 abbrev pub are_ticks_known : Scope → Option Expression → Bool
 are_ticks_known scope None = true
 are_ticks_known scope (Some e) = are_terms_known scope None [] e
@@ -172,12 +172,12 @@ abbrev pub known_within : List (Name × ℤ) → Known → Known
 known_within [] known = known
 known_within (v ∷ bound) known = known_in_loop v.0 (known_within bound known)
 
--- the values of loop variables as a moment has them
+-- the values of loop variables in a moment
 abbrev pub values_within : List (Name × ℤ) → List (ℕ × ℤ)
 values_within [] = []
 values_within (v ∷ bound) = (v.0.number, v.1) ∷ values_within bound
 
--- what is known beside the state in the blocks of these loops
+-- what can be read beside the state in the blocks of these loops
 abbrev pub context_within : Arrivals → List (Name × ℤ) → Context
 context_within arrivals bound = record { arrivals = arrivals; loops = values_within bound }
 
@@ -189,7 +189,7 @@ pub record HoldsDatum (scope : Scope) (s : State) (name : ℕ) (d : Domain) : Ty
   pub there : slice_get s.variables index ≡ Some datum
   pub fitting : datum_fits d datum ≡ true
 
--- the name is that of an input port, and stands for the bag that has arrived there
+-- the name is that of an input port, and denotes the bag that arrived there
 pub record ReadsPort (scope : Scope) (name : ℕ) : Type 0 where
   pub port : ℕ
   pub found : index_of name scope.inputs ≡ Some port

@@ -1,4 +1,4 @@
--- What a reader believes: the states that fit a model, what it is that an accepted model names, and where statements go.
+-- What a reader believes: the states that fit a model, what an accepted model names, and where statements go.
 pub mod Fitting
 pub mod Gotos
 -- Worked rows.

@@ -1,4 +1,4 @@
--- A model with a queue and a bag, alone in a coupled model, by what its internal rule does.
+-- A model with a queue and a bag, alone in a coupled model, by its internal rule.
 use Rattle.std.specs.Prelude.{ℕ, [], ◌∷◌, None}
 use Rattle.dv_syntax.specs.declared.tree.BagCall.{BagCall}
 use Rattle.dv_syntax.specs.declared.tree.Command.TheVariants as command

@@ -18,11 +18,11 @@ abbrev pub effect_in : Option PhaseCode → (PhaseCode → Program) → Arrivals
 effect_in None rule arrivals s = Ok (record { state = s; sent = []; goto = None })
 effect_in (Some code) rule arrivals s = effect_by (rule code) arrivals s
 
--- what a program that may change the state leaves
+-- what a program that may change the state gives
 abbrev pub change_of : Result Effect Fault → Result Change Fault
 change_of effect = effect >>= λ e. Ok (state_by_goto e.state e.goto)
 
--- the program of a confluent rule, where the phase has one
+-- the program of a confluent rule, if the phase has one
 abbrev pub confluent_program : Option PhaseCode → Option Program
 confluent_program None = None
 confluent_program (Some code) = code.confluent
@@ -37,11 +37,11 @@ abbrev pub ticks_by : Option Program → State → Result (Option ℕ) Fault
 ticks_by None s = Ok None
 ticks_by (Some p) s = number_by p nothing_arrived s >>= ticks_from
 
--- what values bring, so many ticks after the last transition
+-- arrivals of these bags, with the ticks since the last transition
 abbrev pub arriving : List Counts → ℕ → Arrivals
 arriving bags elapsed = record { received = bags; elapsed = elapsed }
 
--- the behaviour that the programs of the phases give, by the indices of the phases
+-- the behaviour of the programs of the phases, by the indices of the phases
 abbrev pub behaviour_by : List PhaseCode → Behaviour
 behaviour_by codes = record {
   output = λ s. effect_in (slice_get codes s.phase) (λ c. c.output) nothing_arrived s >>= λ e. Ok e.sent;

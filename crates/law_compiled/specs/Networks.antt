@@ -1,5 +1,5 @@
--- The network of a text by its programs and its links: behaviours are those of programs, and values travel along direct, entry
--- and exit links, with copies, without the tree.
+-- The network of a text by its programs and its links: behaviours are those of programs, and values are routed along direct, entry and exit
+-- links, with copies, without the tree.
 use Rattle.std.specs.Prelude.{ℕ, List, length, map}
 use Rattle.std.specs.List.{range_with_len}
 use Rattle.dv_bag.specs.Bag.{Counts}

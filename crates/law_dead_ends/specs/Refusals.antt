@@ -19,8 +19,7 @@ BeginsFile ts = BeginsFileWithin the_limits ts
 abbrev pub BeginsFileAtAnyDepth : List Token → Type 0
 BeginsFileAtAnyDepth ts = (limits : Limits) × BeginsFileWithin limits ts
 
--- The token at this offset is the first wrong one: a file begins with the tokens before it, and none with those up to it, it
--- included.
+-- The token at this offset is the first wrong one: a file begins with the tokens before it, and none with those up to it.
 pub record NoneBeginsAt (ts : List Token) (offset : ℕ) : Type 0 where
   pub before : List Token
   pub token : Token
@@ -30,24 +29,23 @@ pub record NoneBeginsAt (ts : List Token) (offset : ℕ) : Type 0 where
   pub begun : BeginsFile before
   pub none : ¬ BeginsFile (before ++ token ∷ [])
 
--- The number that refuses the tokens up to the first wrong one, it included: E5 where they still begin a file without the
--- limits on depth, else E4.
+-- The number that refuses the tokens up to the first wrong one: E5 if they still begin a file without the limits on depth, else E4.
 abbrev pub IsNumberOf : RefusalNumber → List Token → Type 0
 IsNumberOf E4 ts = ¬ BeginsFileAtAnyDepth ts
 IsNumberOf E5 ts = BeginsFileAtAnyDepth ts
 IsNumberOf _ ts = ⊥
 
--- the refusal names the first wrong token, by its offset, and says by its number whether that is only too deep
+-- the refusal names the first wrong token, by its offset, and its number says whether it is only nested too deeply
 pub record IsFirstWrong (ts : List Token) (r : Refusal) : Type 0 where
   pub first : NoneBeginsAt ts r.offset
   pub number : IsNumberOf r.number (first.before ++ first.token ∷ [])
 
--- a file begins with the tokens, but none is these alone
+-- a file begins with the tokens, but they are not a whole one
 pub record EndEarly (ts : List Token) : Type 0 where
   pub begun : BeginsFile ts
   pub none : (f : FileTree) → ¬ IsFileOf ts f
 
--- Where the tokens of a text are refused no file goes on: at the first wrong token, which the refusal names, or at the end of
--- the text, where they end too early.
+-- If the tokens of a text are refused, no file continues them: at the first wrong token, which the refusal names, or at the end of the
+-- text, where they end too early.
 abbrev pub IsDeadEnd : List Token → ℕ → Refusal → Type 0
 IsDeadEnd ts end r = IsFirstWrong ts r ⊎ ((r ≡ record { number = E4; offset = end }) × EndEarly ts)

@@ -17,7 +17,7 @@ use Rattle.law_sound.specs.Members.{flat_of}
 abbrev pub responses_of : List Instance → List (Option ℕ)
 responses_of is = map (λ (i : Instance). response_of i.model) is
 
--- a text with inputs, to a horizon, under a microstep limit, in so many processes, of which each component has one
+-- a text with inputs, to a horizon, under a microstep limit, with a number of processes and the process of each component
 abbrev pub job_of : (limit horizon : ℕ) → FileTree → List Input → (processes : ℕ) → (ℕ → ℕ) → Job
 job_of limit horizon f inputs processes owner = record {
   limit = limit;

@@ -16,7 +16,7 @@ use Rattle.dv_eval.specs.Scope.{start_state}
 use Rattle.law_accepted.specs.Fitting.{fits}
 use Rattle.dv_conservative.specs.Sound.{is_of_numbers}
 
--- is each value of a bag or a queue a number of the language
+-- whether each value of a bag or a queue is a number of the language
 abbrev pub has_numbers : Collection → Bool
 has_numbers (collection.Bag b) = is_of_numbers b
 has_numbers (collection.Queue q) = list_all is_number q
@@ -30,11 +30,11 @@ is_kept (datum.Held c) = has_numbers c && nat_le (count_in c) greatest_count
 abbrev pub are_kept : List Datum → Bool
 are_kept contents = list_all is_kept contents
 
--- a state that fits its model and holds numbers alone
+-- a state that fits its model and holds only numbers of the language
 abbrev pub fits_kept : AtomicTree → State → Bool
 fits_kept m s = fits m s && are_kept s.variables
 
--- the numbers that an expression and statements name are of the language, as those of every token are
+-- the numbers in an expression and in statements are of the language, as those of all tokens are
 abbrev pub names_numbers : Expression → Bool
 names_numbers (Literal n) = nat_lt n.value (2 ^ 63)
 names_numbers (TruthValue offset b) = true

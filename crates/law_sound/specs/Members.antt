@@ -21,7 +21,7 @@ abbrev pub members_from : ℕ → ℕ → List Instance → List Member
 members_from limit k [] = []
 members_from limit k (i ∷ is) = member_of limit k i.model ∷ members_from limit (k + 1) is
 
--- direct, entry and exit links, of which the outside is 0
+-- direct, entry and exit links, in which the outside is 0
 abbrev pub direct_of : TextLink ComponentPort ComponentPort → Link
 direct_of l = record {
   from = l.from.component;
