@@ -1,4 +1,4 @@
-//! Agendas and inboxes: what a process waits for, and what came.
+//! Agendas and inboxes: next times, and arrivals that are not committed yet.
 
 use crate::compare::same;
 use dv_agenda::Agenda;

@@ -1,4 +1,4 @@
-//! What lies outside the proofs: that the calls succeed, and that the definitions say what is meant.
+//! What is not proved: that the calls succeed, and that the definitions say what is meant.
 
 use crate::compare::same;
 use dv_bag::{

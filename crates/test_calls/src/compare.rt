@@ -1,5 +1,5 @@
-//! Compares what calls give with what is wanted. A test that compares by these functions is proved in a fraction of the
-//! time that the macros take, which are proved anew wherever they stand.
+//! Compares results of calls with expected values. A test that compares by these functions is
+//! proved in a fraction of the time that the macros take, which are proved again at each use.
 
 use std::process::Abort;
 

@@ -1,4 +1,4 @@
-//! That inputs are walked by time.
+//! Inputs are found by time.
 
 ghost use Rattle.std.specs.Prelude.{◌≡◌};
 

@@ -1,12 +1,13 @@
-//! Tests alone: calls of the lower crates with ample memory, one crate a module, as far as no row of a text can show
-//! them.
+//! Only tests: calls of the lower crates with ample memory, one module a crate, for what no row of
+//! a text can show.
 //!
-//! They show that the calls succeed where there is memory, refuse where they should, and that the definitions say
-//! what is meant: times, bags and queues, inputs by time, tokens, graphs, cuts of links, agendas and responses. What
-//! is wanted stands in the tests, as constants beside the calls. That such a call never answers `memory` for no
-//! reason is in no contract, so it is tested here.
+//! They show that the calls succeed if there is memory, that they refuse what they should, and that
+//! the definitions say what is meant: times, bags and queues, inputs by time, tokens, graphs, links
+//! between processes, agendas and responses. The expected values are constants in the tests. No
+//! contract says that a call does not answer `Memory` without reason, so that is tested here.
 //!
-//! They stand here and not in the crates themselves, since a crate with tests is proved a second time with them.
+//! The tests are not in the crates themselves, since a crate with tests is proved a second time
+//! with them.
 #![tactic(auto)]
 
 /// What a process waits for, and what came.

@@ -1,4 +1,4 @@
-//! The response of a model larger than any text has, and holds at the edges.
+//! The response of a very large model, and holds at the limits of numbers.
 
 use crate::compare::{expect_same, same};
 use dv_bag::{Response, State, Variables};

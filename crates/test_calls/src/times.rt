@@ -1,4 +1,4 @@
-//! What lies outside the proofs: that the definitions say what is meant.
+//! What is not proved: that the definitions say what is meant.
 
 ghost use Rattle.std.specs.Prelude.{◌≡◌};
 

@@ -1,4 +1,4 @@
-//! Tokens, names and lines, as far as no row of a text shows them.
+//! Tokens, names and lines, for what no row of a text can show.
 
 use crate::compare::same;
 use dv_lex::{LoadError, Names, Numeral, Refusal, RefusalNumber, TextError, answer, tokens};

@@ -1,5 +1,6 @@
-//! A slow decision whether instructions are a program, written from the definition: a mark for each address, by all ways
-//! from the first one, and an instruction at each address that agrees with the marks where it leads.
+//! A slow decision whether instructions are a program, written from the definition: a mark for each
+//! address, by all ways from the first one, and an instruction at each address that agrees with the
+//! marks to which it leads.
 
 use dv_bag::{Change, Discipline, ValueType};
 use dv_code::{Action, Binary, Deed, Instruction, Leaf, ProgramSort, Shape, Slot, Source, Unary};
@@ -28,7 +29,8 @@ struct Body {
     past: usize,
 }
 
-/// What stands at an address: the types on the stack, the top last, and the bodies around, the innermost last.
+/// What stands at an address: the types on the stack, the top last, and the bodies around, the
+/// innermost last.
 #[derive(Drop)]
 struct Mark {
     types: Vec<ValueType>,
@@ -193,7 +195,8 @@ impl<'a> Case<'a> {
         }
     }
 
-    /// Where an instruction leads with a mark. None, where there is no mark, or it does not agree with it.
+    /// Where an instruction leads with a mark. None, where there is no mark, or it does not agree
+    /// with it.
     fn ways_from(
         self,
         mark: Option<&Mark>,
@@ -222,8 +225,8 @@ impl<'a> Case<'a> {
         }
     }
 
-    /// Whether the address lies in the innermost body, each body in the next one, and the last in the program; they are
-    /// not too many.
+    /// Whether the address lies in the innermost body, each body in the next one, and the last in
+    /// the program; they are not too many.
     fn lies_in(self, nest: &[Body]) -> bool {
         let mut inner = self.address;
         for body in nest.iter().rev() {
@@ -371,7 +374,8 @@ fn left_by(sort: ProgramSort) -> Types {
     }
 }
 
-/// What an instruction takes from the stack that leads to the next address alone, and what it leaves in its place.
+/// What an instruction takes from the stack that leads to the next address alone, and what it
+/// leaves in its place.
 fn taken_and_given(instruction: Instruction) -> (Types, Types) {
     match instruction {
         Instruction::Push(Leaf::Truth(_) | Leaf::Flag(_)) => (NOTHING, TRUTH),

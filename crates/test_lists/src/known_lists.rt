@@ -265,7 +265,8 @@ const BY_SORT: &[(&str, &[Instruction], [bool; 5])] = &[
     ),
 ];
 
-/// Fails the test where a list is a program of a sort, and should be none, or is none, and should be one.
+/// Fails the test where a list is a program of a sort, and should be none, or is none, and should
+/// be one.
 fn expect_answer<R: Abort + AllocGlobal>(
     rt: &R,
     name: &str,

@@ -1,11 +1,13 @@
-//! Tests alone: lists of instructions before the validator (`dv_valid`).
+//! Only tests: lists of instructions for the validator (`dv_valid`).
 //!
-//! It takes each list that is a program, and no other. The expected answers come from a slow decision that is written
-//! from the definition, in `decision`: for the programs of models, for those with one other instruction, for all
-//! lists of up to three of sixteen instructions, and for random lists. For a few lists the answer was worked out by
-//! hand. Random lists that are programs are run, and end whole or by a fault.
+//! It accepts each list that is a program, and no other. The expected answers come from a slow
+//! decision in `decision`, which is written from the definition: for the programs of models, for
+//! those with another instruction at an address, for all lists of up to three of sixteen
+//! instructions, and for random lists. For a few lists the answer was worked out by hand. Random
+//! lists that are programs are run, and end well or with a fault.
 //!
-//! They stand here, since a crate with tests is proved a second time with them.
+//! The tests are in a crate of their own, since a crate with tests is proved a second time with
+//! them.
 #![tactic(auto)]
 
 /// The slow decision whether instructions are a program.

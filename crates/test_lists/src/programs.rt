@@ -1,4 +1,5 @@
-//! The programs of the texts, and such with another instruction at an address, before the validator.
+//! The programs of the texts, and the same with another instruction at an address, for the
+//! validator.
 
 ghost use Rattle.dv_syntax.specs.Trees.{atomic_of};
 ghost use Rattle.dv_gen.specs.ModelCode.{IsCompilable};

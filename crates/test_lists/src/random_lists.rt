@@ -1,4 +1,4 @@
-//! Random lists of instructions before the validator, and runs of those that it takes.
+//! Random lists of instructions for the validator, and runs of those that it accepts.
 
 ghost use Rattle.std.specs.Prelude.{◌≡◌, ◌<◌};
 

@@ -8,7 +8,8 @@ use std::process::Abort;
 use std::test::Fail;
 use test_samples::shape_of_collections;
 
-/// The instructions of which lists are made. They speak of slot 0, a bag, of slot 1, a queue, and of output port 0.
+/// The instructions of which lists are made. They speak of slot 0, a bag, of slot 1, a queue, and
+/// of output port 0.
 const INSTRUCTIONS: [Instruction; 16] = [
     Instruction::Push(Leaf::Truth(true)),
     Instruction::Push(Leaf::Number(1)),
@@ -46,9 +47,10 @@ fn short_lists_are_taken_as_the_definition_says(rt: HostRuntime) -> Result<(), F
             }
         }
     }
-    // A number that is sent, and so the first value of the queue; a truth value that decides; a jump over each of three
-    // instructions that agree with a mark; and an empty loop over the bag and one over the queue. No value is taken from the
-    // queue in an output rule. There are 16 * 16 * 16 lists of three.
+    // A number that is sent, and so the first value of the queue; a truth value that decides; a
+    // jump over each of three instructions that agree with a mark; and an empty loop over the bag
+    // and one over the queue. No value is taken from the queue in an output rule. There are 16 * 16
+    // * 16 lists of three.
     let wanted = Answers {
         taken: 8,
         refused: 4_088,

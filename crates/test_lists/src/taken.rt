@@ -1,4 +1,4 @@
-//! What the validator takes, beside the slow decision.
+//! What the validator accepts, compared with the slow decision.
 
 use crate::decision::is_valid;
 use dv_code::{Instruction, Shape, Valid};
@@ -34,8 +34,8 @@ impl Answers {
     }
 }
 
-/// The program of a list, if the validator takes it. Fails the test where the slow decision differs, and where the
-/// program has other instructions.
+/// The program of a list, if the validator takes it. Fails the test where the slow decision
+/// differs, and where the program has other instructions.
 pub fn taken<R: Abort + AllocGlobal>(
     rt: &R,
     shape: Shape,

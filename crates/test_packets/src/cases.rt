@@ -1,4 +1,4 @@
-//! Cases, and whether a process does as they say.
+//! Cases, and whether a process behaves as they say.
 
 ghost use Rattle.std.specs.Prelude.{IfOk};
 
@@ -36,7 +36,8 @@ pub enum Committed {
     Transition(Time, u32, Kind),
 }
 
-/// Packets for a new process, one after the other, what it commits then, up to a clock, and how often it visits components.
+/// Packets for a new process, one after the other, what it commits then, up to a clock, and how
+/// often it visits components.
 pub struct Case {
     /// What is printed of the case.
     pub name: &'static str,

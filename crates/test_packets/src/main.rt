@@ -1,10 +1,11 @@
-//! A test that is a program: it hands packets to a process of a model, true ones and others, and compares what it
+//! A test program: it gives packets to a process of a model, true ones and others, and compares its
 //! answers, what it commits and how often it visits components with tables.
 //!
-//! The expected answers stand in the tables of `table`, beside the packets. What is tested is the process of
-//! `dv_proc` with the components of `dv_local`, as `dv_run` makes it of a text.
+//! The expected answers are in the tables of `table`, beside the packets. The process of `dv_proc`
+//! with the components of `dv_local` is tested, as `dv_run` makes it of a text.
 //!
-//! The first word names a file with a model of two components, the second one with a clock and a thousand cells.
+//! The first word names a file with a model of two components, the second word one with a clock and
+//! a thousand cells.
 #![tactic(auto)]
 
 /// Cases, and whether a process does as they say.
@@ -33,7 +34,8 @@ fn main(rt: HostRuntime) -> io::Result<ExitCode> {
     })
 }
 
-/// Tells of each case whether a process of the model in a file does as it says, and answers whether all do.
+/// Tells of each case whether a process of the model in a file does as it says, and answers whether
+/// all do.
 fn do_all_hold<R: AllocGlobal + Files + Print>(
     rt: &R,
     name: &str,

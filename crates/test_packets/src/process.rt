@@ -1,4 +1,4 @@
-//! A process of a text, as its run begins.
+//! A process of a text at the beginning of its run.
 
 ghost use Rattle.std.specs.Prelude.{◌≡◌, ◌-◌, ◌<◌, ℕ, [], None, Some, IfOk, IfSome, length, slice_get};
 ghost use Rattle.std.specs.List.{AllByRecursion};
@@ -41,7 +41,8 @@ const LIMIT: u32 = 3;
 /// How many processes a model has.
 const PROCESSES: usize = 2;
 
-/// Whether the process of all components of a text but the first does as a case says. A text that is refused has none.
+/// Whether the process of all components of a text but the first does as a case says. A text that
+/// is refused has none.
 pub fn does_hold(alloc: Global, text: &str, case: &Case) -> Result<bool, AllocError> {
     match checked(alloc, text) {
         Ok(checked) => does_hold_of_checked(alloc, &checked, case),
@@ -71,7 +72,8 @@ fn checked(alloc: Global, text: &str) -> Result<Checked, LoadError>
     check(alloc, file, found.names)
 }
 
-// Whether that process of an accepted text does as a case says. The first component has a process, and all others have another.
+// Whether that process of an accepted text does as a case says. The first component has a process,
+// and all others have another.
 fn does_hold_of_tree(alloc: Global, tree: &Tree, case: &Case) -> Result<bool, AllocError>
     requires text { AreOfOneText tree.now.names (file_of tree.now.file) }
     requires accepted { refusal_of (file_of tree.now.file) ≡ None }

@@ -221,7 +221,8 @@ pub const CASES: [Case; 3] = [
     },
 ];
 
-/// The case of the process that has components 1 to 1,000: the first of these alone is visited, once.
+/// The case of the process that has components 1 to 1,000: the first of these alone is visited,
+/// once.
 pub const CELLS: [Case; 1] = [Case {
     name: "an event for one of a thousand cells",
     rows: FOR_ONE_CELL,

@@ -1,4 +1,4 @@
-//! A program beside the tree that it was made from.
+//! A program, compared with the tree that it was made from.
 
 use dv_bag::{Arrivals, Effect, RuleError, Sent, State, Value};
 use dv_code::Valid;
@@ -64,7 +64,8 @@ fn hold_by_tree(ticks: &Expr, state: &State, scope: &Scope) -> Result<i64, RuleE
     }
 }
 
-/// Runs a program for what it sends, if it is that of an output rule, and fails the test where its tree sends otherwise.
+/// Runs a program for what it sends, if it is that of an output rule, and fails the test where its
+/// tree sends otherwise.
 fn compare_output<L: Ledger>(
     rt: &impl Abort,
     runs: &mut Runs<L>,
@@ -107,7 +108,8 @@ impl Endings {
         }
     }
 
-    /// Counts a run, and fails the test where a program and its tree differ, or the program did not run.
+    /// Counts a run, and fails the test where a program and its tree differ, or the program did not
+    /// run.
     fn count(&mut self, rt: &impl Abort, found: Option<Likeness>) {
         match found {
             Some(Likeness::SameEffect) => self.effects = self.effects.saturating_add(1),
@@ -144,7 +146,8 @@ impl Endings {
         self.count(rt, found);
     }
 
-    /// Compares the programs of a model with its rules and holds, from some states, with some arrivals.
+    /// Compares the programs of a model with its rules and holds, from some states, with some
+    /// arrivals.
     pub fn compare_model<R: Abort + AllocGlobal, L: Ledger>(
         &mut self,
         rt: &R,

@@ -29,7 +29,8 @@ fn program<R: Abort + AllocGlobal>(
     Ok(program.expect(rt, "a program"))
 }
 
-/// Adds each value above 2 that has arrived to the number, where the flag is up, and goes to phase 1.
+/// Adds each value above 2 that has arrived to the number, where the flag is up, and goes to phase
+/// 1.
 fn adder<R: Abort + AllocGlobal>(rt: &R) -> Result<Valid, AllocError> {
     let code = vec![in rt.alloc();
         Instruction::Loop(Source::Port(0), 12),

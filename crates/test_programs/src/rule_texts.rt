@@ -1,4 +1,4 @@
-//! Random rules and holds, as the text of a model. Each text is taken.
+//! Random rules and holds, as the text of a model. Each text is accepted.
 
 use std::alloc::{AllocError, Global};
 use test_samples::Random;

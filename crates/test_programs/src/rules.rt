@@ -1,4 +1,4 @@
-//! Rules and holds beside their programs: those of the texts, and random ones.
+//! Rules and holds, compared with their programs: those of the texts, and random ones.
 
 ghost use Rattle.std.specs.Prelude.{◌≡◌, ◌<◌};
 ghost use Rattle.dv_syntax.specs.Trees.{atomic_of};

@@ -78,8 +78,8 @@ fn outlines_of(alloc: Global, components: &Components) -> Result<Vec<Outline>, A
     Ok(outlines)
 }
 
-/// What the programs of a clock give: how many values are sent, the number that the internal one leaves, and the hold
-/// then.
+/// What the programs of a clock give: how many values are sent, the number that the internal one
+/// leaves, and the hold then.
 #[derive(Clone, Copy, PartialEq, Eq)]
 struct Beat {
     sent: u64,

@@ -1,12 +1,13 @@
-//! Tests alone: two processes without components in a ring, which exchange null messages in a world of `dv_core`.
+//! Only tests: two processes without components in a ring, which exchange null messages in a world
+//! of `dv_core`.
 //!
-//! With nothing to send, only promises move the clocks. The tests show how many rounds such a ring takes, that a
-//! larger response saves rounds, that packets go from process to process step by step, and which answer a step has
-//! where several apply. The expected rounds, clocks and answers stand in the tests as constants: the first test has a
-//! round more than there are times.
+//! Nothing is sent, so only promises move the clocks. The tests show how many rounds such a ring
+//! takes, that a larger response saves rounds, that packets go from process to process step by
+//! step, and which answer a step has if several apply. The expected rounds, clocks and answers are
+//! constants in the tests: the first test has one more round than there are times.
 //!
-//! The two processes and their job meet the traits of `dv_proc` and `dv_core` by code of their own, so that these
-//! traits have an implementation that is no model of a text.
+//! The two processes and their job implement the traits of `dv_proc` and `dv_core` by code of their
+//! own, so that these traits have an implementation that is not a model of a text.
 #![tactic(auto)]
 
 /// No components.

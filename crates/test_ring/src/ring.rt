@@ -1,4 +1,4 @@
-//! Two processes without components, with a link each way.
+//! Two processes without components, with a link in each direction.
 
 ghost use Rattle.std.specs.Prelude.{◌≡◌, IfOk};
 ghost use Rattle.dv_conservative.specs.World.{new_world};
@@ -14,7 +14,8 @@ use dv_proc::{Channel, Frame, Process};
 use dv_record::PartRecord;
 use std::alloc::{AllocError, Global};
 
-/// A process without components, which promises so many ticks ahead, with the numbers of its two links.
+/// A process without components, which promises so many ticks ahead, with the numbers of its two
+/// links.
 ///
 /// # Errors
 ///
@@ -41,7 +42,8 @@ fn process_of(
     Process::new(alloc, silent, &[incoming], &[outgoing])
 }
 
-/// A new world of the two: link 0 leads from process 0 to process 1, and link 1 back. Each holds so many packets.
+/// A new world of the two: link 0 leads from process 0 to process 1, and link 1 back. Each holds so
+/// many packets.
 ///
 /// # Errors
 ///

@@ -1,4 +1,4 @@
-//! No components: what a process asks of them is answered by their response alone.
+//! No components: only their response answers what a process asks.
 
 ghost use Rattle.std.specs.Prelude.{◌≡◌, [], OnErr, OnOk};
 
@@ -8,8 +8,8 @@ use dv_record::PartRecord;
 use dv_time::Time;
 use std::alloc::AllocError;
 
-/// No components, with a response all the same, and the numbers of the one link that leads here and of the one that leads
-/// away.
+/// No components, with a response all the same, and the numbers of the one link that leads here and
+/// of the one that leads away.
 #[derive(Drop)]
 pub struct Silent {
     /// The microstep limit and the last tick of the run.

@@ -1,11 +1,11 @@
-//! A test that is a program: it runs rows, which are texts that are data, each with the command that is given to it
-//! and what has to come of it.
+//! A test program: it runs rows. A row is a text with a command and the expected result.
 //!
-//! What is wanted was worked out by hand from what the language means, and never taken from a run. A row of a run is
-//! also run plainly, in several processes, and by workers, which have to print the same, on links that hold one packet and
-//! more: the program has no plain run, and no option of it sets how many. The rows test the calls of `dv_job`.
+//! The expected results were worked out by hand from the meaning of the language, and never taken
+//! from a run. A row with a run is also run plainly, in several processes, and by workers, on links
+//! for one packet and for more, and all of them have to print the same: `pdevs` has no plain run
+//! and no option for the links. The rows test the calls of `dv_job`.
 //!
-//! Each word names a file of rows. `data/README.md` says how they are written, and which are here.
+//! Each word names a file of rows. `data/README.md` says how they are written, and which there are.
 #![tactic(auto)]
 
 /// What comes of a text by a command.

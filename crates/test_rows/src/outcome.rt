@@ -1,4 +1,4 @@
-//! What comes of a text by a command.
+//! The result of a command for a text.
 
 use dv_job::{
     Driver, Options, check_bytes, list_code, plan_bytes, run_by_workers, run_bytes, run_plain,
@@ -12,7 +12,8 @@ use std::thread::Threads;
 /// The microstep limit where a command names none.
 const USUAL_LIMIT: u64 = 20;
 
-/// How many packets may be on their way on a link between processes, where a command names no number.
+/// How many packets may be on their way on a link between processes, where a command names no
+/// number.
 const LINK_CAPACITY: u64 = 16;
 
 /// The most processes in which a run of one process is tried again.
@@ -51,8 +52,9 @@ pub fn outcome_of<R: AllocGlobal + Threads + Wait + Sync>(
     }
 }
 
-/// What a run of one process prints in another way where that is not what is wanted: by the plain run; and where each component
-/// has a process of its own, in rounds with one packet on a link at most, and by workers. Of any other command nothing.
+/// What a run of one process prints in another way where that is not what is wanted: by the plain
+/// run; and where each component has a process of its own, in rounds with one packet on a link at
+/// most, and by workers. Of any other command nothing.
 pub fn other_outcome<R: AllocGlobal + Threads + Wait + Sync>(
     rt: &R,
     command: &str,
@@ -85,7 +87,8 @@ pub fn other_outcome<R: AllocGlobal + Threads + Wait + Sync>(
     Ok(None)
 }
 
-/// What a run by workers prints where that is not what is wanted, with one packet on a link at most, or more.
+/// What a run by workers prints where that is not what is wanted, with one packet on a link at
+/// most, or more.
 fn outcome_by_workers<R: AllocGlobal + Threads + Wait + Sync>(
     rt: &R,
     command: &str,
@@ -185,7 +188,8 @@ fn ran_plainly(alloc: Global, command: &str, texts: Texts<'_>) -> Result<String,
     told(alloc, &printed, ending.as_str())
 }
 
-/// The options that a command names; none where one is out of its range, or where they do not stand beside each other.
+/// The options that a command names; none where one is out of its range, or where they do not stand
+/// beside each other.
 fn options_of(command: &str) -> Option<Options> {
     let horizon = number_behind(command, "--horizon").unwrap_or(0);
     let limit = number_behind(command, "--microsteps").unwrap_or(USUAL_LIMIT);
@@ -197,7 +201,8 @@ fn options_of(command: &str) -> Option<Options> {
     Options::new(horizon, limit, workers, rounds, capacity)
 }
 
-/// A number where 32 bits are wanted. One that is greater is out of every range, as the greatest of 32 bits is.
+/// A number where 32 bits are wanted. One that is greater is out of every range, as the greatest of
+/// 32 bits is.
 fn in_32_bits(number: u64) -> u32 {
     number.min(u64::from(u32::MAX)) as u32
 }

@@ -1,7 +1,7 @@
 //! A file of rows.
 //!
-//! A line that begins with `= ` is a heading, and what follows it, up to the next one, its text. `data/README.md` says what
-//! the headings are.
+//! A line that begins with `= ` is a heading, and what follows it, up to the next one, its text.
+//! `data/README.md` says what the headings are.
 
 use crate::outcome::{Texts, other_outcome, outcome_of};
 use crate::text::Text;
@@ -11,8 +11,8 @@ use std::sync::Wait;
 use std::thread::Threads;
 use std::{fs, io};
 
-/// What the file has told so far: the model, as what stands before, in and behind a row's own piece, the partition and the
-/// inputs; and how many rows hold and do not.
+/// What the file has told so far: the model, as what stands before, in and behind a row's own
+/// piece, the partition and the inputs; and how many rows hold and do not.
 #[derive(Drop)]
 struct Telling {
     before: Vec<u8>,
@@ -53,8 +53,8 @@ impl Telling {
         Ok(model)
     }
 
-    /// Compares what comes of the model by a command with what is wanted, and tells where it differs. A run of one process has to
-    /// give the same in several, and by workers.
+    /// Compares what comes of the model by a command with what is wanted, and tells where it
+    /// differs. A run of one process has to give the same in several, and by workers.
     fn compare<R: AllocGlobal + Print + Threads + Wait + Sync>(
         &mut self,
         rt: &R,

@@ -1,4 +1,4 @@
-//! Lines of a file of rows, as the text that they stand for.
+//! Lines of a file of rows, as the text that they encode.
 
 use std::alloc::Global;
 use std::io;
@@ -74,8 +74,9 @@ fn push_pieces(bytes: &mut Vec<u8>, line: &str, number: u32) -> io::Result<()> {
     Ok(())
 }
 
-/// Adds what a letter stands for, and what is behind the letter: `n`, `r` and `t` are the blanks of that name, `i` is the
-/// number of the repetition, `x` is the byte 255, and `c` the first byte of a character of two.
+/// Adds what a letter stands for, and what is behind the letter: `n`, `r` and `t` are the blanks of
+/// that name, `i` is the number of the repetition, `x` is the byte 255, and `c` the first byte of a
+/// character of two.
 fn push_letter(bytes: &mut Vec<u8>, piece: &str, number: u32) -> io::Result<()> {
     let mut letters = piece.chars();
     match letters.next() {

@@ -1,4 +1,4 @@
-//! From a text to the programs of its atomic models, each beside the tree that it was made from.
+//! From a text to the programs of its atomic models, each with the tree that it was made from.
 
 ghost use Rattle.std.specs.Prelude.{◌≡◌, IfOk, IfSome};
 ghost use Rattle.std.specs.List.{All};

@@ -57,7 +57,8 @@ fn fits_slot(slot: Slot, datum: Option<DatumView>) -> bool
 pub enum Level {
     /// The least number, false, and an empty bag or queue.
     Low,
-    /// A number in the middle, true, a bag of two copies of one value, and a queue of two values that fall.
+    /// A number in the middle, true, a bag of two copies of one value, and a queue of two values
+    /// that fall.
     Middle,
     /// The greatest number, true, a bag full of one value, and a queue full of values that fall.
     High,

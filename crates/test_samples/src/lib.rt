@@ -1,11 +1,12 @@
-//! What the tests of programs share.
+//! What tests of programs share.
 //!
-//! `model_texts` are the texts of models, `compile` their programs beside the trees that they were made from,
-//! `state_at` and `deliveries` states that fit a program and values that arrive, and `Runs` runs a program on the
-//! machine. `Random` gives numbers that look random and are the same in each run.
+//! `model_texts` are the texts of models, `compile` makes their programs beside the trees,
+//! `state_at` and `deliveries` give states that fit a program and values that arrive, and `Runs`
+//! runs a program on the machine. `Random` gives numbers that look random and are the same in each
+//! run.
 //!
-//! `test_lists`, `test_programs`, `test_reactions` and `test_steps` stand on it. No test stands here, and no program of a
-//! user does.
+//! `test_lists`, `test_programs`, `test_reactions` and `test_steps` use it. It has no tests of its
+//! own, and no program for users uses it.
 #![tactic(auto)]
 
 /// From a text to the programs of its atomic models.

@@ -1,4 +1,4 @@
-//! What lists of instructions are for.
+//! Shapes and sorts for lists of instructions.
 
 use dv_bag::Discipline;
 use dv_code::{ProgramSort, Shape, Slot, Tables};

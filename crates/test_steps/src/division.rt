@@ -1,4 +1,4 @@
-//! A model in processes, beside its plain run.
+//! A model in processes, compared with its plain run.
 
 use dv_bag::{Entry, Inputs, Part};
 use dv_core::Step;
@@ -82,7 +82,8 @@ impl<'t> Division<'t> {
         run_steps(alloc, self.text.as_bytes(), &[], groups, &options, steps).ok()
     }
 
-    /// Whether each process has committed its components' entries of the plain run before its clock.
+    /// Whether each process has committed its components' entries of the plain run before its
+    /// clock.
     pub fn agrees(&self, stepped: &Stepped) -> bool {
         let mut process: u32 = 0;
         for part in &stepped.parts {

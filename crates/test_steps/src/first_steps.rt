@@ -36,8 +36,8 @@ impl<'t> Driven<'t> {
         Ok(Driven { division, round })
     }
 
-    /// Whether each process has committed its part of the plain run after so many of the driver's first steps, and nothing
-    /// happens any more once all processes are stopped.
+    /// Whether each process has committed its part of the plain run after so many of the driver's
+    /// first steps, and nothing happens any more once all processes are stopped.
     pub fn agrees(&self, alloc: Global, count: usize) -> Result<bool, AllocError> {
         let steps = self.steps(alloc, count)?;
         let replies = self.last_replies(alloc)?;
@@ -114,7 +114,8 @@ fn count_there(replies: &[Reply]) -> u32 {
     links
 }
 
-/// A round of the serial driver: a turn of each process, and then for each link one put and one take.
+/// A round of the serial driver: a turn of each process, and then for each link one put and one
+/// take.
 fn round(alloc: Global, processes: u32, links: u32) -> Result<Vec<Step>, AllocError> {
     let mut steps = Vec::new(alloc);
     for process in 0..processes {

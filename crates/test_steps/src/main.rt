@@ -1,11 +1,12 @@
-//! A test that is a program: it makes lists of steps with the processes of models, and compares what each process has
-//! committed with the plain run.
+//! A test program: it makes lists of steps with the processes of models, and compares what each
+//! process has committed with the plain run.
 //!
-//! The steps are random ones in random partitions, of given models and of random ones, and the first steps of the
-//! serial driver. The expected values are the parts of the trace that `resultant_run` of `dv_plain` computes, before
-//! the clock of each process; `run_steps` of `dv_job` is what is tested.
+//! The steps are random ones in random partitions, of given models and of random ones, and the
+//! first steps of the serial driver. The expected values are the parts of the trace that
+//! `resultant_run` of `dv_plain` computes, before the clock of each process. `run_steps` of
+//! `dv_job` is tested.
 //!
-//! The first word names a file of seeds, one a line, and each other word a model.
+//! The first word names a file of seeds, one in a line, and each other word names a model.
 #![tactic(auto)]
 
 /// The first steps of the serial driver, after which every process stops.
@@ -76,7 +77,8 @@ fn agrees<R: AllocGlobal + Files + Print>(
     Ok(tally.do_all_agree())
 }
 
-/// Tells whether a model agrees with the plain run after any number of the serial driver's first steps.
+/// Tells whether a model agrees with the plain run after any number of the serial driver's first
+/// steps.
 fn agrees_at_first<R: AllocGlobal + Files + Print>(
     rt: &R,
     name: &str,

@@ -137,7 +137,8 @@ impl fmt::Display for Statement {
     }
 }
 
-/// A random model: two to six components, each of an atomic model of its own, with links between them and to outside.
+/// A random model: two to six components, each of an atomic model of its own, with links between
+/// them and to outside.
 pub fn model_text(alloc: Global, source: &mut Source) -> Result<String, AllocError> {
     let components = source.below(5).saturating_add(2);
     let mut text = String::from_str(alloc, "version 2;\n")?;

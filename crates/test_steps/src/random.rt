@@ -67,7 +67,8 @@ fn owner(source: &mut Source, component: usize, processes: u32) -> u32 {
     }
 }
 
-/// A list of steps: turns, puts and takes, now and then a stop, and now and then one of what is not there.
+/// A list of steps: turns, puts and takes, now and then a stop, and now and then one of what is not
+/// there.
 pub fn steps(alloc: Global, source: &mut Source, processes: u32) -> Result<Vec<Step>, AllocError> {
     let mut steps = Vec::new(alloc);
     for _step in 0..STEPS {

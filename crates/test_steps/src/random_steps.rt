@@ -1,4 +1,4 @@
-//! What random steps in a random partition commit, beside the plain run.
+//! What random steps in a random partition commit, compared with the plain run.
 
 use crate::division::Division;
 use crate::random::{Source, owners, steps};
@@ -7,7 +7,8 @@ use dv_tree::Tree;
 use std::alloc::{AllocError, Global};
 use test_samples::checked;
 
-/// Whether each process of a model has committed its part of the plain run, in a random partition and after random steps.
+/// Whether each process of a model has committed its part of the plain run, in a random partition
+/// and after random steps.
 pub fn agrees(alloc: Global, text: &str, source: &mut Source) -> Result<bool, AllocError> {
     match checked(alloc, text) {
         Ok(checked) => checked_agrees(alloc, text, &checked, source),
