@@ -132,6 +132,7 @@ fn soonest_of_statement(responses: &PhaseResponses, statement: &Stmt, so_far: Re
         ≡ soonest (response_in responses.now.entries) (ticks_of so_far)
         (gotos_in (statement_before statement.now rest)) }
 {
+    // For the prover alone.
     trees_keep_blocks();
     match statement {
         Stmt::Command {

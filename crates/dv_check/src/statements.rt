@@ -40,6 +40,7 @@ fn check_statement<'a>(environment: &'a Environment<'a>, statement: &'a Stmt, fo
         ≡ with_refusals found.old (statements_refusals (known_at environment.now)
         (statement_before statement.now rest)) }
 {
+    // For the prover alone.
     trees_keep_blocks();
     match statement {
         Stmt::Assign { variable, value } => {

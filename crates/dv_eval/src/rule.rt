@@ -90,6 +90,7 @@ pub fn run_statement(
     ensures { Gives result
         (run scope.now (context_of context.now) (statement_before statement.now Done) effect) }
 {
+    // For the prover alone.
     trees_keep_blocks();
     match statement {
         Stmt::Assign { variable, value } => {

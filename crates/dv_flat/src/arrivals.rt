@@ -74,7 +74,7 @@ fn arrivals_at_inputs(
 {
     let mut lists = empty_lists(alloc, probes)?;
     for component in 0..tree.component_count() {
-        // There are few enough ports for indices of 32 bits.
+        // For the prover alone: there are few enough ports for indices of 32 bits.
         let _ = port_count(tree.scope(component).inputs());
         add_component(component as u32, &received[component], &mut lists)?;
     }

@@ -35,6 +35,7 @@ pub fn generate(alloc: Global, model: &Atomic, scope: &Scope) -> Result<ModelCod
         (λ c. c.tables.value ≡ tables_of (scope_of (atomic_of model.now))) }
     ensures phases { IfOk result (λ c. c.phases.items ≡ phase_codes (atomic_of model.now)) }
 {
+    // For the prover alone.
     states_fit_the_tables();
     let tables = Arc::new(alloc, tables_of(alloc, scope)?)?;
     let phases = codes_over(alloc, model, scope, &tables)?;
@@ -81,6 +82,7 @@ impl<'a> Generator<'a> {
         ensures ready { IfOk result (λ g. IsReady g) }
         ensures model { IfOk result (λ g. IsGeneratorOf (atomic_of model.now) g) }
     {
+        // For the prover alone.
         accepted_rules_are_well_typed();
         Ok(Generator {
             alloc,

@@ -35,6 +35,7 @@ pub fn rule_program(
     ensures { IfOk result (λ program. program
         ≡ rule_code names.now sort (statements_of statements.now)) }
 {
+    // For the prover alone.
     generated_programs_are_valid();
     let mut draft = Draft::new(alloc);
     emit_statements(statements, names, &Loops::Outermost, &mut draft)?;
@@ -59,6 +60,7 @@ pub fn hold_program(
     requires ticks { IsHoldTicks names.now (expression_of ticks.now) }
     ensures { IfOk result (λ program. program ≡ hold_code names.now (expression_of ticks.now)) }
 {
+    // For the prover alone.
     generated_programs_are_valid();
     let mut draft = Draft::new(alloc);
     emit_expression(ticks, names, &Loops::Outermost, &mut draft)?;

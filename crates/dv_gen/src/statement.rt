@@ -54,6 +54,7 @@ fn emit_statement(
         ≡ with_statements draft.old (all_resolved names.now (loops_of loops.now)
         (statement_before statement.now rest))) }
 {
+    // For the prover alone.
     trees_keep_blocks();
     match statement {
         Stmt::Assign { variable, value } => {

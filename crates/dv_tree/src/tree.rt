@@ -160,6 +160,7 @@ impl<'c> Tree<'c> {
         ensures value { result ≡ length (instances (file_of self.now.file)) }
         ensures at_most { result ≤ greatest_components }
     {
+        // For the prover alone.
         checked_files();
         self.components.len()
     }
@@ -257,6 +258,7 @@ impl<'c> Tree<'c> {
         ensures value { result ≡ length (root_inputs (file_of self.now.file)) }
         ensures at_most { result ≤ greatest_names }
     {
+        // For the prover alone.
         checked_files();
         self.inputs.len()
     }
@@ -271,6 +273,7 @@ impl<'c> Tree<'c> {
             ≡ texts_of self.now.names (root_inputs (file_of self.now.file))) }
         ensures few { IfOk result (λ names. length names.items ≤ greatest_names) }
     {
+        // For the prover alone.
         checked_files();
         texts_of(alloc, &self.inputs, &self.checked.names)
     }
@@ -304,6 +307,7 @@ impl<'c> Tree<'c> {
             ≡ leaves (file_of self.now.file) sent.now) }
         ensures at_most { IfOk result (λ routed. length routed.leaving ≤ greatest_names) }
     {
+        // For the prover alone.
         checked_files();
         route(
             alloc,
