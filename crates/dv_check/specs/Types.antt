@@ -226,11 +226,11 @@ expression_refusals known (Times offset e bag) =
     ++ (type_refusals Number (type_of known e) (first_offset e)
     ++ held_name_refusals wanted.Bag known.rule (known.sort bag.number) bag.offset)
 
--- an expression of which a type is wanted
+-- an expression that must have a given type
 abbrev pub offset_refusals : ValueType → Known → Expression → List Refusal
 offset_refusals wanted known e = expression_refusals known e ++ type_refusals wanted (type_of known e) (first_offset e)
 
--- an expression of which a type is wanted, or none
+-- an expression that must have a given type, or may have any
 abbrev pub value_refusals : Option ValueType → Known → Expression → List Refusal
 value_refusals None known e = expression_refusals known e
 value_refusals (Some wanted) known e = offset_refusals wanted known e

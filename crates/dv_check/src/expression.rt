@@ -28,7 +28,7 @@ pub struct Typed {
     pub offset: u32,
 }
 
-/// Tests an expression of which a type is wanted.
+/// Tests an expression that must have a given type.
 pub fn check_offset(
     wanted: ValueType,
     environment: &Environment,
@@ -42,7 +42,7 @@ pub fn check_offset(
     want(wanted, given, found);
 }
 
-/// Tests an expression of which a type is wanted, or none.
+/// Tests an expression that must have a given type, or may have any.
 pub fn check_value(
     wanted: Option<ValueType>,
     environment: &Environment,

@@ -18,7 +18,7 @@ with_outside outside s = record {
   response = s.response;
 }
 
--- two shares are the same but for the outside, of which the same arrives
+-- two shares differ only in the bags from outside, of which the same arrives
 pub record AreAlike (s t : Share) : Type 0 where
   pub same : s ≡ with_outside s.outside t
   pub outside : (n : ℕ) (ds : List Delivery) → ArriveAlike (network t.flat) (s.outside n, ds) (t.outside n, ds)

@@ -148,7 +148,7 @@ promise s received k =
     at_most (end_rank s)
     (foreseen s.limit k (components_by s (events_by received) k) (known_until s received k) s.response)
 
--- why a packet is refused: there is no such link; another window is next; the window is none; an event is not of it
+-- why a packet is refused: there is no such link; another window is next; its window is empty or not within the run; an event is not of it
 pub data Refused : Type 0 where
   P1 : Refused
   P2 : Refused
