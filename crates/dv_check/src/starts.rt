@@ -18,8 +18,8 @@ use dv_eval::Domain;
 use dv_syntax::{Declaration, Expr, Name, Ticks};
 use std::alloc::{AllocError, Global};
 
-/// What the state variables, flags and collections of an atomic model may hold, by their first
-/// declarations that are within the limit.
+/// What the variables, flags, bags and queues of an atomic model may hold, by their first
+/// declarations within the limit on their number.
 #[derive(Drop)]
 pub struct Starts {
     /// The domain of each name, and its start value.

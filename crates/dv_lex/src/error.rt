@@ -139,7 +139,7 @@ fn line_feeds(bytes: &[u8]) -> u64
     bytes.iter().filter(|byte| **byte == b'\n').count() as u64
 }
 
-/// Why a model text has no tokens, or no file.
+/// Why a model text could not be loaded.
 #[derive(Clone, Copy, Debug, PartialEq, Eq)]
 pub enum LoadError {
     /// The text is refused.
