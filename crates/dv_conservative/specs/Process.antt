@@ -133,7 +133,8 @@ abbrev pub first_from : (ℕ → Bool) → ℕ → ℕ → ℕ
 first_from test n zero = n
 first_from test n (suc count) = if test n then n else first_from test (n + 1) count
 
--- How long a process at a rank knows what comes: the least of the end, its channel clocks and the inputs that it has and has not committed.
+-- The rank before which a process at a rank knows what comes: the least of the end, its channel clocks and the inputs that it has and has
+-- not committed.
 abbrev pub known_until : Share → (ℕ → List Packet) → ℕ → ℕ
 known_until s received k = first_from (brings s (events_by received)) k (least_clock s received - k)
 

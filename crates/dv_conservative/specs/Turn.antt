@@ -13,7 +13,7 @@ pub record Position : Type 0 where
   pub promised : ℕ → Time
 
 -- a packet was prepared on a link: its window is the next, its events are the local run's, and it ends after it begins and not after the
--- promise of the position before the turn
+-- promise of the position after the turn
 pub record Prepares (s : Share) (received : ℕ → List Packet) (out : Outgoing) (before after : Position) : Type 0 where
   pub upto : Time
   pub free : before.standing out.number ≡ None
@@ -28,7 +28,7 @@ pub record StaysOn (out : Outgoing) (before after : Position) : Type 0 where
   pub stands : after.standing out.number ≡ before.standing out.number
   pub promised : after.promised out.number ≡ before.promised out.number
 
--- what may become of a link
+-- what a turn may do to a link
 abbrev pub MayBecome : Share → (ℕ → List Packet) → Outgoing → Position → Position → Type 0
 MayBecome s received out before after = StaysOn out before after ⊎ Prepares s received out before after
 
@@ -36,7 +36,8 @@ abbrev pub AllMayBecome : Share → (ℕ → List Packet) → Position → Posit
 AllMayBecome s received before after [] = Unit {0}
 AllMayBecome s received before after (o ∷ os) = MayBecome s received o before after × AllMayBecome s received before after os
 
--- a link without a prepared packet has been promised at least the promise of the position before the turn, and the clock passed
+-- a link without a prepared packet before the turn is promised up to the promise of the position after the turn at least, and past the
+-- clock unless that is at the end
 abbrev pub IsPromised : Share → (ℕ → List Packet) → Position → Position → Outgoing → Type 0
 IsPromised s received before after o =
     before.standing o.number ≡ None
