@@ -227,8 +227,8 @@ abbrev pub position_in : World → ℕ → Position
 position_in w p =
     record { clock = w.clock p; standing = λ l. (w.link l).standing; promised = λ l. promised_on (w.link l) }
 
--- everything but the position of a process stays the same: the other clocks, the links that are not its outgoing ones, and of those what is
--- received and queued
+-- everything but the position of a process stays the same: the other clocks, the links that are not its outgoing ones, and what is received
+-- and queued on its outgoing ones
 pub record StaysBeside (job : Job) (p : ℕ) (w v : World) : Type 0 where
   pub clocks : OtherClocksStay p w v
   pub stopped : v.stopped ≡ w.stopped
