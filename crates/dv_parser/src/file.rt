@@ -123,9 +123,9 @@ fn load_error(error: ParseError, end: u32) -> LoadError
 ///
 /// # Errors
 ///
-/// - `Refused` with E4 or E5: the tokens are those of no file. The offset is that of the first token
-///   after which the tokens begin no file within the limits on depth: E5 if they still begin one
-///   without these limits, else E4. If they end too early it is E4 at the end of the text.
+/// - `Refused` with E4 or E5: the tokens are those of no file. The offset is that of the first
+///   token after which the tokens begin no file within the limits on depth: E5 if they still begin
+///   one without these limits, else E4. If they end too early it is E4 at the end of the text.
 /// - `Memory`: no memory for the trees.
 pub fn parse(alloc: Global, tokens: &[Token], end: u32) -> Result<File, LoadError>
     ensures tree { IfOk result (λ file. IsFileOf tokens.now (file_of file)) }
