@@ -23,7 +23,7 @@ use Rattle.dv_bag.specs.declared.value.ValueType.{ValueType}
 use Rattle.dv_bag.specs.declared.value.ValueType.TheVariants.{Number, Truth}
 use Rattle.dv_check.specs.Names.{refusal, refusal_if}
 
--- what is known at an offset of an atomic model: what ports, variables, flags, bags, queues and loop variables denote, where they are
+-- what is known at a place in an atomic model: what ports, variables, flags, bags, queues and loop variables denote, where they are
 -- declared, the phases, and the sort of the rule around; a hold is in no rule
 pub record Known : Type 0 where
   pub sort : ℕ → Option NameSort

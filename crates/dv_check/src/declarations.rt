@@ -22,7 +22,7 @@ use dv_lex::RefusalNumber;
 use dv_syntax::{Atomic, Declaration, Hold, Name, Rule, Start, StateCollection, Ticks, Variable};
 use std::alloc::{AllocError, Global};
 
-/// What a name denotes at an offset of an atomic model.
+/// What a name denotes at a place in an atomic model.
 #[derive(Clone, Copy, PartialEq, Eq)]
 pub enum NameSort {
     /// A variable of the state, which holds a number.

@@ -1,4 +1,4 @@
-//! What names denote at an offset of an atomic model.
+//! What names denote at a place in an atomic model.
 
 ghost use Rattle.std.specs.Prelude.{◌≡◌};
 ghost use Rattle.dv_check.specs.Rules.{known_at};
@@ -6,7 +6,7 @@ ghost use Rattle.dv_check.specs.Rules.{known_at};
 use crate::declarations::{Declarations, NameSort};
 use dv_syntax::{Name, RuleSort};
 
-/// What names denote at an offset of an atomic model.
+/// What names denote at a place in an atomic model.
 #[derive(Clone, Copy)]
 pub enum Environment<'a> {
     /// Outside of all loops: in a rule of this sort, or in a hold.

@@ -38,7 +38,7 @@ mod cycles;
 /// What names denote: a short list, or a table.
 mod directory;
 
-/// What names denote at an offset of an atomic model.
+/// What names denote at a place in an atomic model.
 mod environment;
 
 /// The types of expressions.
