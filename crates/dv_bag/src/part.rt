@@ -66,13 +66,6 @@ impl Part {
         Ok(self.outer.push(outer)?)
     }
 
-    /// A part of these entries and lines.
-    pub fn from_lists(entries: Vec<Entry>, outer: Vec<Outer>) -> Self
-        ensures { result ≡ record { entries = entries.items; outer = outer.items } }
-    {
-        Part { entries, outer }
-    }
-
     /// The number of entries.
     pub fn entry_count(&self) -> usize
         ensures { result ≡ length self.now.entries }
