@@ -76,7 +76,8 @@ impl Collection {
                 Ok(())
             }
             (Collection::Queue(queue), Change::Push) => queue.push(value),
-            _ => Ok(()),
+            (Collection::Bag(_), Change::Push)
+            | (Collection::Queue(_), Change::Add | Change::Drop) => Ok(()),
         }
     }
 

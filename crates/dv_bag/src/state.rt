@@ -62,7 +62,7 @@ impl Datum {
     {
         match self {
             Datum::Held(held) => held.copy_from(other),
-            _ => {
+            Datum::Number(_) | Datum::Flag(_) => {
                 *self = Datum::Held(other.clone()?);
                 Ok(())
             }
@@ -218,7 +218,7 @@ impl Variables {
     {
         match &mut self.data[index] {
             Datum::Held(held) => held.make_room(capacity),
-            _ => Ok(()),
+            Datum::Number(_) | Datum::Flag(_) => Ok(()),
         }
     }
 
@@ -237,7 +237,7 @@ impl Variables {
     {
         match &mut self.data[index] {
             Datum::Held(held) => held.edit(change, value),
-            _ => Ok(()),
+            Datum::Number(_) | Datum::Flag(_) => Ok(()),
         }
     }
 
