@@ -94,7 +94,14 @@ fn least_left_rank(operator: Operator) -> u32
         Operator::Or => 1,
         Operator::And => 2,
         Operator::Multiply | Operator::Divide | Operator::Remainder => 6,
-        _ => 5,
+        Operator::Add
+        | Operator::Subtract
+        | Operator::Equal
+        | Operator::Unequal
+        | Operator::Less
+        | Operator::AtMost
+        | Operator::Greater
+        | Operator::AtLeast => 5,
     }
 }
 
