@@ -37,9 +37,9 @@ fn add_item<T: Drop>(key: u32, item: T, lists: &mut Vec<Vec<T>>) -> Result<(), A
     ensures { OnOk result (map (λ list. list.items) lists.new.items
         ≡ with_item key item (map (λ list. list.items) lists.old.items)) }
 {
-    let list_paths = key as usize;
-    if list_paths < lists.len() {
-        lists[list_paths].push(item)?;
+    let index = key as usize;
+    if index < lists.len() {
+        lists[index].push(item)?;
     }
     Ok(())
 }

@@ -75,9 +75,9 @@ impl Groups {
         ensures few { self.now.processes ≤ greatest_processes }
     {
         let owners = self.owners.as_slice();
-        let list_paths = component as usize;
-        if list_paths < owners.len() {
-            owners[list_paths]
+        let index = component as usize;
+        if index < owners.len() {
+            owners[index]
         } else {
             0
         }
