@@ -13,7 +13,7 @@ use crate::link::ComponentPort;
 use crate::ports::port_count;
 use crate::probes::route_probes;
 use dv_bag::{Bag, Bags};
-use dv_tree::Tree;
+use dv_tree::{Tree, empty_lists};
 use std::alloc::{AllocError, Global};
 
 /// How many copies of a probe arrive at a target.
@@ -116,16 +116,6 @@ fn arrivals_at_outputs(
     let mut lists = empty_lists(alloc, probes)?;
     for held in leaving.held() {
         add_arrivals(held.port as u32, &held.bag, &mut lists)?;
-    }
-    Ok(lists)
-}
-
-fn empty_lists<T: Copy>(alloc: Global, count: usize) -> Result<Vec<Vec<Arrival<T>>>, AllocError>
-    ensures { IfOk result (λ lists. map (λ list. list.items) lists.items ≡ replicate count []) }
-{
-    let mut lists = Vec::with_capacity(alloc, count)?;
-    for _ in 0..count {
-        lists.push(Vec::new(alloc))?;
     }
     Ok(lists)
 }

@@ -1,10 +1,11 @@
 //! The links of a coupled model as indices of ports.
 
-ghost use Rattle.std.specs.Prelude.{◌≡◌, [], map, replicate, IfOk, OnOk};
+ghost use Rattle.std.specs.Prelude.{◌≡◌, map, IfOk, OnOk};
 ghost use Rattle.std.specs.List.{range_with_len};
 ghost use Rattle.dv_tree.specs.Couplings.{coupling_from_own, own_couplings, part_couplings};
 ghost use Rattle.dv_tree.specs.Tables.{with_link};
 
+use crate::lists::empty_lists;
 use std::alloc::{AllocError, Global};
 
 /// A port by its index: a port of the coupled model itself, or of one of its parts.
@@ -72,16 +73,6 @@ pub(crate) fn part_couplings(
     let mut lists = empty_lists(alloc, parts)?;
     for link in links {
         add_link(&mut lists, link)?;
-    }
-    Ok(lists)
-}
-
-fn empty_lists(alloc: Global, count: usize) -> Result<Vec<Vec<Coupling>>, AllocError>
-    ensures { IfOk result (λ lists. map (λ list. list.items) lists.items ≡ replicate count []) }
-{
-    let mut lists = Vec::with_capacity(alloc, count)?;
-    for _ in 0..count {
-        lists.push(Vec::new(alloc))?;
     }
     Ok(lists)
 }

@@ -21,6 +21,8 @@ pub mod couplings;
 pub mod laws;
 /// The tables of coupled models.
 mod levels;
+/// Lists of lists.
+pub mod lists;
 /// The parts of a coupled model, with the indices of their models.
 mod resolved_parts;
 /// The indices of names in a list.
@@ -36,5 +38,6 @@ pub mod tree;
 
 pub use couplings::{Coupling, Target};
 pub use levels::{Level, level_at};
+pub use lists::empty_lists;
 pub use resolved_parts::ResolvedPart;
 pub use tree::{Routed, Tree};

@@ -1,5 +1,5 @@
 use Rattle.std.proofs.Common.{◌≡◌, [], map, replicate}
-use Rattle.dv_flat.proofs.arrivals.empty_lists.Given as goal
+use Rattle.dv_tree.proofs.lists.empty_lists.Given as goal
 
 abbrev pub invariant-loop : goal.invariant-loop
 invariant-loop g l = map (λ list. list.items) l.lists.items ≡ replicate l.counter []
