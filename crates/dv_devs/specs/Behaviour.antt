@@ -23,6 +23,11 @@ pub record Change : Type 0 where
   pub state : State
   pub goes : Bool
 
+-- what a rule leaves of a state: the last goto that ran sets the phase
+abbrev pub state_by_goto : State → Option ℕ → Change
+state_by_goto s None = record { state = s; goes = false }
+state_by_goto s (Some phase) = record { state = record { phase = phase; variables = s.variables }; goes = true }
+
 -- An atomic model as functions: its output function, its transitions and its time advance. Bags are listed by port. A hold is a number of
 -- ticks, or forever. A phase without a confluent rule has None.
 pub record Behaviour : Type 0 where

@@ -8,7 +8,7 @@ use Rattle.dv_syntax.specs.declared.tree.RuleSort.TheVariants.{Output, Internal,
 use Rattle.dv_bag.specs.Bag.{Counts}
 use Rattle.dv_bag.specs.Inputs.{inputs_at}
 use Rattle.dv_bag.specs.declared.inputs.Input.{Input}
-use Rattle.dv_devs.specs.Behaviour.{Behaviour, Change, Component, end_of_hold}
+use Rattle.dv_devs.specs.Behaviour.{Behaviour, Change, Component, end_of_hold, state_by_goto}
 use Rattle.dv_bag.specs.Outcome.{◌>>=◌}
 use Rattle.dv_devs.specs.Network.{Network, trace_before}
 use Rattle.dv_bag.specs.Part.{PartOf}
@@ -20,11 +20,6 @@ use Rattle.dv_bag.specs.Arrivals.{Arrivals, nothing_arrived}
 use Rattle.dv_eval.specs.Meaning.{effect_of, hold_of}
 use Rattle.dv_tree.specs.Instances.{Instance, instances, root_inputs}
 use Rattle.dv_tree.specs.Routing.{arrives, leaves}
-
--- what a rule leaves: the last goto that ran sets the phase
-abbrev pub state_by_goto : State → Option ℕ → Change
-state_by_goto s None = record { state = s; goes = false }
-state_by_goto s (Some phase) = record { state = record { phase = phase; variables = s.variables }; goes = true }
 
 -- the effect of a model's rule for the phase of a state
 abbrev pub rule_effect : AtomicTree → RuleSort → Arrivals → State → Result Effect Fault

@@ -7,12 +7,12 @@ ghost use Rattle.dv_syntax.specs.declared.tree.RuleSort.TheVariants as sort;
 ghost use Rattle.dv_bag.specs.Outcome.{Gives};
 ghost use Rattle.dv_eval.specs.Scope.{phase_name, rule_of, scope_of};
 ghost use Rattle.dv_tree.specs.Instances.{instances};
-ghost use Rattle.dv_plain.specs.Source.{behaviour_of, change_by, state_by_goto};
+ghost use Rattle.dv_plain.specs.Source.{behaviour_of, change_by};
 ghost use Rattle.dv_react.specs.Given.{GivesAs, change_to};
 
 use dv_bag::{Arrivals, Fault, RuleError, Sent, State};
 use dv_eval::{Scope, phase_hold, rule_body, rule_of, run_rule};
-use dv_react::Atomic;
+use dv_react::{Atomic, go_to};
 use dv_syntax::{Atomic as AtomicModel, RuleSort, Stmt};
 use dv_tree::Tree;
 use std::alloc::Global;
@@ -127,19 +127,6 @@ impl Atomic for Atom<'_> {
         match self.hold_of(state) {
             Ok(ticks) => Ok(ticks),
             Err(fault) => Err(RuleError::Fault(fault)),
-        }
-    }
-}
-
-// Puts a state in the phase of the last `goto`, if one ran. Returns whether one did.
-fn go_to(state: &mut State, goto: Option<u32>) -> bool
-    ensures { change_to state.new result ≡ state_by_goto state.old goto }
-{
-    match goto {
-        None => false,
-        Some(phase) => {
-            state.phase = phase;
-            true
         }
     }
 }

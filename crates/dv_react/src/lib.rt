@@ -18,6 +18,9 @@ pub mod atomic;
 /// Faults of rules, told apart from refused memory.
 mod fault;
 
+/// The phase after a rule.
+pub mod goto;
+
 /// What happens to a component.
 pub mod happened;
 
@@ -43,6 +46,7 @@ mod transition;
 pub mod wait;
 
 pub use atomic::Atomic;
+pub use goto::go_to;
 pub use happened::Happened;
 pub use instant::Instant;
 pub use leaving::commit_outer;

@@ -8,13 +8,13 @@ use Rattle.dv_bag.specs.Bag.{Counts}
 use Rattle.dv_bag.specs.declared.fault.Fault.{Fault}
 use Rattle.dv_bag.specs.declared.state.Effect.{Effect}
 use Rattle.dv_bag.specs.declared.state.State.{State}
-use Rattle.dv_devs.specs.Behaviour.{Change}
+use Rattle.dv_devs.specs.Behaviour.{Change, state_by_goto}
 use Rattle.dv_devs.specs.Fits.{Keeps}
 use Rattle.dv_eval.specs.Meaning.{effect_of}
 use Rattle.dv_eval.specs.Scope.{phase_name, rule_body, rule_of, scope_of}
 use Rattle.law_accepted.specs.Fitting.{LeadsToPhase, fits, in_phase}
 use Rattle.law_compiled.specs.Behaviours.{arriving, change_of}
-use Rattle.dv_plain.specs.Source.{behaviour_of, state_by_goto}
+use Rattle.dv_plain.specs.Source.{behaviour_of}
 
 module _ (m : AtomicTree)
     (state : (body : Statements) (arrivals : Arrivals) (s : State) (e : Effect) → fits m s ≡ true

@@ -2,10 +2,9 @@
 use Rattle.std.proofs.Common.{◌≡◌, ℕ, true, Option, Some, None, Result, Ok, Err, refl}
 use Rattle.dv_bag.specs.declared.fault.Fault.{Fault}
 use Rattle.dv_bag.specs.declared.state.Effect.{Effect}
-use Rattle.dv_devs.specs.Behaviour.{Change}
+use Rattle.dv_devs.specs.Behaviour.{Change, state_by_goto}
 use Rattle.law_accepted.specs.Fitting.{in_phase}
 use Rattle.law_compiled.specs.Behaviours.{change_of}
-use Rattle.dv_plain.specs.Source.{state_by_goto}
 
 -- it is the state of an effect, in the phase of the effect's goto
 pub record Goes (effect : Result Effect Fault) (c : Change) : Type 0 where

@@ -6,12 +6,11 @@ use Rattle.dv_bag.specs.Outcome.{◌>>=◌}
 use Rattle.dv_bag.specs.declared.fault.Fault.{Fault}
 use Rattle.dv_bag.specs.declared.state.State.{State}
 use Rattle.dv_bag.specs.declared.state.Effect.{Effect}
-use Rattle.dv_devs.specs.Behaviour.{Behaviour, Change}
+use Rattle.dv_devs.specs.Behaviour.{Behaviour, Change, state_by_goto}
 use Rattle.dv_eval.specs.Meaning.{ticks_from}
 use Rattle.dv_code.specs.Outcomes.{effect_by, number_by}
 use Rattle.dv_code.specs.Valid.{Program}
 use Rattle.dv_gen.specs.declared.model_code.PhaseCode.{PhaseCode}
-use Rattle.dv_plain.specs.Source.{state_by_goto}
 
 -- the effect of a rule's program in the phase of a state; a state that fits is in a phase of its model
 abbrev pub effect_in : Option PhaseCode → (PhaseCode → Program) → Arrivals → State → Result Effect Fault

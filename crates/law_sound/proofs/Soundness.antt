@@ -19,14 +19,14 @@ use Rattle.dv_bag.specs.declared.state.Datum.{Datum}
 use Rattle.dv_bag.specs.declared.state.Datum.TheVariants as datum
 use Rattle.dv_bag.specs.declared.state.State.{State}
 use Rattle.dv_bag.specs.declared.state.Effect.{Effect}
-use Rattle.dv_devs.specs.Behaviour.{Behaviour, Change, are_few}
+use Rattle.dv_devs.specs.Behaviour.{Behaviour, Change, are_few, state_by_goto}
 use Rattle.dv_devs.specs.Fits.{Agrees, Keeps}
 use Rattle.dv_eval.specs.Meaning.{effect_of}
 use Rattle.dv_eval.specs.Scope.{phase_name, rule_body, rule_of, same_sort, scope_of, start_state}
 use Rattle.law_accepted.specs.Fitting.{fits}
 use Rattle.dv_gen.specs.ModelCode.{IsCompilable, phase_codes}
 use Rattle.dv_bound.specs.Response.{IsNotBelow, response_of}
-use Rattle.dv_plain.specs.Source.{behaviour_of, change_by, first_component, state_by_goto}
+use Rattle.dv_plain.specs.Source.{behaviour_of, change_by, first_component}
 use Rattle.law_compiled.specs.Behaviours.{behaviour_by}
 use Rattle.dv_conservative.specs.Promise.{IsAtLeast, IsResponse}
 use Rattle.dv_conservative.specs.Sound.{IsSound, are_of_numbers}
