@@ -23,6 +23,10 @@ pub enum Directory<V: Drop> {
 #[tactic(auto, unfolding(crate::specs::Tables::value_for))]
 impl<V: Drop> Directory<V> {
     /// An empty directory for `count` values.
+    ///
+    /// # Errors
+    ///
+    /// No memory for a table.
     #[tactic(auto, using(crate::proofs::Tables::entry_none), unfolding(crate::specs::Tables::value_for))]
     pub fn with_room(alloc: Global, count: usize) -> Result<Self, AllocError>
         ensures { IfOk result (λ directory. value_for directory ≡ no_value) }
@@ -35,6 +39,10 @@ impl<V: Drop> Directory<V> {
     }
 
     /// Adds a value if there is none for the number. Returns whether it was added.
+    ///
+    /// # Errors
+    ///
+    /// No memory for one more value.
     pub fn add(&mut self, number: u32, value: V) -> Result<bool, AllocError>
         ensures new { IfOk result (λ is_new. is_new ≡ is_none (value_for self.old number)) }
         ensures added { OnOk result

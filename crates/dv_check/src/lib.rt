@@ -36,7 +36,7 @@ mod declarations;
 mod cycles;
 
 /// What names denote: a short list, or a table.
-mod directory;
+pub mod directory;
 
 /// What names denote at a place in an atomic model.
 mod environment;
@@ -88,4 +88,5 @@ mod wanted;
 
 pub use checked::Checked;
 pub use checker::check;
+pub use directory::Directory;
 pub use limits::{GREATEST_COMPONENTS, GREATEST_DEPTH, GREATEST_INSTANCES, GREATEST_NAMES};

@@ -3,11 +3,18 @@ use Rattle.std.proofs.Common.{◌≡◌, ℕ, ◌==◌, Bool, true, false, ◌&&
 use Rattle.std.proofs.Common.{None, refl, sym, ap, ◌∙◌}
 use Rattle.std.specs.Option.{option_or}
 use Rattle.std.specs.Borrow.{Bor}
+use Rattle.dv_check.specs.Tables.{no_value, with_first}
 use Rattle.dv_syntax.specs.declared.tree.Stmt.{Stmt}
 use Rattle.dv_syntax.specs.declared.tree.Ticks.{Ticks}
 use Rattle.dv_syntax.specs.declared.tree.RuleSort.{RuleSort}
 use Rattle.dv_syntax.specs.Trees.{Expression, HoldTree, RuleTree, Statements, statements_of, ticks_of}
 use Rattle.dv_eval.specs.Scope.{hold_ticks, rule_of, same_sort, ticks_found}
+
+-- what a directory has for a number, with one value more
+pub added_at : {V : Type 0} (before after : ℕ → Option V) (n : ℕ) (v : V) → after ≡ with_first before n v
+    → (q : ℕ) → after q ≡ option_or (before q) (if nat_eq n q then Some v else None)
+unfolding with_first
+added_at before after n v e q = ap (λ f. f q) e
 
 -- ---- Rules
 
@@ -70,3 +77,12 @@ ticks_or-none (Some t) = refl
 pub in_front-none : (found : Option (Bor (List Stmt))) → in_front found None ≡ option_map (λ s. statements_of s.now) found
 in_front-none None = refl
 in_front-none (Some s) = refl
+
+-- nothing is found in a directory that has no value
+pub in_front_nothing : (rest : Option Statements) (phase : ℕ) → in_front (no_value phase) rest ≡ rest
+unfolding no_value
+in_front_nothing rest phase = refl
+
+pub ticks_or_nothing : (rest : Option Expression) (phase : ℕ) → ticks_or (no_value phase) rest ≡ rest
+unfolding no_value
+ticks_or_nothing rest phase = refl

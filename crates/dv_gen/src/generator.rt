@@ -11,7 +11,7 @@ ghost use Rattle.dv_gen.specs.Generators.{IsGeneratorOf, IsReady, code_of_phase,
 ghost use Rattle.dv_gen.specs.ModelCode.{IsCompilable, phase_codes};
 ghost use Rattle.dv_gen.specs.Resolution.{slot_of, tables_of};
 
-use crate::directory::Directory;
+use crate::directory::PhaseDirectory;
 use crate::laws::{accepted_rules_are_well_typed, states_fit_the_tables};
 use crate::model_code::{ModelCode, PhaseCode};
 use crate::names::Names;
@@ -65,7 +65,7 @@ pub struct Generator<'a> {
     alloc: Global,
     names: Names<'a>,
     tables: &'a Arc<Tables>,
-    directory: Directory<'a>,
+    directory: PhaseDirectory<'a>,
 }
 
 impl<'a> Generator<'a> {
@@ -88,7 +88,7 @@ impl<'a> Generator<'a> {
             alloc,
             names: Names::of(scope),
             tables,
-            directory: Directory::of(alloc, model)?,
+            directory: PhaseDirectory::of(alloc, model)?,
         })
     }
 
