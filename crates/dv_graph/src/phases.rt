@@ -3,7 +3,7 @@
 use crate::expressions::short_text;
 use crate::graph_text::GraphText;
 use crate::pieces::Escaped;
-use crate::rules::{Deed, Reading, Step, always_goes, steps_of};
+use crate::rules::{Deed, Reading, Step, steps_of};
 use dv_syntax::{Atomic, Name, Rule, RuleSort, Ticks};
 use dv_text::WriteError;
 use dv_tree::Tree;
@@ -194,7 +194,7 @@ fn put_rule<W: Write>(
             put_edge(from, to, rule.sort, step.conditions.as_str(), text)?;
         }
     }
-    if always_goes(&rule.body) {
+    if rule.body.always_goes() {
         return Ok(());
     }
     let conditions = if steps.is_empty() { "" } else { "\\notherwise" };

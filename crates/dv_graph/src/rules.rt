@@ -149,25 +149,3 @@ fn add_step<'a>(
         conditions: String::from_str(reading.alloc, conditions)?,
     })?)
 }
-
-/// Whether a `goto` runs wherever a block runs to its end. A loop may have nothing to run for.
-pub(crate) fn always_goes(block: &Block) -> bool {
-    for statement in &block.statements {
-        let goes = match statement {
-            Stmt::Command {
-                command: Command::Goto,
-                ..
-            } => true,
-            Stmt::IfElse {
-                then_block,
-                else_block,
-                ..
-            } => always_goes(then_block) && always_goes(else_block),
-            _ => false,
-        };
-        if goes {
-            return true;
-        }
-    }
-    false
-}

@@ -2,7 +2,6 @@
 
 use crate::constants::Nowhere;
 use crate::mentions::{Mention, ReadRule};
-use crate::statements::always_goes;
 use dv_eval::Scope;
 use dv_syntax::{Atomic, Hold, Name, RuleSort, Ticks};
 use std::alloc::{AllocError, Global};
@@ -42,7 +41,7 @@ impl<'a> Phase<'a> {
     /// Whether an internal transition may stay in the phase.
     pub(crate) fn may_stay(&self) -> bool {
         match self.rule(RuleSort::Internal) {
-            Some(rule) => !always_goes(&rule.rule.body),
+            Some(rule) => !rule.rule.body.always_goes(),
             None => true,
         }
     }

@@ -1,6 +1,6 @@
 //! The statements of a rule as a list.
 
-use dv_syntax::{Block, Command, Stmt};
+use dv_syntax::{Block, Stmt};
 use std::alloc::AllocError;
 
 /// Adds the statements of a block to a list, each before the statements in its own blocks.
@@ -40,26 +40,4 @@ fn add_statement<'a>(
             Ok(())
         }
     }
-}
-
-/// Whether a `goto` runs wherever a block runs to its end. A loop may have nothing to run for.
-pub(crate) fn always_goes(block: &Block) -> bool {
-    for statement in &block.statements {
-        let goes = match statement {
-            Stmt::Command {
-                command: Command::Goto,
-                ..
-            } => true,
-            Stmt::IfElse {
-                then_block,
-                else_block,
-                ..
-            } => always_goes(then_block) && always_goes(else_block),
-            _ => false,
-        };
-        if goes {
-            return true;
-        }
-    }
-    false
 }
