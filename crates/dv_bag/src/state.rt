@@ -237,7 +237,7 @@ impl Variables {
     {
         match &mut self.data[index] {
             Datum::Held(held) => held.edit(change, value),
-            Datum::Number(_) | Datum::Flag(_) => Ok(()),
+            _ => Ok(()),
         }
     }
 
