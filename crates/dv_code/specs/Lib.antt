@@ -1,5 +1,5 @@
--- What a reader believes: what a program may speak of, what instructions do, the machine, how its runs end, when a program is
--- valid, and what a valid one gives; and rows.
+-- What a reader believes: what a program may use, what instructions do, the machine, how its runs end, when a program is valid, and
+-- what a valid one gives; and rows.
 pub mod Limits
 pub mod Shape
 pub mod Operations

@@ -1,4 +1,4 @@
--- Instructions as an assembler's listing has them.
+-- Instructions as text, in the words of a listing.
 use Rattle.std.specs.Prelude.{ℕ, Bool, true, false, List, ◌++◌, codes}
 use Rattle.std.specs.Fmt.{decimal, signed_decimal}
 use Rattle.dv_bag.specs.declared.discipline.Change.TheVariants as change

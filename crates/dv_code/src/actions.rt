@@ -1,4 +1,4 @@
-//! What actions do with values, and what deeds do.
+//! What actions and deeds do.
 
 ghost use Rattle.std.specs.Prelude.{◌≢◌, None, true, slice_get};
 ghost use Rattle.dv_code.specs.Operations.{action_effect, change_in, deed_effect, held_in, pop_in, send, set_variable};
@@ -10,12 +10,12 @@ use crate::shape::{Shape, Slot};
 use dv_bag::limits::{test_flood, test_range, test_room};
 use dv_bag::{Change, Collection, DatumView, Fault, RuleError, Value};
 
-/// Does with a value what an action says.
+/// Performs an action with a value.
 ///
 /// # Errors
 ///
-/// `Range` of a number outside the range of its variable, `Full` of a collection that takes one more
-/// value than it may hold, `Flood` of the 4,097th value that is sent. Or no memory.
+/// `Range` of a number outside the range of its variable, `Full` of a collection that takes one
+/// more value than it may hold, `Flood` of the 4,097th value that is sent. Or no memory.
 pub(crate) fn act(
     action: Action,
     value: Value,
@@ -41,11 +41,11 @@ pub(crate) fn act(
     }
 }
 
-/// Does what a deed says.
+/// Performs a deed.
 ///
 /// # Errors
 ///
-/// `Empty` of a queue without values that is to lose its first one. Or no memory.
+/// `Empty` if a queue without values is popped. Or no memory.
 pub(crate) fn obey(deed: Deed, draft: &mut Draft) -> Result<(), RuleError>
     requires { deed_effect deed draft.old ≢ None }
     ensures { Becomes result draft.new (deed_effect deed draft.old) }
@@ -59,7 +59,7 @@ pub(crate) fn obey(deed: Deed, draft: &mut Draft) -> Result<(), RuleError>
     }
 }
 
-// A number into the variable of a slot.
+// Sets the variable of a slot to a number.
 fn set_variable(
     slot: usize,
     number: i64,
@@ -78,7 +78,7 @@ fn set_variable(
     Ok(())
 }
 
-// A number that changes the collection of a slot.
+// Changes the collection of a slot with a number.
 fn edit(
     change: Change,
     slot: usize,
@@ -105,7 +105,7 @@ fn edit(
     Ok(())
 }
 
-// The queue of a slot without its first value.
+// Pops the first value of the queue of a slot.
 fn pop(slot: usize, draft: &mut Draft) -> Result<(), RuleError>
     requires { pop_in (held_in (slice_get draft.old.state.variables slot)) slot draft.old ≢ None }
     ensures { Becomes result draft.new
@@ -121,7 +121,7 @@ fn pop(slot: usize, draft: &mut Draft) -> Result<(), RuleError>
     Ok(())
 }
 
-// One value more at an output port.
+// Sends a value by an output port.
 fn send(port: usize, number: i64, draft: &mut Draft) -> Result<(), RuleError>
     ensures { Becomes result draft.new (send true port number draft.old) }
 {

@@ -1,4 +1,4 @@
-//! What a run has done so far.
+//! The effect of a run so far.
 
 ghost use Rattle.std.specs.Prelude.{◌≡◌, ◌<◌, true, IfOk, OnOk};
 ghost use Rattle.std.specs.Cow.{IsOwned, cow_value};
@@ -17,7 +17,7 @@ use std::alloc::{AllocError, Global};
 use std::borrow::Cow;
 use std::marker::Model;
 
-/// An effect in the making. The state is lent until it changes.
+/// The effect of a run so far. The state may be borrowed until it changes.
 #[derive(Drop)]
 pub(crate) struct Draft<'a> {
     state: Cow<'a, State>,
@@ -35,7 +35,7 @@ impl<'a> Model for Draft<'a> {
 }
 
 impl<'a> Draft<'a> {
-    /// Nothing was done to the state yet, and nothing was sent.
+    /// A draft with this state, in which nothing was sent.
     pub(crate) fn new(alloc: Global, shape: &Shape, state: Cow<'a, State>) -> Self
         ensures { result ≡ first_effect shape.now (cow_value state.entry) }
     {
@@ -53,15 +53,14 @@ impl<'a> Draft<'a> {
         &self.state
     }
 
-    /// The number of values that were sent, each copy counted. One above 2^64-1 stands as that
-    /// number.
+    /// The number of values that were sent, each copy counted; at most 2^64 - 1.
     pub(crate) fn sent_count(&self) -> u64
         ensures { result ≡ size_of_all self.now.sent }
     {
         self.sent.total()
     }
 
-    /// Another number in a slot, if there is one.
+    /// Sets the number in a slot, if there is such a slot.
     ///
     /// # Errors
     ///
@@ -79,7 +78,7 @@ impl<'a> Draft<'a> {
         Ok(())
     }
 
-    /// Another truth value in a slot, if there is one.
+    /// Sets the truth value in a slot, if there is such a slot.
     ///
     /// # Errors
     ///
@@ -96,7 +95,7 @@ impl<'a> Draft<'a> {
         Ok(())
     }
 
-    /// Room for one more value in the collection of a slot, of a capacity.
+    /// Makes room for one more value in the collection of a slot, which has this capacity.
     ///
     /// # Errors
     ///
@@ -112,7 +111,7 @@ impl<'a> Draft<'a> {
         Ok(())
     }
 
-    /// What a change makes of the collection of a slot with a number.
+    /// Changes the collection of a slot with a number.
     ///
     /// # Errors
     ///
@@ -136,7 +135,7 @@ impl<'a> Draft<'a> {
         Ok(())
     }
 
-    /// The queue of a slot without its first value, where there is one.
+    /// Pops the first value of the queue in a slot, if it has one.
     ///
     /// # Errors
     ///
@@ -153,11 +152,11 @@ impl<'a> Draft<'a> {
         Ok(())
     }
 
-    /// One value more at an output port, if there is one.
+    /// Sends a value by an output port, if there is such a port.
     ///
     /// # Errors
     ///
-    /// No memory for it.
+    /// No memory for the value.
     pub(crate) fn send(&mut self, port: usize, number: i64) -> Result<(), AllocError>
         ensures { OnOk result (self.new ≡ with_sent self.old port number) }
     {
@@ -167,7 +166,7 @@ impl<'a> Draft<'a> {
         Ok(())
     }
 
-    /// On to a phase, until another is named.
+    /// Sets the phase to go to.
     pub(crate) fn go(&mut self, phase: u32)
         ensures { self.new ≡ going phase self.old }
     {
@@ -199,7 +198,7 @@ impl<'a> Draft<'a> {
     }
 }
 
-// A copy of a lent state in its place.
+// Replaces a borrowed state by a copy.
 #[inline(always)]
 fn own(state: &mut Cow<State>) -> Result<(), AllocError>
     ensures owned { OnOk result (IsOwned state.new) }
@@ -211,7 +210,7 @@ fn own(state: &mut Cow<State>) -> Result<(), AllocError>
     }
 }
 
-// The same where the state may be lent. It is copied at most once in a run, and that stays out of the code of the others.
+// `own` for a borrowed state. This happens at most once in a run, so it is not inlined.
 #[cold]
 #[inline(never)]
 fn own_lent(state: &mut Cow<State>) -> Result<(), AllocError>

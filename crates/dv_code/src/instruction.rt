@@ -1,9 +1,8 @@
-//! The instructions of the stack machine. What changes a bag or a queue of the state with a value is one action, `Change`, and
-//! what is done without a value is one instruction, `Do`; a source names the discipline of the slot that it reads.
+//! The instructions of the stack machine.
 
 use dv_bag::{Change, Discipline};
 
-/// Where a collection is read: one of the state, of this discipline, by its slot, or the bag that has arrived at an input port.
+/// Where a collection is read.
 #[derive(Clone, Copy, PartialEq, Eq)]
 pub enum Source {
     /// The collection in a slot of the state, by its discipline and the index of the slot.
@@ -12,7 +11,7 @@ pub enum Source {
     Port(u16),
 }
 
-/// What has a value by itself.
+/// An operand that is read, not computed.
 #[derive(Clone, Copy, PartialEq, Eq)]
 pub enum Leaf {
     /// This number.
@@ -39,7 +38,7 @@ pub enum Leaf {
     Front(u16),
 }
 
-/// What makes a value of a value.
+/// An operator on one value.
 #[derive(Clone, Copy, PartialEq, Eq)]
 pub enum Unary {
     /// The number with the other sign.
@@ -50,7 +49,7 @@ pub enum Unary {
     Times(Source),
 }
 
-/// What makes a value of two, of which the second is on top.
+/// An operator on two values, of which the second is on top.
 #[derive(Clone, Copy, PartialEq, Eq)]
 pub enum Binary {
     /// The sum.
@@ -61,7 +60,7 @@ pub enum Binary {
     Multiply,
     /// The quotient, towards 0.
     Divide,
-    /// What the exact quotient leaves.
+    /// The remainder of the quotient towards 0.
     Remainder,
     /// Whether two numbers are equal.
     Equal,
@@ -69,11 +68,11 @@ pub enum Binary {
     Unequal,
     /// Whether the first is less.
     Less,
-    /// Whether the first is less or equal.
+    /// Whether the first is less or both are equal.
     AtMost,
     /// Whether the first is greater.
     Greater,
-    /// Whether the first is greater or equal.
+    /// Whether the first is greater or both are equal.
     AtLeast,
     /// Whether two truth values are the same.
     Same,
@@ -81,7 +80,7 @@ pub enum Binary {
     Different,
 }
 
-/// What is done with a value.
+/// What is done with the value on top.
 #[derive(Clone, Copy, PartialEq, Eq)]
 pub enum Action {
     /// The number goes into the variable of a slot.
@@ -94,27 +93,27 @@ pub enum Action {
     Send(u16),
 }
 
-/// What is done without a value.
+/// What is done without a value of the stack.
 #[derive(Clone, Copy, PartialEq, Eq)]
 pub enum Deed {
-    /// The phase to which the rule goes, until another is named.
+    /// Sets the phase to which the rule goes; the last one counts.
     Go(u32),
-    /// The queue of a slot loses its first value.
+    /// Pops the first value of the queue of a slot.
     Pop(u16),
 }
 
-/// One instruction. A jump names the address to which it leads, from 0.
+/// One instruction. Addresses count from 0.
 #[derive(Clone, Copy, PartialEq, Eq)]
 pub enum Instruction {
-    /// One value more.
+    /// Pushes the value of a leaf.
     Push(Leaf),
-    /// A value in place of one.
+    /// Pops a value and pushes that of an operator.
     Apply(Unary),
-    /// A value in place of two.
+    /// Pops two values and pushes that of an operator.
     Combine(Binary),
     /// Pops the value on top and performs an action with it.
     Perform(Action),
-    /// What is done without a value.
+    /// Performs a deed.
     Do(Deed),
     /// Continues at an address.
     Jump(u32),
@@ -124,11 +123,12 @@ pub enum Instruction {
     FalseKeep(u32),
     /// If the truth value on top is true, keeps it and continues at an address; otherwise pops it.
     TrueKeep(u32),
-    /// Loops over the values of a collection as it is now; if it has none, continues past the loop, at an address.
+    /// Loops over the values of a collection as it is now; if it has none, continues past the loop,
+    /// at an address.
     Loop(Source, u32),
-    /// Moves the innermost loop to its next value and continues at the first address of its body; ends the loop if there
-    /// is none.
+    /// Moves the innermost loop to its next value and continues at the first address of its body;
+    /// ends the loop if there is none.
     Next(u32),
-    /// The program ends.
+    /// Ends the program.
     End,
 }

@@ -1,4 +1,4 @@
-//! What valid programs do.
+//! Laws of valid programs.
 
 ghost use Rattle.std.specs.Prelude.{◌≡◌, ◌≢◌, ℕ, ℤ, ◌*◌, ◌^◌, ◌≤◌, List, length, Ok, Err};
 ghost use Rattle.dv_bag.specs.Arrivals.{AreFew, Arrivals};
@@ -19,8 +19,7 @@ ghost use Rattle.dv_bag.specs.declared.state.Effect.{Effect};
 ghost use Rattle.dv_code.specs.declared.instruction.Instruction.{Instruction};
 ghost use Rattle.dv_bag.specs.Limits.{greatest_count};
 
-/// No configuration that a valid program reaches from a state that fits is stuck, whatever has
-/// arrived.
+/// A valid program is never stuck, from any state that fits and whatever has arrived.
 pub fn valid_programs_are_never_stuck()
     ensures { (shape : Shape) (left : List ValueType) (depth : ℕ) (code : List Instruction)
         → IsValid shape left depth code → (arrivals : Arrivals) (s : State)
@@ -28,9 +27,9 @@ pub fn valid_programs_are_never_stuck()
         → (n : ℕ) → run shape code arrivals n (begins shape s) ≢ Stuck }
 {}
 
-/// A valid program ends, or has a fault, within its length times `GREATEST_COUNT` to the depth of
-/// its loops, where no collection holds more values than that. The state that it leaves fits, and
-/// on the stack stand values of the types that it is to leave.
+/// If no collection has more than `GREATEST_COUNT` values, a valid program ends or faults within
+/// its length times `GREATEST_COUNT` to the power of the depth of its loops, in steps. The state
+/// that it leaves fits, and the values on the stack have the types that it is to leave.
 pub fn valid_programs_end()
     ensures { (p : Program) (left : List ValueType) (depth : ℕ)
         → IsValid p.shape left depth p.code → AreSmall p.shape.slots
@@ -40,15 +39,15 @@ pub fn valid_programs_end()
         × (n ≤ length p.code * greatest_count ^ depth) × EndsWell p.shape left end }
 {}
 
-/// A run ends in one way alone, after one number of steps.
+/// A run ends in exactly one way, after one number of steps.
 pub fn runs_end_in_one_way()
     ensures { (p : Program) (arrivals : Arrivals) (s : State) (m n : ℕ) (one two : Outcome)
         → Ends p arrivals s m one → Ends p arrivals s n two → (m ≡ n) × (one ≡ two) }
 {}
 
-/// What a program gives is how its run ends: wherever a run has ended, after however many steps, its
-/// outcome is the one that is given, and from a state that fits, where no collection holds too many
-/// values, a program's run has ended so.
+/// What a program gives is how its run ends. The run ends after some number of steps, if the state
+/// fits and no bag that arrived has too many values; and an outcome that it has reached after any
+/// number of steps is the one that the program gives.
 pub fn programs_give_how_their_runs_end()
     ensures ended { (p : Program) → IsSafe p → (arrivals : Arrivals) → AreFew arrivals.received
         → (s : State) → Fits p.shape.slots s.variables
@@ -59,7 +58,7 @@ pub fn programs_give_how_their_runs_end()
         → IsOver end → outcome_of p arrivals s ≡ end }
 {}
 
-/// What the machine answers is what the program gives.
+/// What the machine returns is what the program gives.
 pub fn the_machine_gives_what_programs_give()
     ensures effect { (p : Program) → IsSafe p → (arrivals : Arrivals)
         → AreFew arrivals.received → (s : State) → Fits p.shape.slots s.variables
@@ -85,7 +84,7 @@ pub fn the_machine_gives_what_programs_give()
         → number_by p arrivals s ≡ Err f }
 {}
 
-/// What short programs give, from any state that fits: those that do nothing or go to a phase alone.
+/// What programs give that do nothing, or only go to a phase, from any state that fits.
 pub fn short_programs_do_what_they_say()
     ensures nothing { (p : Program) → IsSafe p → (arrivals : Arrivals)
         → AreFew arrivals.received → (s : State) → Fits p.shape.slots s.variables
@@ -96,7 +95,7 @@ pub fn short_programs_do_what_they_say()
         → effect_by p arrivals s ≡ Ok (going phase (first_effect p.shape s)) }
 {}
 
-/// The state that a program leaves fits.
+/// The state that a program leaves fits, if the state before it fits.
 pub fn states_that_are_left_fit()
     ensures { (p : Program) → IsSafe p → (arrivals : Arrivals)
         → AreFew arrivals.received → (s : State) → Fits p.shape.slots s.variables

@@ -1,4 +1,4 @@
-//! What leaves give.
+//! The values of leaves.
 
 ghost use Rattle.std.specs.Prelude.{◌≡◌, ◌≢◌, ◌≤◌, ℤ, [], None, Ok, Result, Some, IfSome, slice_get, unwrap_or};
 ghost use Rattle.std.specs.Option.{option_copied};
@@ -50,11 +50,11 @@ pub(crate) fn leaf_value(
     }
 }
 
-/// The number of a leaf, where no loop is open.
+/// The number of a leaf outside all loops. The leaf has to be a number.
 ///
 /// # Errors
 ///
-/// As the value of a leaf.
+/// Those of `leaf_value`.
 #[inline]
 pub(crate) fn leaf_number(leaf: Leaf, state: &State, arrivals: &Arrivals) -> Result<i64, Fault>
     requires { (number : Result ℤ Meant)

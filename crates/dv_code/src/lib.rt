@@ -1,21 +1,36 @@
-//! Programs for a stack machine: their instructions, when they are valid, and the machine that runs them.
+//! Programs for a stack machine: their instructions, when they are valid, and the machine that runs
+//! them.
 //!
-//! A program is a list of `Instruction`s over a `Shape`, which says which variables, ports and phases it may speak
-//! of. `Valid` is a program whose type keeps that it is valid, and a `Machine` runs it. It is a law that a valid
-//! program is never stuck, that its run ends, and in one way alone: with an effect or a number, or by a fault. So
-//! what a program gives is a function of the state and of what has arrived, and the machine's answer is that.
+//! A program is a list of `Instruction`s over a `Shape`, which says which variables, ports and
+//! phases it may use. `Valid` is a program that is valid by its type. By law a valid program is
+//! never stuck, and its run ends in exactly one way: with an effect or a number, or by a fault. So
+//! what a program gives is a function of the state and of what arrived. A `Machine` computes it
+//! with a stack of operands and a stack of open loops, whose memory it keeps from run to run. A
+//! loop over arrivals reads the bag at its port; a loop over a collection of the state walks a
+//! copy, since the body may change the collection.
 //!
-//! `dv_gen` makes programs from rules, `dv_valid` decides whether a list is one, `dv_coded` runs them as code of
-//! components, and `dv_listing` prints them. What rule a program stands for is not known here.
+//! When a program is made ready (`Valid::adopt`), each address gets an `Operation`, which does at
+//! once what one to four instructions from there on do: it combines two operands (a number, a
+//! variable, a loop's item, or values on top of the stack) and pushes the value, sets a variable or
+//! jumps by it. A number on top stays in hand, in a register, until an operation uses it or it has
+//! to go on the stack. An operation does nothing if one of its instructions would fault: then the
+//! instructions are performed one by one. So addresses stay the same, jumps may lead anywhere, and
+//! faults are found in one place.
+//!
+//! Programs that do little are recognized at the same time (`Short`): nothing, a `goto`, a leaf
+//! that is left or sent, a leaf added to a variable. `at_once` gives what these give, without the
+//! machine. `dv_gen` makes programs from rules, `dv_valid` decides whether a list is a program,
+//! `dv_coded` runs them as code of components, and `dv_listing` prints them. Nothing here knows
+//! rules.
 #![tactic(auto)]
 
-/// What actions do.
+/// What actions and deeds do.
 mod actions;
-/// What short programs give at once.
+/// What short programs give, without the machine.
 pub mod at_once;
-/// How programs are decoded.
+/// How programs are decoded to operations.
 mod decode;
-/// What a run has done so far.
+/// The effect of a run so far.
 mod draft;
 /// What operations do.
 mod fused;
@@ -23,9 +38,9 @@ mod fused;
 pub mod instruction;
 /// Laws of valid programs.
 pub mod laws;
-/// What leaves give.
+/// The values of leaves.
 mod leaf;
-/// Instructions as a listing has them.
+/// Instructions as text.
 pub mod listing;
 /// The open loops, as a stack.
 mod loops;
@@ -33,25 +48,25 @@ mod loops;
 pub mod machine;
 /// One open loop.
 mod open_loop;
-/// What some instructions do together.
+/// Operations: several instructions at once.
 mod operation;
-/// What operators make of values.
+/// The values of operators.
 mod operators;
 /// Worked rows.
 pub mod rows;
-/// What a program may speak of.
+/// What a program may use.
 pub mod shape;
-/// What short programs do.
+/// Which programs are short.
 pub mod short;
 /// The collections that a program reads.
 mod source;
 /// Stacks.
 mod stack;
-/// What instructions do with the operands and the open loops.
+/// How instructions are performed.
 mod stacks;
-/// A count of steps.
+/// A count of steps, for contracts alone.
 pub mod steps;
-/// The types of what leaves, operators and actions take and give.
+/// The types of leaves, operators and actions.
 pub mod types;
 /// Valid programs.
 pub mod valid;

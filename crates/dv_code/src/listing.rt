@@ -1,4 +1,4 @@
-//! Instructions as an assembler's listing has them.
+//! Instructions as text, in the words of a listing.
 
 use crate::instruction::{Action, Binary, Deed, Instruction, Leaf, Source, Unary};
 use dv_bag::{Change, Discipline};

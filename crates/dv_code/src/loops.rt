@@ -1,4 +1,4 @@
-//! The open loops, one in another, of which the innermost is on top.
+//! The open loops as a stack, with the innermost on top.
 
 ghost use Rattle.std.specs.Prelude.{◌≡◌, ◌<◌, length, Ok, Some};
 ghost use Rattle.dv_bag.specs.declared.value.Value.TheVariants.{Number};
@@ -10,7 +10,7 @@ use crate::stack::Stack;
 use dv_bag::Arrivals;
 
 impl Stack<OpenLoop> {
-    /// Moves the innermost loop to its next value if there is one, and ends it otherwise.
+    /// Moves the innermost loop to its next value and returns `true`, or ends it if there is none.
     #[inline(always)]
     pub(crate) fn advance(&mut self, arrivals: &Arrivals) -> bool
         requires { 0 < length self.old }

@@ -8,11 +8,11 @@ ghost use Rattle.dv_code.specs.Turns.{Advances, Opens, turn_of, walked_bag};
 use crate::walk::Walk;
 use dv_bag::Arrivals;
 
-/// A loop at one of the values of a collection. It takes no memory for a value's copies.
+/// A loop at one of the values of a collection. Copies of a value are counted, not stored.
 #[derive(Drop)]
 pub(crate) struct OpenLoop {
     walk: Walk,
-    // The number of values of the collection that were begun.
+    // The index of the next value with its copies.
     begun: usize,
     item: i64,
     // The copies of the current value that are still to come.
@@ -38,7 +38,7 @@ impl OpenLoop {
         }
     }
 
-    /// Goes on to the next value, if there is one.
+    /// Moves to the next value and returns `true`, or returns `false` if there is none.
     #[inline(always)]
     pub(crate) fn next(&mut self, arrivals: &Arrivals) -> bool
         ensures { Advances (turn_of arrivals.now self.old).rest result

@@ -1,4 +1,4 @@
-//! What operators make of values.
+//! The values of operators.
 
 ghost use Rattle.std.specs.Prelude.{◌≡◌, ◌≢◌, None, Ok, Some};
 ghost use Rattle.dv_code.specs.Operations.{binary_value, of_numbers, of_truths, unary_value};
@@ -9,11 +9,11 @@ use dv_bag::arithmetic::{difference, negated, product, quotient, remainder, sum}
 use dv_bag::bag::copies_of;
 use dv_bag::{Arrivals, Fault, State, Value};
 
-/// What an operator makes of a value.
+/// The value of an operator for one value.
 ///
 /// # Errors
 ///
-/// `Overflow` of the least number with the other sign.
+/// `Overflow` if the least number is negated.
 pub(crate) fn unary_value(
     operator: Unary,
     operand: Value,
@@ -34,11 +34,11 @@ pub(crate) fn unary_value(
     }
 }
 
-/// What an operator makes of two values.
+/// The value of an operator for two values.
 ///
 /// # Errors
 ///
-/// `Overflow` of a result that is no number of 64 bits, and `Divide` of a division by 0.
+/// `Overflow` if the result is no number of 64 bits, and `Divide` for a division by 0.
 pub(crate) fn binary_value(operator: Binary, one: Value, two: Value) -> Result<Value, Fault>
     requires { binary_value operator one two ≢ None }
     ensures { binary_value operator one two ≡ Some result }
@@ -50,7 +50,7 @@ pub(crate) fn binary_value(operator: Binary, one: Value, two: Value) -> Result<V
     }
 }
 
-// What an operator makes of two numbers.
+// The value of an operator for two numbers.
 fn of_numbers(operator: Binary, one: i64, two: i64) -> Result<Value, Fault>
     requires { of_numbers operator one two ≢ None }
     ensures { of_numbers operator one two ≡ Some result }
@@ -71,7 +71,7 @@ fn of_numbers(operator: Binary, one: i64, two: i64) -> Result<Value, Fault>
     }
 }
 
-// What an operator makes of two truth values.
+// The value of an operator for two truth values.
 fn of_truths(operator: Binary, one: bool, two: bool) -> Value
     requires { of_truths operator one two ≢ None }
     ensures { of_truths operator one two ≡ Some (Ok result) }

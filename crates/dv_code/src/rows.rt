@@ -16,19 +16,19 @@ pub fn a_program_and_its_marks()
     ensures { (valid : IsProgram each_sent) × (valid.valid.marks ≡ each_sent_marks) }
 {}
 
-/// Its run with three values in the bag sends these three, and ends with the 11th step.
+/// With three values in the bag it sends these three, and ends with the 11th step.
 pub fn a_run_of_eleven_steps()
     ensures { Ends each_sent nothing_arrived (stored three_values) 11 (Finished [] three_sent) }
 {}
 
-/// A loop walks a queue as it stood when the loop began, from its first value on. What is pushed comes last, and what is popped
-/// is the first value.
+/// A loop walks a queue as it was when the loop began, from the first value to the last. A value is
+/// pushed at the end, and popped at the front.
 pub fn a_run_over_a_queue()
     ensures { Ends each_pushed nothing_arrived (queued (pos 7 ∷ pos 3 ∷ [])) 9
         (Finished [] (queue_left (pos 3 ∷ pos 7 ∷ pos 3 ∷ []))) }
 {}
 
-/// A queue without values has no first one to take or to read, and one with as many values as it may hold takes no more.
+/// To pop or read the first value of an empty queue is a fault, and so is to push on a full one.
 pub fn faults_of_queues()
     ensures pop { Ends one_popped nothing_arrived (queued []) 1 (Faulted fault.Empty) }
     ensures front { Ends front_pushed nothing_arrived (queued []) 1 (Faulted fault.Empty) }
@@ -36,7 +36,7 @@ pub fn faults_of_queues()
         (Faulted fault.Full) }
 {}
 
-/// Programs that no marks make valid.
+/// Programs that are not valid under any marks.
 pub fn refused_programs()
     ensures value_left_in_body { IsRefused value_left_in_body }
     ensures jump_into_body { IsRefused jump_into_body }

@@ -1,4 +1,4 @@
-//! What a program may speak of.
+//! What a program may use.
 
 ghost use Rattle.std.specs.Prelude.{◌≡◌};
 ghost use Rattle.dv_code.specs.Shape.{AreSmall, shape_of};
@@ -10,7 +10,7 @@ use std::sync::Arc;
 /// What a slot of a state may hold.
 #[derive(Clone, Copy, PartialEq, Eq)]
 pub enum Slot {
-    /// A number of a range.
+    /// A number in a range.
     Ranged {
         /// The least number of the range.
         low: i64,
@@ -19,11 +19,11 @@ pub enum Slot {
     },
     /// A truth value.
     Flagged,
-    /// A collection of this discipline, of at most so many values, each copy counted.
+    /// A collection.
     Holding {
         /// Whether it is a bag or a queue.
         discipline: Discipline,
-        /// The most values that it may hold, copies counted.
+        /// The most values that it may have, each copy counted.
         capacity: u64,
     },
 }
@@ -31,20 +31,20 @@ pub enum Slot {
 /// What a program is for.
 #[derive(Clone, Copy, PartialEq, Eq)]
 pub enum ProgramSort {
-    /// A rule that sends.
+    /// An output rule.
     Output,
-    /// A rule that changes the state where its hold runs out.
+    /// An internal rule.
     Internal,
-    /// A rule that changes the state where values arrive.
+    /// An external rule.
     External,
-    /// A rule that changes the state where both happen at once.
+    /// A confluent rule.
     Confluent,
-    /// An expression that gives the ticks of a phase.
+    /// The hold of a phase, in ticks.
     Hold,
 }
 
-/// What the programs of an atomic model may speak of: the slots of its states, and how many input
-/// ports, output ports and phases it has. The capacity of a collection is from 1 to `GREATEST_COUNT`.
+/// What the programs of an atomic model may use: the slots of its states, and how many input ports,
+/// output ports and phases it has. The capacity of a collection is from 1 to `GREATEST_COUNT`.
 #[derive(Drop)]
 pub struct Tables {
     slots: Vec<Slot>,
@@ -65,7 +65,7 @@ impl Model for Tables {
 }
 
 impl Tables {
-    /// These slots, and so many input ports, output ports and phases.
+    /// Tables with these slots, and so many input ports, output ports and phases.
     pub fn new(slots: Vec<Slot>, inputs: u32, outputs: u32, phases: u32) -> Self
         requires { AreSmall slots.items }
         ensures { result
@@ -110,11 +110,11 @@ impl Tables {
     }
 }
 
-/// What a program may speak of, and what it is for. The programs of a model share its tables.
+/// What a program may use, and what it is for. The programs of a model share its tables.
 #[derive(Drop)]
 pub struct Shape {
     tables: Arc<Tables>,
-    // The number of output ports, which each run asks for.
+    // The number of output ports, which each run needs.
     outputs: u32,
     sort: ProgramSort,
 }
@@ -131,7 +131,7 @@ impl Model for Shape {
 }
 
 impl Shape {
-    /// A program of this sort, over these tables.
+    /// The shape of programs of this sort, over these tables.
     pub fn new(tables: Arc<Tables>, sort: ProgramSort) -> Self
         ensures { result ≡ shape_of tables.value sort }
     {

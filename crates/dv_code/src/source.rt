@@ -10,8 +10,7 @@ ghost use Rattle.dv_bag.specs.Limits.{greatest_count};
 use crate::instruction::Source;
 use dv_bag::{Arrivals, Bag, Collection, DatumView, State};
 
-/// The bag of a source. Where nothing has arrived at an input port there may be none, which stands
-/// for an empty one.
+/// The bag of a source. `None` is an empty bag: nothing has arrived at the input port.
 pub(crate) fn bag_of<'a>(
     source: Source,
     state: &'a State,

@@ -5,10 +5,10 @@ ghost use Rattle.std.specs.Prelude.{◌≡◌, ◌<◌, List, [], ◌∷◌, len
 use std::alloc::{AllocError, Global};
 use std::marker::Model;
 
-/// A stack: what was pushed last is popped first.
+/// A stack.
 #[derive(Drop)]
 pub(crate) struct Stack<T> {
-    /// The lowest first.
+    /// The values, from the lowest to the one on top.
     pub(crate) values: Vec<T>,
 }
 
@@ -21,7 +21,7 @@ impl<T> Model for Stack<T> {
 }
 
 impl<T> Stack<T> {
-    /// Nothing. It takes no memory yet.
+    /// An empty stack. It takes no memory yet.
     pub(crate) fn new(alloc: Global) -> Self
         ensures { result ≡ [] }
     {
@@ -32,18 +32,18 @@ impl<T> Stack<T> {
 }
 
 impl<T: Drop> Stack<T> {
-    /// Nothing, in the memory that the stack has.
+    /// Removes all values, and keeps the memory.
     pub(crate) fn clear(&mut self)
         ensures { self.new ≡ [] }
     {
         self.values.clear();
     }
 
-    /// One more, on top.
+    /// Pushes a value.
     ///
     /// # Errors
     ///
-    /// No memory for one more. The stack is as before.
+    /// No memory for one more. The stack is unchanged.
     #[inline]
     pub(crate) fn push(&mut self, value: T) -> Result<(), AllocError>
         ensures ok { OnOk result (self.new ≡ value ∷ self.old) }
@@ -52,7 +52,7 @@ impl<T: Drop> Stack<T> {
         Ok(self.values.push(value)?)
     }
 
-    /// What is on top, which goes.
+    /// Pops the value on top. There has to be one.
     #[inline]
     pub(crate) fn pop(&mut self) -> T
         requires { 0 < length self.old }
@@ -66,7 +66,7 @@ impl<T: Drop> Stack<T> {
 }
 
 impl<T: Copy> Stack<T> {
-    /// What is on top, which stays, if there is something.
+    /// The value on top, if there is one. It stays there.
     #[tactic(auto, using(crate::proofs::Tops::on_top))]
     #[inline]
     pub(crate) fn top(&self) -> Option<T>

@@ -1,11 +1,11 @@
-//! A count for contracts alone.
+//! A count of steps, for contracts alone.
 
 ghost use Rattle.std.specs.Prelude.{◌≡◌, ◌+◌, ◌<◌};
 
 use std::marker::Model;
 use std::sync::ledger::{Blank, Book, Ledger, Share};
 
-/// How many instructions were performed. It takes no bytes, and `tick` and `add` alone change it.
+/// How many instructions were performed. It takes no memory; only `tick` and `add` change it.
 #[derive(Drop)]
 pub struct Steps<L: Ledger> {
     book: Book<L>,
@@ -23,7 +23,7 @@ impl<L: Ledger> Model for Steps<L> {
 }
 
 impl<L: Ledger> Steps<L> {
-    /// None yet. A blank of one part will do.
+    /// A count of 0. A blank of one part is enough.
     pub fn new(blank: Blank) -> Self
         requires name { blank.name ≡ L.name }
         requires parts { blank.parts ≡ L.parts }
@@ -34,14 +34,14 @@ impl<L: Ledger> Steps<L> {
         Steps { book, share }
     }
 
-    /// One more.
+    /// Counts one instruction.
     pub fn tick(&mut self)
         ensures { self.new ≡ self.old + 1 }
     {
         self.book.add(&mut self.share, 1);
     }
 
-    /// So many more.
+    /// Counts so many instructions.
     #[inline]
     pub(crate) fn add(&mut self, more: u64)
         ensures { self.new ≡ self.old + more }

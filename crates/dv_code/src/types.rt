@@ -1,4 +1,4 @@
-//! The types of what leaves, operators and actions take and give.
+//! The types of leaves, operators and actions.
 
 ghost use Rattle.std.specs.Prelude.{◌≡◌};
 ghost use Rattle.dv_code.specs.Known.{action_type, leaf_type, operand_type, result_type, unary_type};
@@ -24,7 +24,7 @@ pub fn leaf_type(leaf: Leaf) -> ValueType
     }
 }
 
-/// What an operator on one value takes and gives.
+/// The type of the operand of an operator on one value, and of its result.
 pub fn unary_type(unary: Unary) -> ValueType
     ensures { result ≡ unary_type unary }
 {
@@ -34,7 +34,7 @@ pub fn unary_type(unary: Unary) -> ValueType
     }
 }
 
-/// What an operator on two values takes.
+/// The type of both operands of an operator on two values.
 pub fn operand_type(binary: Binary) -> ValueType
     ensures { result ≡ operand_type binary }
 {
@@ -54,7 +54,7 @@ pub fn operand_type(binary: Binary) -> ValueType
     }
 }
 
-/// What an operator on two values gives.
+/// The type of the result of an operator on two values.
 pub fn result_type(binary: Binary) -> ValueType
     ensures { result ≡ result_type binary }
 {
@@ -72,7 +72,7 @@ pub fn result_type(binary: Binary) -> ValueType
     }
 }
 
-/// What an action takes.
+/// The type of the value that an action takes.
 pub fn action_type(action: Action) -> ValueType
     ensures { result ≡ action_type action }
 {

@@ -7,8 +7,8 @@ ghost use Rattle.dv_code.specs.Turns.{walked_bag};
 
 use dv_bag::{Arrivals, Bag, Queue};
 
-/// The collection that a loop walks: a bag that has arrived at an input port, where it lies, or a
-/// copy of a bag or a queue of the state, as it was.
+/// The collection that a loop walks: the bag that has arrived at an input port, which is looked up
+/// each time, or a copy of a bag or a queue of the state as the loop began.
 #[derive(Drop)]
 pub(crate) enum Walk {
     Port(usize),
@@ -17,8 +17,8 @@ pub(crate) enum Walk {
 }
 
 impl Walk {
-    /// A value of the collection with its copies, by its number among the values, if there is one. In
-    /// a queue each value has one copy.
+    /// A value of the collection with its number of copies, by its index among the values, if there
+    /// is one. In a queue each value has one copy.
     #[inline(always)]
     pub(crate) fn pair(&self, number: usize, arrivals: &Arrivals) -> Option<(i64, u64)>
         ensures pair { result ≡ slice_get (walked_bag arrivals.now self.now) number }
@@ -32,7 +32,7 @@ impl Walk {
     }
 }
 
-// A value of a bag that has arrived, which is searched for. That stays out of the code of loops over others.
+// A value of a bag that has arrived. The bag is searched for, so this is not inlined.
 #[inline(never)]
 fn arrived(port: usize, number: usize, arrivals: &Arrivals) -> Option<(i64, u64)>
     ensures pair { result ≡ slice_get (bag_at arrivals.now.received port) number }

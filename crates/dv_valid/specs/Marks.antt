@@ -1,4 +1,4 @@
--- What the marks that the validator keeps mean, and which mark an instruction leaves no choice about.
+-- What the marks that the validator keeps mean, and which mark follows from an instruction.
 use Rattle.std.specs.Prelude.{◌≡◌, ℕ, ◌+◌, ◌<◌, ◌≤◌, List, [], ◌∷◌, length, slice_get, Option, Some, None}
 use Rattle.dv_bag.specs.declared.value.ValueType.{ValueType}
 use Rattle.dv_bag.specs.declared.value.ValueType.TheVariants.{Truth}
@@ -43,7 +43,7 @@ AreNumbered m = (address : ℕ) (found : Mark) → slice_get m.by_address.items 
 abbrev pub IsMarkAt : Marks → ℕ → Mark → Type 0
 IsMarkAt m address here = AreNumbered m × IsNumbered m.stacks here × (address < length m.by_address.items)
 
--- the address whose mark settles that of the one before the next
+-- the address whose mark determines that of an instruction before the next address
 abbrev pub settling_address : ℕ → Instruction → ℕ
 settling_address next (Jump to) = to
 settling_address next other = next
@@ -64,7 +64,7 @@ Settles next (Loop s past) here after = (b : Body) × (here.types ≡ []) × (af
 Settles next (Next first) here after = here ≡ mark [] (record { first = first; past = next } ∷ after.nest)
 Settles next End here after = ⊥
 
--- the marks behind an address, from the next one on, leave this one alone for it
+-- by the marks after an address, only this mark is possible for it
 abbrev pub IsForced : List ValueType → ℕ → (ℕ → Meant) → ℕ → Instruction → Meant → Type 0
 IsForced left end marks next End here = here ≡ mark left []
 IsForced left end marks next i here =
@@ -86,7 +86,7 @@ pub record Fit (shape : Shape) (code : List Instruction) (marks : ℕ → Meant)
   pub each : (address : ℕ) (i : Instruction) → slice_get code address ≡ Some i
       → IsFine shape (left_by shape.sort) deepest_loops (length code) marks address i
 
--- the marks that are kept behind an address leave this one alone for it
+-- by the marks that are kept after an address, only this mark is possible for it
 abbrev pub IsForcedAt : List ValueType → Marks → ℕ → Instruction → Meant → Type 0
 IsForcedAt left m address i here = IsForced left (length m.by_address.items) (mark_of m) (address + 1) i here
 

@@ -1,4 +1,4 @@
--- Stacks of types that share what lies below: a trie, whose nodes are numbered as they were made.
+-- Stacks of types as a trie: a node adds a type to its parent. Nodes are numbered in the order in which they were made.
 use Rattle.std.specs.Prelude.{◌≡◌, ℕ, ◌≤◌, ◌<◌, List, [], ◌∷◌, ◌++◌, length, slice_index_or, Option, Some, None}
 use Rattle.dv_bag.specs.declared.value.ValueType.{ValueType}
 use Rattle.dv_bag.specs.declared.value.ValueType.TheVariants.{Number, Truth}
@@ -46,8 +46,7 @@ with_link Truth k n = record { stack = n.stack; with_number = n.with_number; wit
 abbrev pub node_at : List Node → ℕ → Node
 node_at nodes k = slice_index_or nodes k (bare_node Empty)
 
--- The first stack is empty, and no other. Each other one lies on one of a lower number, which leads to it; and links lead to
--- nothing else.
+-- Only the first stack is empty. Each other one is on top of one with a lower number, which has a link to it; there are no other links.
 pub record IsTrie (nodes : List Node) : Type 0 where
   pub some : 0 < length nodes
   pub first : (node_at nodes 0).stack ≡ Empty

@@ -48,7 +48,8 @@ impl Marks {
             && self.agrees(shape, address, here, instruction)
     }
 
-    /// Whether an instruction with this mark agrees with the marks of the addresses to which it leads.
+    /// Whether an instruction with this mark agrees with the marks of the addresses to which it
+    /// leads.
     fn agrees(&self, shape: &Shape, address: usize, here: Mark, instruction: Instruction) -> bool
         requires { IsMarkAt self.now address here }
         ensures { IsTrue result
@@ -70,7 +71,7 @@ impl Marks {
         }
     }
 
-    /// Whether a leaf is known, and its type comes on top.
+    /// Whether a leaf is known, and the next address has its type on top.
     fn push_agrees(&self, shape: &Shape, address: usize, here: Mark, leaf: Leaf) -> bool
         requires { IsMarkAt self.now address here }
         ensures { IsTrue result
@@ -80,7 +81,7 @@ impl Marks {
             && self.arrives_with(address + 1, leaf_type(leaf), here)
     }
 
-    /// Whether an operator on one value is known, and finds its type on top.
+    /// Whether an operator on one value is known, and its type is on top.
     fn apply_agrees(&self, shape: &Shape, address: usize, here: Mark, unary: Unary) -> bool
         requires { IsMarkAt self.now address here }
         ensures { IsTrue result
@@ -92,7 +93,8 @@ impl Marks {
         knows_unary(shape, unary) && self.arrives(address + 1, here)
     }
 
-    /// Whether an operator on two values finds its types on top, and leaves its own in their place.
+    /// Whether the types of an operator on two values are on top, and the next address has its
+    /// result in their place.
     fn combine_agrees(&self, address: usize, here: Mark, binary: Binary) -> bool
         requires { IsMarkAt self.now address here }
         ensures { (shape : Shape) → IsTrue result
@@ -107,7 +109,7 @@ impl Marks {
         self.arrives_with(address + 1, result_type(binary), below)
     }
 
-    /// Whether an action is known, and takes its type from the top.
+    /// Whether an action is known, and its type is on top.
     fn perform_agrees(&self, shape: &Shape, address: usize, here: Mark, action: Action) -> bool
         requires { IsMarkAt self.now address here }
         ensures { IsTrue result
@@ -119,7 +121,7 @@ impl Marks {
         knows_action(shape, action) && self.arrives(address + 1, below)
     }
 
-    /// Whether a jump leads forward, and what stands behind it lies in the same bodies.
+    /// Whether a jump leads forward, and the address after it is in the same bodies.
     fn jump_agrees(&self, address: usize, here: Mark, to: u32) -> bool
         requires { IsMarkAt self.now address here }
         ensures { (shape : Shape) → IsTrue result
@@ -130,7 +132,7 @@ impl Marks {
             && self.has_nest(address + 1, here.nest)
     }
 
-    /// Whether an address of the program lies in these bodies.
+    /// Whether an address of the program is in these bodies.
     fn has_nest(&self, address: usize, nest: Nest) -> bool
         requires { address < length self.now.by_address.items }
         ensures { IsTrue result ↔ ((mark_of self.now address).nest ≡ bodies nest) }
@@ -138,7 +140,7 @@ impl Marks {
         self.by_address[address].nest.is_same(nest)
     }
 
-    /// Whether a jump takes a truth value from the top, and leads forward.
+    /// Whether a conditional jump has a truth value on top, and leads forward.
     fn jump_false_agrees(&self, address: usize, here: Mark, to: u32) -> bool
         requires { IsMarkAt self.now address here }
         ensures { (shape : Shape) → IsTrue result
@@ -152,7 +154,7 @@ impl Marks {
             && self.arrives(to as usize, below)
     }
 
-    /// Whether a jump that keeps a truth value finds one on top, and leads forward.
+    /// Whether a jump that keeps a truth value has one on top, and leads forward.
     fn keep_agrees(&self, address: usize, here: Mark, to: u32) -> bool
         requires { IsMarkAt self.now address here }
         ensures false_keep { (shape : Shape) → IsTrue result
@@ -166,8 +168,8 @@ impl Marks {
         address < to as usize && self.arrives(address + 1, below) && self.arrives(to as usize, here)
     }
 
-    /// Whether a loop begins on an empty stack, over a known collection, and leads into its body and
-    /// past it.
+    /// Whether a loop begins on an empty stack, over a known collection, and the marks of its first
+    /// address and of the one past it fit.
     fn loop_agrees(
         &self,
         shape: &Shape,
@@ -197,8 +199,8 @@ impl Marks {
             && self.arrives(past as usize, here)
     }
 
-    /// Whether the innermost loop's body ends here, on an empty stack, and leads to its beginning
-    /// and out of it.
+    /// Whether the body of the innermost loop ends here, on an empty stack, and the marks of its
+    /// first address and of the one past it fit.
     fn next_agrees(&self, address: usize, here: Mark, first: u32) -> bool
         requires { IsMarkAt self.now address here }
         ensures { (shape : Shape) → IsTrue result
@@ -218,7 +220,7 @@ impl Marks {
             && self.arrives(address + 1, around)
     }
 
-    /// Whether the program ends at its last address, outside all loops, with the types that it is to
+    /// Whether this is the last address, outside all loops, with the types that the program is to
     /// leave.
     fn end_agrees(&self, shape: &Shape, address: usize, here: Mark) -> bool
         requires { IsMarkAt self.now address here }

@@ -1,4 +1,4 @@
-//! Which addresses, ports and phases a shape knows.
+//! What a shape has, and what programs of its sort may do.
 
 ghost use Rattle.std.specs.Prelude.{◌≡◌, ◌↔◌, ℕ, ℤ, slice_get, IsTrue, Some};
 ghost use Rattle.dv_code.specs.Shape.{may_change, may_read_elapsed, may_receive, may_send};
@@ -39,14 +39,14 @@ fn may_read_elapsed(sort: ProgramSort) -> bool
     matches!(sort, ProgramSort::External)
 }
 
-/// What the slot of an address may hold, if there is one.
+/// What the slot at an address may hold, if there is one.
 fn slot(shape: &Shape, address: u16) -> Option<Slot>
     ensures { result ≡ slice_get shape.now.slots address }
 {
     shape.tables().slots().get(usize::from(address)).copied()
 }
 
-/// Whether the slot of an address holds a number of a range.
+/// Whether the slot at an address holds a number in a range.
 fn is_ranged(shape: &Shape, address: u16) -> bool
     ensures { IsTrue result
         ↔ ((low high : ℤ) × (slice_get shape.now.slots address ≡ Some (Ranged low high))) }
@@ -54,14 +54,14 @@ fn is_ranged(shape: &Shape, address: u16) -> bool
     matches!(slot(shape, address), Some(Slot::Ranged { .. }))
 }
 
-/// Whether the slot of an address holds a truth value.
+/// Whether the slot at an address holds a truth value.
 fn is_flagged(shape: &Shape, address: u16) -> bool
     ensures { IsTrue result ↔ (slice_get shape.now.slots address ≡ Some Flagged) }
 {
     matches!(slot(shape, address), Some(Slot::Flagged))
 }
 
-/// Whether the slot of an address holds a collection of this discipline.
+/// Whether the slot at an address holds a collection of this discipline.
 fn is_holding(shape: &Shape, discipline: Discipline, address: u16) -> bool
     ensures { IsTrue result
         ↔ ((capacity : ℕ) × (slice_get shape.now.slots address ≡ Some (Holding discipline capacity))) }
@@ -69,7 +69,7 @@ fn is_holding(shape: &Shape, discipline: Discipline, address: u16) -> bool
     matches!(slot(shape, address), Some(Slot::Holding { discipline: held, .. }) if held == discipline)
 }
 
-/// Whether a program may read a collection there.
+/// Whether a program may read a source as a collection.
 pub fn is_source(shape: &Shape, source: Source) -> bool
     ensures { IsTrue result ↔ IsSourceOf shape.now source }
 {
@@ -81,7 +81,7 @@ pub fn is_source(shape: &Shape, source: Source) -> bool
     }
 }
 
-/// Whether a program may read a bag there.
+/// Whether a program may read a source as a bag.
 fn is_bag(shape: &Shape, source: Source) -> bool
     ensures { IsTrue result ↔ IsBagOf shape.now source }
 {

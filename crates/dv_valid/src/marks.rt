@@ -1,6 +1,6 @@
-//! The marks of a program. All ways but that of `Next` lead forward, and an instruction leaves no
-//! choice about the mark of its address once the marks behind it are known. So one pass from the last
-//! address to the first finds the only marks that can fit.
+//! The marks of a program. All instructions but `Next` lead forward, and the mark of an address
+//! follows from its instruction and the marks after it. So one pass from the last address to the
+//! first finds the only marks that can fit.
 
 ghost use Rattle.std.specs.Prelude.{◌≡◌, ◌≢◌, ℕ, ◌+◌, ◌<◌, ◌≤◌, List, [], ◌∷◌, length, slice_get, true, Some, IfOk, IfSome};
 ghost use Rattle.std.specs.Prelude.{MatchOption, OnOk};
@@ -21,13 +21,13 @@ use dv_code::types::{action_type, leaf_type, operand_type, result_type};
 use dv_code::{Binary, Instruction, ProgramSort};
 use std::alloc::{AllocError, Global};
 
-/// What stands at an address by every way that leads there: the types on the stack, as the number of
-/// a stack of types, and the bodies that the address lies in.
+/// The mark of an address: what holds there in every run. It has the types on the stack, as the
+/// number of a stack of types, and the bodies of loops around the address.
 #[derive(Clone, Copy)]
 pub struct Mark {
     /// The number of the stack of types.
     pub types: usize,
-    /// The bodies of loops around.
+    /// The bodies of loops around the address.
     pub nest: Nest,
 }
 
@@ -41,7 +41,7 @@ pub struct Marks {
 }
 
 impl Marks {
-    /// The only marks by which a program can be valid; none where there are no such marks.
+    /// The only marks by which a program can be valid; `None` if there are no such marks.
     ///
     /// # Errors
     ///
@@ -83,7 +83,7 @@ impl Marks {
         self.by_address.get(address).copied()
     }
 
-    /// Finds the mark of an address, once those behind it are known; `false` where none fits.
+    /// Finds the mark of an address, if those after it are known. Returns whether there is one.
     fn settle(
         &mut self,
         sort: ProgramSort,
@@ -108,7 +108,7 @@ impl Marks {
         Ok(true)
     }
 
-    /// The mark of an address by those behind it, if one fits.
+    /// The mark of an address by those after it, if one fits.
     fn before(
         &mut self,
         sort: ProgramSort,
@@ -139,7 +139,7 @@ impl Marks {
     }
 }
 
-/// The address whose mark settles that of an instruction before the next one.
+/// The address whose mark determines that of an instruction; `next` is the one after it.
 fn settling_address(next: usize, instruction: Instruction) -> usize
     ensures { result ≡ settling_address next instruction }
 {
@@ -149,7 +149,7 @@ fn settling_address(next: usize, instruction: Instruction) -> usize
     }
 }
 
-/// The number of the stack that a program of this sort leaves.
+/// The number of the stack of types that a program of this sort leaves.
 fn left_stack(stacks: &mut TypeStacks, sort: ProgramSort) -> Result<usize, AllocError>
     ensures kept { OnOk result (Keeps stacks.old stacks.new) }
     ensures stack { IfOk result (λ stack. (stack < length stacks.new)
@@ -162,7 +162,8 @@ fn left_stack(stacks: &mut TypeStacks, sort: ProgramSort) -> Result<usize, Alloc
     }
 }
 
-/// The mark of an instruction before the next address, if one fits, by the mark that settles it.
+/// The mark of an instruction, if one fits, by the mark that determines it. `next` is the address
+/// after the instruction.
 fn mark_before(
     stacks: &mut TypeStacks,
     next: usize,
@@ -190,7 +191,7 @@ fn mark_before(
     }
 }
 
-/// The mark with the type on top gone, if it is this one.
+/// The mark without the type on top, if that is this type.
 pub fn without_top(stacks: &TypeStacks, mark: Mark, top: ValueType) -> Option<Mark>
     requires { IsNumbered stacks.now mark }
     ensures numbered { MayBeNumbered stacks.now result }
@@ -256,8 +257,8 @@ fn before_loop(stacks: &TypeStacks, after: Mark) -> Option<Mark>
     })
 }
 
-/// The mark where a loop's body ends, if outside the body it is this one and the loop does not lie
-/// too deep.
+/// The mark at the end of a loop's body, if this is the mark past the body and the loop is not too
+/// deep.
 fn before_next(stacks: &TypeStacks, after: Mark, first: usize, past: usize) -> Option<Mark>
     ensures numbered { MayBeNumbered stacks.now result }
     ensures only { (here : Meant) → length here.nest ≤ deepest_loops

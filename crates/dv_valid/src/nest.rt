@@ -1,20 +1,20 @@
-//! The loop bodies that an address lies in.
+//! The bodies of loops around an address.
 
 ghost use Rattle.std.specs.Prelude.{◌≡◌, ◌↔◌, ◌<◌, ◌≤◌, [], ◌∷◌, length, IsTrue, MatchOption};
 ghost use Rattle.dv_code.specs.Valid.{LiesIn};
 ghost use Rattle.dv_valid.specs.Nests.{bodies, meant_body};
 ghost use Rattle.dv_code.specs.Limits.{deepest_loops};
 
-/// A loop's body: its first address, and the address past its end.
+/// The body of a loop.
 #[derive(Clone, Copy)]
 pub struct Body {
     /// The address of its first instruction.
     pub first: usize,
-    /// The address behind its last instruction.
+    /// The address after its last instruction.
     pub past: usize,
 }
 
-/// The bodies that an address lies in, the innermost first. Loops lie no deeper in one another.
+/// The bodies of loops around an address, the innermost first. Loops are at most three deep.
 #[derive(Clone, Copy)]
 pub enum Nest {
     /// No body.
@@ -28,7 +28,7 @@ pub enum Nest {
 }
 
 impl Body {
-    /// Whether an address is one of the body.
+    /// Whether an address is in the body.
     fn contains(self, address: usize) -> bool
         ensures { IsTrue result ↔ ((self.first ≤ address) × (address < self.past)) }
     {
@@ -57,7 +57,7 @@ impl Nest {
         }
     }
 
-    /// The bodies with one more inside them, if they are not too many.
+    /// The bodies with one more inside them, if that is not too deep.
     pub fn with_inner(self, body: Body) -> Option<Nest>
         ensures { MatchOption result (length (bodies self) ≡ deepest_loops)
             (λ nest. bodies nest ≡ meant_body body ∷ bodies self) }
@@ -98,8 +98,8 @@ impl Nest {
         }
     }
 
-    /// Whether an address lies in the innermost body, each body in the next, and all in a program of
-    /// so many instructions.
+    /// Whether an address is in the innermost body, each body in the next one, and all in a program
+    /// of so many instructions.
     pub fn contains(self, address: usize, end: usize) -> bool
         ensures { IsTrue result ↔ LiesIn end address (bodies self) }
     {

@@ -1,4 +1,4 @@
-//! Stacks of types, each kept once and named by its number.
+//! Stacks of types, each kept once and known by a number.
 
 ghost use Rattle.std.specs.Prelude.{◌≡◌, ◌≢◌, ◌↔◌, ℕ, ◌<◌, List, [], ◌∷◌, length, IsTrue, MatchOption, IfOk, OnOk};
 ghost use Rattle.dv_bag.specs.declared.value.ValueType.{ValueType};
@@ -14,23 +14,23 @@ use std::marker::Model;
 pub enum Stack {
     /// No type.
     Empty,
-    /// A type on the stack of a number.
+    /// A type on top of the stack with a number.
     On { top: ValueType, below: usize },
 }
 
-/// A stack, and the numbers of those that are one type more, where they were made.
+/// A stack, and the numbers of the stacks with one more type, as far as they were made.
 #[derive(Clone, Copy)]
 pub struct Node {
     /// The stack.
     pub stack: Stack,
-    /// The number of the stack with a number on top of this one, where it was made.
+    /// The number of the stack with a number on top of this one, if it was made.
     pub with_number: Option<usize>,
-    /// The number of the stack with a truth value on top of this one, where it was made.
+    /// The number of the stack with a truth value on top of this one, if it was made.
     pub with_truth: Option<usize>,
 }
 
-/// Stacks of types by number. They share what lies below, so each takes the memory of one type
-/// more, and two that are equal have one number.
+/// Stacks of types by number, as a tree: each node adds a type to its parent, so a stack takes the
+/// memory of one node. Equal stacks have one number.
 #[derive(Drop)]
 pub struct TypeStacks {
     nodes: Vec<Node>,
@@ -60,7 +60,7 @@ impl Stack {
 }
 
 impl Node {
-    /// The number of the stack that is this type more.
+    /// The number of the stack with this type on top, if it was made.
     fn link(self, top: ValueType) -> Option<usize>
         ensures { result ≡ link top self }
     {
@@ -70,7 +70,7 @@ impl Node {
         }
     }
 
-    /// The node once the stack that is this type more has a number.
+    /// The node with the number of the stack that has this type on top.
     fn with_link(self, top: ValueType, number: usize) -> Node
         ensures { result ≡ with_link top number self }
     {
@@ -90,11 +90,11 @@ impl Node {
 }
 
 impl TypeStacks {
-    /// The empty stack alone.
+    /// Only the empty stack.
     ///
     /// # Errors
     ///
-    /// No memory for it.
+    /// No memory for its node.
     pub fn new(alloc: Global) -> Result<Self, AllocError>
         ensures { IfOk result (λ stacks. stacks ≡ [] ∷ []) }
     {
@@ -128,11 +128,12 @@ impl TypeStacks {
         self.nodes[stack].stack.below(top)
     }
 
-    /// The number of the stack with this type on the stack of a number.
+    /// The number of the stack with this type on top of another one, which is made if there is none
+    /// yet.
     ///
     /// # Errors
     ///
-    /// No memory for a stack that was not made before.
+    /// No memory for its node.
     pub fn push(&mut self, top: ValueType, below: usize) -> Result<usize, AllocError>
         requires { below < length self.old }
         ensures kept { OnOk result (Keeps self.old self.new) }
@@ -153,7 +154,7 @@ impl TypeStacks {
         Ok(stack)
     }
 
-    /// Whether two numbers name the same types.
+    /// Whether the stacks with two numbers have the same types.
     pub fn is_same(&self, one: usize, other: usize) -> bool
         requires one { one < length self.now }
         requires other { other < length self.now }

@@ -12,10 +12,10 @@ use std::alloc::{AllocError, Global};
 const GREATEST_LENGTH: usize = 0xffff_ffff;
 
 /// The program, if it is valid for its shape: each address has a mark, which says what is on the
-/// stack and in which loops the address lies, and each instruction agrees with the marks of the
-/// addresses to which it leads. What is no program is let go.
+/// stack and which loops are around it, and each instruction agrees with the marks of the addresses
+/// to which it leads. A list that is not valid is dropped.
 ///
-/// It takes a time and a memory linear in the number of instructions.
+/// Time and memory are linear in the number of instructions.
 ///
 /// # Errors
 ///
@@ -37,15 +37,12 @@ pub fn validate(
     }
 }
 
-/// Whether instructions are a program that is valid for a shape.
-///
-/// # Errors
-///
-/// No memory for the marks of the addresses.
+/// Whether instructions are a program that is valid for a shape, or no memory for the marks.
 fn is_program(alloc: Global, shape: &Shape, code: &[Instruction]) -> Result<bool, AllocError>
     ensures { IfOk result (λ valid.
         IsTrue valid ↔ IsProgram (record { shape = shape.now; code = code.now })) }
 {
+    // For the prover alone.
     bags_are_small(shape);
     if code.len() > GREATEST_LENGTH {
         return Ok(false);
@@ -56,7 +53,7 @@ fn is_program(alloc: Global, shape: &Shape, code: &[Instruction]) -> Result<bool
     }
 }
 
-/// A law: no collection of a shape may hold more than the language allows, since its tables keep that.
+/// For the prover alone: no collection of a shape may have more values than the language allows.
 fn bags_are_small(shape: &Shape)
     ensures { AreSmall shape.now.slots }
 {
