@@ -1,6 +1,6 @@
 //! How many bytes each process has posted that are not written yet.
 
-ghost use Rattle.std.specs.Prelude.{◌≡◌, IfOk, length};
+ghost use Rattle.std.specs.Prelude.{◌≡◌, ◌<◌, ◌≤◌, ◌-◌, ◌/◌, ◌↔◌, false, true, IfOk, IsTrue, length};
 
 use std::alloc::{AllocError, Global};
 use std::marker::Model;
@@ -86,6 +86,27 @@ fn most_of(processes: u32, components: usize) -> usize {
         .max(BYTES_OF_EACH)
 }
 
+// Whether a process with so many waiting bytes has to be held back, if at most `most` may wait. If
+// it is held back already, it is until half of them are left.
+fn are_too_many(bytes: usize, most: usize, is_held_back: bool) -> bool
+    ensures free { is_held_back ≡ false → IsTrue result ↔ (most < bytes) }
+    ensures held_back { is_held_back ≡ true → IsTrue result ↔ (most / 2 < bytes) }
+{
+    if is_held_back {
+        bytes > most / 2
+    } else {
+        bytes > most
+    }
+}
+
+// Whether a lead falls to half of `most` if `gone` of its bytes are subtracted.
+fn falls_to_half(bytes: usize, gone: usize, most: usize) -> bool
+    ensures { IsTrue result ↔ (most / 2 < bytes) × (bytes - gone ≤ most / 2) }
+{
+    let half = most / 2;
+    bytes > half && bytes.saturating_sub(gone) <= half
+}
+
 // The leads of processes that have posted nothing.
 fn new_leads(alloc: Global, processes: u32) -> Result<Vec<Lead>, AllocError>
     ensures { IfOk result (λ leads. length leads.items ≡ processes) }
@@ -121,15 +142,10 @@ impl Leads {
     /// Whether a process has to be held back: if more bytes wait than may, or, if it is held back
     /// already, more than half as many.
     pub fn is_long(&self, process: u32, is_held_back: bool) -> bool {
-        let Some(lead) = self.leads.get(process as usize) else {
-            return false;
-        };
-        let most = if is_held_back {
-            self.most / 2
-        } else {
-            self.most
-        };
-        lead.bytes() > most
+        match self.leads.get(process as usize) {
+            Some(lead) => are_too_many(lead.bytes(), self.most, is_held_back),
+            None => false,
+        }
     }
 
     /// Counts bytes of lines that a process posts.
@@ -156,7 +172,6 @@ impl Leads {
             return false;
         };
         let (before, gone) = lead.keep(kept);
-        let half = self.most / 2;
-        before > half && before.saturating_sub(gone) <= half
+        falls_to_half(before, gone, self.most)
     }
 }

@@ -1,5 +1,8 @@
 //! Whether a process is held back.
 
+ghost use Rattle.std.specs.Prelude.{◌≡◌, ◌≢◌, ◌↔◌, false, true, IsTrue};
+ghost use Rattle.dv_work.specs.declared.pause.Pause.TheVariants.{Over, Owing, Told};
+
 /// Whether a process makes turns, or is held back because too much of what it posted is not
 /// written yet.
 #[derive(Clone, Copy)]
@@ -16,7 +19,9 @@ pub enum Pause {
 
 impl Pause {
     /// Whether the process is held back.
-    pub fn holds_back(self) -> bool {
+    pub fn holds_back(self) -> bool
+        ensures { IsTrue result ↔ (self ≢ Over) }
+    {
         match self {
             Pause::Over => false,
             Pause::Owing | Pause::Told => true,
@@ -24,7 +29,11 @@ impl Pause {
     }
 
     /// The pause after a look whether the process is to be held back.
-    pub fn renewed(self, is_held_back: bool) -> Pause {
+    pub fn renewed(self, is_held_back: bool) -> Pause
+        ensures over { is_held_back ≡ false → result ≡ Over }
+        ensures begins { is_held_back ≡ true → self ≡ Over → result ≡ Owing }
+        ensures goes_on { is_held_back ≡ true → self ≢ Over → result ≡ self }
+    {
         match self {
             _ if !is_held_back => Pause::Over,
             Pause::Over => Pause::Owing,
@@ -33,7 +42,10 @@ impl Pause {
     }
 
     /// The pause after a turn.
-    pub fn after_a_turn(self) -> Pause {
+    pub fn after_a_turn(self) -> Pause
+        ensures over { self ≡ Over → result ≡ Over }
+        ensures told { self ≢ Over → result ≡ Told }
+    {
         match self {
             Pause::Over => Pause::Over,
             Pause::Owing | Pause::Told => Pause::Told,

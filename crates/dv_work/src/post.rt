@@ -1,6 +1,7 @@
 //! Posts what processes committed on a board, while the run goes on.
 
 ghost use Rattle.std.specs.List.{All};
+ghost use Rattle.std.specs.Prelude.{◌≡◌, ◌%◌, true};
 ghost use Rattle.dv_work.specs.Seats.{HasToldAll, HoldsNone, Sits};
 
 use crate::bell::{Bell, Flag, FlagView};
@@ -43,15 +44,21 @@ impl Pace {
     /// that left a long piece, since a round that does much is worth a packet.
     pub fn tells_in_next(&mut self) -> bool {
         self.rounds = self.rounds.wrapping_add(1);
-        self.was_long
-            || self.rounds.is_power_of_two()
-            || self.rounds.is_multiple_of(ROUNDS_TO_A_POST)
+        tells_in(self.rounds, self.was_long)
     }
 
     /// Notes whether the round left a long piece.
     pub fn adapt(&mut self, is_long: bool) {
         self.was_long = is_long;
     }
+}
+
+// Whether null messages and posts are due in the round of this number.
+fn tells_in(round: u64, was_long: bool) -> bool
+    ensures after_long { was_long ≡ true → result ≡ true }
+    ensures now_and_then { round % 64 ≡ 0 → result ≡ true }
+{
+    was_long || round.is_power_of_two() || round.is_multiple_of(ROUNDS_TO_A_POST)
 }
 
 /// Whether one of a worker's processes has a long piece to post.

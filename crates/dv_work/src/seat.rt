@@ -1,11 +1,12 @@
 //! A process with the ends of its links.
 
 ghost use Rattle.std.specs.List.{list_any};
-ghost use Rattle.std.specs.Prelude.{◌≡◌, ◌<◌, ◌+◌, ◌++◌, ◌↔◌, false, if◌then◌else◌, [], ◌∷◌, length, slice_get, None, Some};
+ghost use Rattle.std.specs.Prelude.{◌≡◌, ◌≢◌, ◌<◌, ◌+◌, ◌++◌, ◌↔◌, false, true, if◌then◌else◌, [], ◌∷◌, length, slice_get, None, Some};
 ghost use Rattle.std.specs.Prelude.{IfErr, IsTrue, MatchOption, OnOk, OnErr};
 ghost use Rattle.dv_board.specs.Posts.{IsPiece};
 ghost use Rattle.dv_link.specs.Carries.{AreTrueOn, IsLinkOf};
 ghost use Rattle.dv_proc.specs.Packets.{meant_packet};
+ghost use Rattle.dv_work.specs.declared.pause.Pause.TheVariants.{Over, Owing};
 ghost use Rattle.dv_work.specs.Ends.{IsIn, IsOut, given, taken};
 ghost use Rattle.dv_work.specs.Seats.{HasNull, HasToldAtFirst, IsEmptied, Reports, Sits, holds_packet, stands_in};
 ghost use Rattle.dv_work.specs.Seats.{IsAny, KeepsNoneBackAt, NoneIsNew, OthersStay};
@@ -203,11 +204,15 @@ impl<P: LogicalProcess> Seat<P> {
             .any(|end| self.process.out(end.number).is_some())
     }
 
-    /// Updates whether the process is held back, and returns whether it makes a turn.
+    /// Updates whether the process is held back, and returns whether it makes a turn. It makes none
+    /// if it is held back and owes nothing, or if a packet that it prepared is to be put first.
     pub fn may_turn<N: OfJob>(&mut self, floor: &Floor<'_, N>) -> bool
         requires sits { Sits N.job P.state P.handed P.valid floor.now.links.now self.old }
         ensures sits { Sits N.job P.state P.handed P.valid floor.now.links.now self.new }
         ensures outs { self.new.outs ≡ self.old.outs }
+        ensures held_back { result ≡ false → self.new.pause ≢ Over }
+        ensures owing { result ≡ false → self.new.pause ≡ Owing
+            → list_any (stands_in (P.state self.new.process)) self.new.outs.items ≡ true }
     {
         let is_held_back = floor
             .stream
