@@ -19,10 +19,12 @@ use Rattle.dv_plain.specs.Source.{network_of, outside}
 use Rattle.dv_run.specs.Runs.{IsCutShort, IsPrinted, IsRunOf, LedTo, lines_before}
 use Rattle.dv_core.specs.declared.step.Ended.{Ended}
 use Rattle.dv_core.specs.declared.step.Ended.TheVariants as rounds
-use Rattle.dv_run.proofs.Traces.{memory_by_rounds, never_stopped_by_rounds, stalled_by_rounds}
+use Rattle.dv_stream.proofs.Ended.{memory_by_rounds, never_stopped_by_rounds, stalled_by_rounds}
+use Rattle.dv_stream.specs.Endings.{by_rounds}
 use Rattle.dv_stream.specs.declared.ran.Ran.{Ran}
 use Rattle.dv_stream.specs.declared.ran.RunEnded.{RunEnded}
 use Rattle.dv_stream.specs.declared.ran.RunEnded.TheVariants as ran
+use Rattle.dv_stream.specs.declared.ran.Why.{Why}
 use Rattle.dv_stream.specs.declared.ran.Why.TheVariants as why
 use Rattle.dv_written.specs.Faults.{has_fault}
 use Rattle.dv_text.specs.declared.writing.Ending.TheVariants as text_end
@@ -36,8 +38,8 @@ use Rattle.dv_text.proofs.Taking.{Appends-append, AppendsBeginning-longer, Appen
 use Rattle.dv_text.proofs.Taking.{StopsShort-from, StopsShort-longer}
 use Rattle.dv_job.specs.Job.{IsModelOf, run_text}
 use Rattle.dv_job.specs.Planned.{AnswersPlan}
-use Rattle.dv_job.specs.Running.{EndsBy, EndsByWorkers, IsPlanned, IsTextOf, LeftByRun, PrintsCutAt, PrintsSome, PrintsWhole}
-use Rattle.dv_job.specs.Running.{PrintsCut, granted}
+use Rattle.dv_job.specs.Running.{EndsBy, EndsByWorkers, IsLed, IsPlanned, IsTextOf, LeftByRun, PrintsCut, PrintsLed}
+use Rattle.dv_job.specs.Running.{PrintsSome, PrintsWhole, granted}
 use Rattle.dv_job.specs.Stepping.{AnswersSteps}
 use Rattle.dv_job.specs.Written.{IsUnwritten, end_text, ended_at}
 use Rattle.dv_job.specs.declared.options.Options.{Options}
@@ -158,8 +160,9 @@ module _ (names : List (List ℕ)) (f : FileTree) (played : List Input) (groups 
     }
 
     -- a run that is cut
-    abbrev prints_cut : Appends mid new (partial_ending r.clocks.items) → PrintsCutAt model inputs partition o old new
-    prints_cut written = record {
+    abbrev prints_cut : {w : Why} → r.ended ≡ ran.Cut w → Appends mid new (partial_ending r.clocks.items)
+        → PrintsCut model inputs partition o old new
+    prints_cut at written = record {
       names = names;
       file = f;
       groups = groups;
@@ -169,6 +172,7 @@ module _ (names : List (List ℕ)) (f : FileTree) (played : List Input) (groups 
       count = printed.count;
       some = printed.some;
       within = printed.within;
+      short = printed.short (λ whole. absurd (let e = sym at ∙ whole in cc));
       written = behind (partial_ending r.clocks.items) written;
     }
 
@@ -211,24 +215,42 @@ module _ (names : List (List ℕ)) (f : FileTree) (played : List Input) (groups 
 
   -- a run in rounds
   module _ (r : Ran) (old mid new : Option (List ℕ)) (is : RanSo names f played groups o old mid r) where
-    ends_at_clocks : (at : Ended) → is.ended ≡ at → (at ≡ rounds.Stalled → granted o ≤ end_of o.limit o.horizon)
-        → Appends mid new (partial_ending r.clocks.items) → PrintsCut model inputs partition o old new at
-    ends_at_clocks at so few written = record {
-      cut = prints_cut r old mid new is.printed written;
-      led = subst (λ (x : Ended). LedTo f played groups o.horizon o.limit o.capacity (granted o) x r.clocks.items) so is.led;
-      stalls = few;
-    }
+    -- how its rounds ended, where it is cut
+    rounds_so : {w : Why} → r.ended ≡ ran.Cut w → by_rounds is.ended ≡ ran.Cut w
+    rounds_so at = sym (is.ended_so (λ whole. absurd (let e = sym at ∙ whole in cc))) ∙ at
 
     ends_so : (at : RunEnded) → r.ended ≡ at → Appends mid new (end_text at o.horizon r.clocks.items)
         → EndsBy (ended_at at r.written.faulted) model inputs partition o old new
     ends_so ran.Whole at written =
         ends_whole r old mid new is.printed (λ (e : JobEnded). EndsBy e model inputs partition o old new) (λ p. p) (λ p. p) at written
-    ends_so (ran.Cut why.Rounds) at written =
-        ends_at_clocks rounds.Stalled (stalled_by_rounds is.ended (sym is.ended_so ∙ at)) (λ _. is.stalls at o.in_range.some_capacity)
-        written
-    ends_so (ran.Cut why.Memory) at written =
-        ends_at_clocks rounds.Memory (memory_by_rounds is.ended (sym is.ended_so ∙ at)) (λ no. absurd (cc)) written
-    ends_so (ran.Cut why.Stopped) at written = absurd (never_stopped_by_rounds is.ended (sym is.ended_so ∙ at))
+    ends_so (ran.Cut why.Rounds) at written = (prints_cut r old mid new is.printed at written, is.stalls at o.in_range.some_capacity)
+    ends_so (ran.Cut why.Memory) at written = prints_cut r old mid new is.printed at written
+    ends_so (ran.Cut why.Stopped) at written = absurd (never_stopped_by_rounds is.ended (rounds_so at))
+
+    led_at : {w : Why} (at : r.ended ≡ ran.Cut w) (e : Ended) → is.ended ≡ e → Appends mid new (partial_ending r.clocks.items)
+        → PrintsLed model inputs partition o old new e
+    led_at at e so written = record {
+      cut = prints_cut r old mid new is.printed at written;
+      led = subst (λ (x : Ended). LedTo f played groups o.horizon o.limit o.capacity (granted o) x r.clocks.items) so is.led;
+    }
+
+    led_whole : (faulted : Bool) → IsLed (ended_at ran.Whole faulted) model inputs partition o old new
+    led_whole true = tt
+    led_whole false = tt
+
+    led_so : (at : RunEnded) → r.ended ≡ at → Appends mid new (end_text at o.horizon r.clocks.items)
+        → IsLed (ended_at at r.written.faulted) model inputs partition o old new
+    led_so ran.Whole at written = led_whole r.written.faulted
+    led_so (ran.Cut why.Rounds) at written = led_at at rounds.Stalled (stalled_by_rounds is.ended (rounds_so at)) written
+    led_so (ran.Cut why.Memory) at written = led_at at rounds.Memory (memory_by_rounds is.ended (rounds_so at)) written
+    led_so (ran.Cut why.Stopped) at written = absurd (never_stopped_by_rounds is.ended (rounds_so at))
+
+    pub if_it_is_led : (result : Result JobEnded JobError) → IfOk result (λ (e : JobEnded). e ≡ ended_at r.ended r.written.faulted)
+        → OnOk result (Appends mid new (end_text r.ended o.horizon r.clocks.items))
+        → IfOk result (λ (e : JobEnded). IsLed e model inputs partition o old new)
+    if_it_is_led (Ok e) ending written =
+        subst (λ (e : JobEnded). IsLed e model inputs partition o old new) (sym ending) (led_so r.ended refl written)
+    if_it_is_led (Err e) ending written = tt
 
     pub if_it_ended : (result : Result JobEnded JobError) → IfOk result (λ (e : JobEnded). e ≡ ended_at r.ended r.written.faulted)
         → OnOk result (Appends mid new (end_text r.ended o.horizon r.clocks.items))
@@ -240,17 +262,14 @@ module _ (names : List (List ℕ)) (f : FileTree) (played : List Input) (groups 
   -- a run by workers
   module _ (r : Ran) (old mid new : Option (List ℕ)) (is : IsPrinted names f played groups o.horizon o.limit old mid r)
       (unstalled : r.ended ≡ ran.Cut why.Rounds → ⊥)
-      (short : (r.ended ≡ ran.Whole → ⊥) → least_rank o.limit r.clocks.items < end_of o.limit o.horizon)
     where
       worked_so : (at : RunEnded) → r.ended ≡ at → Appends mid new (end_text at o.horizon r.clocks.items)
           → EndsByWorkers (ended_at at r.written.faulted) model inputs partition o old new
       worked_so ran.Whole at written =
           ends_whole r old mid new is (λ (e : JobEnded). EndsByWorkers e model inputs partition o old new) (λ p. p) (λ p. p) at written
       worked_so (ran.Cut why.Rounds) at written = absurd (unstalled at)
-      worked_so (ran.Cut why.Memory) at written =
-          record { cut = prints_cut r old mid new is written; short = short (λ whole. absurd (let e = sym at ∙ whole in cc)) }
-      worked_so (ran.Cut why.Stopped) at written =
-          record { cut = prints_cut r old mid new is written; short = short (λ whole. absurd (let e = sym at ∙ whole in cc)) }
+      worked_so (ran.Cut why.Memory) at written = prints_cut r old mid new is at written
+      worked_so (ran.Cut why.Stopped) at written = prints_cut r old mid new is at written
 
       pub if_workers_ended : (result : Result JobEnded JobError) → IfOk result (λ (e : JobEnded). e ≡ ended_at r.ended r.written.faulted)
           → OnOk result (Appends mid new (end_text r.ended o.horizon r.clocks.items))

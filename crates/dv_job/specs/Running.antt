@@ -73,8 +73,8 @@ pub record PrintsWhole (model inputs : List ℕ) (partition : Partition) (o : Op
   pub written : Appends old new (run_text names file played o.horizon o.limit)
 
 -- All is accepted, and the writer's bytes grew by the text of the trace, cut at the clocks of the processes, one for each, none of
--- which is past the end.
-pub record PrintsCutAt (model inputs : List ℕ) (partition : Partition) (o : Options) (old new : Option (List ℕ)) : Type 0 where
+-- which is past the end. The least of them is before the end.
+pub record PrintsCut (model inputs : List ℕ) (partition : Partition) (o : Options) (old new : Option (List ℕ)) : Type 0 where
   pub names : List (List ℕ)
   pub file : FileTree
   pub groups : Grouping
@@ -84,20 +84,14 @@ pub record PrintsCutAt (model inputs : List ℕ) (partition : Partition) (o : Op
   pub count : length clocks ≡ groups.processes
   pub some : 0 < length clocks
   pub within : AreWithin o.horizon o.limit clocks
+  pub short : least_rank o.limit clocks < end_of o.limit o.horizon
   pub written : Appends old new (cut_text names file played o.limit clocks)
 
--- The same of a run in rounds, which led to these clocks and this ending. It is cut for lack of rounds only if there are no more rounds
--- than ranks before the end.
-pub record PrintsCut (model inputs : List ℕ) (partition : Partition) (o : Options) (old new : Option (List ℕ)) (rounds : Ended)
+-- The same of a run in rounds, which led to these clocks and ended so.
+pub record PrintsLed (model inputs : List ℕ) (partition : Partition) (o : Options) (old new : Option (List ℕ)) (rounds : Ended)
     : Type 0 where
-  pub cut : PrintsCutAt model inputs partition o old new
+  pub cut : PrintsCut model inputs partition o old new
   pub led : LedTo cut.file cut.played cut.groups o.horizon o.limit o.capacity (granted o) rounds cut.clocks
-  pub stalls : rounds ≡ Stalled → granted o ≤ end_of o.limit o.horizon
-
--- The same of a run by workers: it is cut before the end.
-pub record PrintsCutByWorkers (model inputs : List ℕ) (partition : Partition) (o : Options) (old new : Option (List ℕ)) : Type 0 where
-  pub cut : PrintsCutAt model inputs partition o old new
-  pub short : least_rank o.limit cut.clocks < end_of o.limit o.horizon
 
 -- All is accepted, and the writer's bytes grew by a beginning of such a text, but not by all of it.
 pub record PrintsSome (model inputs : List ℕ) (partition : Partition) (o : Options) (old new : Option (List ℕ)) : Type 0 where
@@ -110,20 +104,30 @@ pub record PrintsSome (model inputs : List ℕ) (partition : Partition) (o : Opt
   pub is_text : IsTextOf names file played groups.processes o.horizon o.limit text
   pub written : StopsShort old new text
 
--- what an answer says of the writer's bytes; a run in rounds is never stopped
+-- What an answer says of the writer's bytes. A run in rounds is never stopped, and is cut for lack of rounds only if there are no more
+-- rounds than ranks before the end.
 abbrev pub EndsBy : JobEnded → (model inputs : List ℕ) → Partition → Options → (old new : Option (List ℕ)) → Type 0
 EndsBy ended.Whole model inputs partition o old new = PrintsWhole model inputs partition o old new ended.Whole
 EndsBy ended.Faulted model inputs partition o old new = PrintsWhole model inputs partition o old new ended.Faulted
-EndsBy (ended.Partial why.Rounds) model inputs partition o old new = PrintsCut model inputs partition o old new Stalled
-EndsBy (ended.Partial why.Memory) model inputs partition o old new = PrintsCut model inputs partition o old new Memory
+EndsBy (ended.Partial why.Rounds) model inputs partition o old new =
+    PrintsCut model inputs partition o old new × (granted o ≤ end_of o.limit o.horizon)
+EndsBy (ended.Partial why.Memory) model inputs partition o old new = PrintsCut model inputs partition o old new
 EndsBy (ended.Partial why.Stopped) model inputs partition o old new = ⊥
 
--- the same of a run by workers, which has no rounds
+-- which clocks are printed of a run in rounds that is cut: those to which its rounds led
+abbrev pub IsLed : JobEnded → (model inputs : List ℕ) → Partition → Options → (old new : Option (List ℕ)) → Type 0
+IsLed ended.Whole model inputs partition o old new = Unit {0}
+IsLed ended.Faulted model inputs partition o old new = Unit {0}
+IsLed (ended.Partial why.Rounds) model inputs partition o old new = PrintsLed model inputs partition o old new Stalled
+IsLed (ended.Partial why.Memory) model inputs partition o old new = PrintsLed model inputs partition o old new Memory
+IsLed (ended.Partial why.Stopped) model inputs partition o old new = ⊥
+
+-- what an answer says of the bytes of a run by workers, which has no rounds
 abbrev pub EndsByWorkers : JobEnded → (model inputs : List ℕ) → Partition → Options → (old new : Option (List ℕ)) → Type 0
 EndsByWorkers ended.Whole model inputs partition o old new = PrintsWhole model inputs partition o old new ended.Whole
 EndsByWorkers ended.Faulted model inputs partition o old new = PrintsWhole model inputs partition o old new ended.Faulted
-EndsByWorkers (ended.Partial why.Memory) model inputs partition o old new = PrintsCutByWorkers model inputs partition o old new
-EndsByWorkers (ended.Partial why.Stopped) model inputs partition o old new = PrintsCutByWorkers model inputs partition o old new
+EndsByWorkers (ended.Partial why.Memory) model inputs partition o old new = PrintsCut model inputs partition o old new
+EndsByWorkers (ended.Partial why.Stopped) model inputs partition o old new = PrintsCut model inputs partition o old new
 EndsByWorkers (ended.Partial why.Rounds) model inputs partition o old new = ⊥
 
 -- the model is accepted, and this is the answer to the partition of its components

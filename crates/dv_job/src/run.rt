@@ -3,7 +3,7 @@
 ghost use Rattle.std.specs.Prelude.{IfOk, IfErr};
 ghost use Rattle.dv_syntax.specs.Trees.{file_of};
 ghost use Rattle.dv_job.specs.Job.{IsModelOf};
-ghost use Rattle.dv_job.specs.Running.{EndsBy, LeftByRun};
+ghost use Rattle.dv_job.specs.Running.{EndsBy, IsLed, LeftByRun};
 
 use crate::ended::{JobEnded, JobError};
 use crate::load::{accept, load};
@@ -24,6 +24,9 @@ use std::io::Write;
 /// packets in rounds, on one thread. Inputs past the horizon are checked and have no effect. An
 /// empty text has no inputs.
 ///
+/// A run of which all clocks are at the end is whole, even if memory was refused after its last
+/// turn. The clocks of a run that was cut are those to which its rounds led.
+///
 /// # Errors
 ///
 /// `Text` is the answer to the text of the model. If the model is accepted, `Partition` is the
@@ -38,6 +41,8 @@ pub fn run_bytes<W: Write>(
     writer: &mut W,
 ) -> Result<JobEnded, JobError>
     ensures ended { IfOk result (λ ended. EndsBy ended model.now inputs.now groups.entry
+        options.now (W.contents writer.old) (W.contents writer.new)) }
+    ensures led { IfOk result (λ ended. IsLed ended model.now inputs.now groups.entry
         options.now (W.contents writer.old) (W.contents writer.new)) }
     ensures error { IfErr result (λ e. LeftByRun e model.now inputs.now groups.entry
         options.now (W.contents writer.old) (W.contents writer.new)) }
@@ -59,6 +64,8 @@ fn run_tree<W: Write>(
 ) -> Result<JobEnded, JobError>
     requires accepted { IsModelOf model.now tree.now.names (file_of tree.now.file) }
     ensures ended { IfOk result (λ ended. EndsBy ended model.now inputs.now groups.entry
+        options.now (W.contents writer.old) (W.contents writer.new)) }
+    ensures led { IfOk result (λ ended. IsLed ended model.now inputs.now groups.entry
         options.now (W.contents writer.old) (W.contents writer.new)) }
     ensures error { IfErr result (λ e. LeftByRun e model.now inputs.now groups.entry
         options.now (W.contents writer.old) (W.contents writer.new)) }

@@ -3,6 +3,7 @@ use Rattle.std.proofs.Common.{◌≡◌, ◌≢◌, ℕ, ◌+◌, ◌<◌, ◌�
 use Rattle.std.proofs.Common.{Result, Ok, Err, IfOk, slice_index_or, refl, sym, ap, ◌∙◌, subst, arith}
 use Rattle.std.proofs.lemmas.Bool.{cases_lt}
 use Rattle.std.proofs.lemmas.Option.{slice_get-get_or, slice_get_within}
+use Rattle.std.specs.Prelude.{◌↔◌}
 use Rattle.std.specs.List.{slice_get}
 use Rattle.std.specs.Io.KnownBytes.{Appends}
 use Rattle.dv_time.specs.Time.{IsOfRun, end_of, rank}
@@ -17,11 +18,11 @@ use Rattle.dv_devs.specs.NextTimes.{IsReady}
 use Rattle.dv_devs.specs.Parts.{part_before}
 use Rattle.dv_conservative.specs.Flat.{whole}
 use Rattle.dv_conservative.specs.World.{Channel, Job, new_world}
-use Rattle.dv_core.specs.Worlds.{EndsAs, IsWhole, end_time}
+use Rattle.dv_core.specs.Worlds.{EndsAs, end_time}
 use Rattle.dv_core.proofs.Driving.{enough_rounds}
 use Rattle.dv_core.specs.declared.step.Step.{Step}
 use Rattle.dv_core.specs.declared.step.Ended.{Ended}
-use Rattle.dv_core.specs.declared.step.Ended.TheVariants.{Memory, Stalled, Whole}
+use Rattle.dv_core.specs.declared.step.Ended.TheVariants.{Stalled}
 use Rattle.dv_plain.specs.Source.{network_of, outside}
 use Rattle.dv_run.specs.Texts.{text_job}
 use Rattle.dv_run.specs.declared.text_job.TextJob.{TextJob}
@@ -43,9 +44,10 @@ use Rattle.dv_stream.specs.declared.ran.RunEnded.TheVariants as told
 use Rattle.dv_stream.specs.declared.ran.Why.TheVariants as why
 use Rattle.dv_text.specs.declared.writing.WriteError.{WriteError}
 use Rattle.dv_plan.proofs.LeastClock.{AllOfRun, least_below, least_of_same}
+use Rattle.dv_stream.proofs.Ended.{stalled_by_rounds}
 use Rattle.dv_stream.proofs.ToldClocks.{same_rank}
 use Rattle.dv_work.proofs.Lists.{at_index}
-use Rattle.dv_run.specs.Runs.{AreAtEnd, IsCutShort, IsPrinted, IsRunOf, IsStepped, lines_before}
+use Rattle.dv_run.specs.Runs.{IsCutShort, IsPrinted, IsRunOf, IsStepped, lines_before}
 
 -- ---- The laws on which it rests
 
@@ -95,50 +97,10 @@ module _ (names : List (List ℕ)) (f : FileTree) (played : List Input) (limit :
       ∙ ap (part_text all ports) (same_trace n)
       ∙ laws.lines all ports limit (network_of limit f) (outside f limit played) n
 
--- ---- What ran, printed
+-- ---- Clocks of a run that is cut
 
 pub plus_nothing : (x : ℕ) → x + 0 ≡ x
 plus_nothing x = omega arith
-
-module _ (j : TextJob) (text : AreOfOneText j.tree.now.names (file_of j.tree.now.file)) (accepted : refusal_of (file_of j.tree.now.file)
-    ≡ None)
-    (laws : Laws (file_of j.tree.now.file) j.limit) {old new : Option (List ℕ)} where
-  -- up to the least of the clocks that were reached
-  pub is_printed : (r : Ran) → IsWrittenTo (text_job j) j.tree.now old new r.written
-      → rank j.limit r.written.mark ≡ least_rank j.limit r.clocks.items
-      → 0 < length r.clocks.items → length r.clocks.items ≡ (text_job j).processes
-      → AreWithin j.horizon j.limit r.clocks.items → AreAtEnd (text_job j) r.ended r.clocks.items
-      → IsPrinted j.tree.now.names (file_of j.tree.now.file) j.inputs.now j.groups.now j.horizon j.limit old new r
-  is_printed r written mark some count within at_end = record {
-    lines =
-        subst (λ (n : ℕ). Appends old new (lines_before j.tree.now.names (file_of j.tree.now.file) j.inputs.now j.limit n)) mark
-        (subst (Appends old new) (same_lines j.tree.now.names (file_of j.tree.now.file) j.inputs.now j.limit text accepted laws
-        (rank j.limit r.written.mark)) written.text);
-    faults =
-        written.faults
-        ∙ ap has_fault (same_trace j.tree.now.names (file_of j.tree.now.file) j.inputs.now j.limit text accepted laws
-        (rank j.limit r.written.mark))
-        ∙ ap (λ (n : ℕ). has_fault (trace_before j.limit (network_of j.limit (file_of j.tree.now.file))
-        (outside (file_of j.tree.now.file) j.limit j.inputs.now) n)) mark;
-    some = some;
-    count = count;
-    within = within;
-    whole = λ e.
-        least_of_same j.limit (end_of j.limit j.horizon) r.clocks.items some
-        (λ p t at. ap (rank j.limit) (at_end e p t at) ∙ plus_nothing (end_of j.limit j.horizon));
-  }
-
-  pub is_cut_short : IsBegun (text_job j) j.tree.now old new
-      → IsCutShort j.tree.now.names (file_of j.tree.now.file) j.inputs.now j.horizon j.limit old new
-  is_cut_short begun = record {
-    upto = begun.upto;
-    within = begun.within;
-    lines =
-        subst (AppendsBeginning old new) (same_lines j.tree.now.names (file_of j.tree.now.file) j.inputs.now j.limit text accepted laws
-        begun.upto) begun.text;
-  }
-
--- ---- By workers
 
 -- Where not all clocks are at the end, and none is past it, the least is before it.
 pub cut_before_end : (job : Job) (clocks : List Time) → 0 < length clocks → AreWithin job.horizon job.limit clocks
@@ -154,28 +116,49 @@ cut_before_end job clocks some within not_all = elim (cases_lt (least_rank job.l
       (let high = is.1 in omega (arith, low, more, high, end))))
 ]
 
+-- ---- What ran, printed
+
+module _ (j : TextJob) (text : AreOfOneText j.tree.now.names (file_of j.tree.now.file)) (accepted : refusal_of (file_of j.tree.now.file)
+    ≡ None)
+    (laws : Laws (file_of j.tree.now.file) j.limit) {old new : Option (List ℕ)} where
+  -- up to the least of the clocks that were reached
+  pub is_printed : (r : Ran) → IsWrittenTo (text_job j) j.tree.now old new r.written
+      → rank j.limit r.written.mark ≡ least_rank j.limit r.clocks.items
+      → 0 < length r.clocks.items → length r.clocks.items ≡ (text_job j).processes
+      → AreWithin j.horizon j.limit r.clocks.items
+      → (r.ended ≡ told.Whole) ↔ ((p : ℕ) (t : Time) → slice_get r.clocks.items p ≡ Some t → t ≡ end_time (text_job j))
+      → IsPrinted j.tree.now.names (file_of j.tree.now.file) j.inputs.now j.groups.now j.horizon j.limit old new r
+  is_printed r written mark some count within whole = record {
+    lines =
+        subst (λ (n : ℕ). Appends old new (lines_before j.tree.now.names (file_of j.tree.now.file) j.inputs.now j.limit n)) mark
+        (subst (Appends old new) (same_lines j.tree.now.names (file_of j.tree.now.file) j.inputs.now j.limit text accepted laws
+        (rank j.limit r.written.mark)) written.text);
+    faults =
+        written.faults
+        ∙ ap has_fault (same_trace j.tree.now.names (file_of j.tree.now.file) j.inputs.now j.limit text accepted laws
+        (rank j.limit r.written.mark))
+        ∙ ap (λ (n : ℕ). has_fault (trace_before j.limit (network_of j.limit (file_of j.tree.now.file))
+        (outside (file_of j.tree.now.file) j.limit j.inputs.now) n)) mark;
+    some = some;
+    count = count;
+    within = within;
+    whole = λ e.
+        least_of_same j.limit (end_of j.limit j.horizon) r.clocks.items some
+        (λ p t at. ap (rank j.limit) (whole.0 e p t at) ∙ plus_nothing (end_of j.limit j.horizon));
+    short = λ partial. cut_before_end (text_job j) r.clocks.items some within (λ all. partial (whole.1 all));
+  }
+
+  pub is_cut_short : IsBegun (text_job j) j.tree.now old new
+      → IsCutShort j.tree.now.names (file_of j.tree.now.file) j.inputs.now j.horizon j.limit old new
+  is_cut_short begun = record {
+    upto = begun.upto;
+    within = begun.within;
+    lines =
+        subst (AppendsBeginning old new) (same_lines j.tree.now.names (file_of j.tree.now.file) j.inputs.now j.limit text accepted laws
+        begun.upto) begun.text;
+  }
+
 -- ---- In rounds
-
--- how rounds ended, by what is told of it
-pub whole_by_rounds : (e : Ended) → by_rounds e ≡ told.Whole → e ≡ Whole
-whole_by_rounds Whole is = refl
-whole_by_rounds Stalled is = absurd (cc)
-whole_by_rounds Memory is = absurd (cc)
-
-pub stalled_by_rounds : (e : Ended) → by_rounds e ≡ told.Cut why.Rounds → e ≡ Stalled
-stalled_by_rounds Whole is = absurd (cc)
-stalled_by_rounds Stalled is = refl
-stalled_by_rounds Memory is = absurd (cc)
-
-pub memory_by_rounds : (e : Ended) → by_rounds e ≡ told.Cut why.Memory → e ≡ Memory
-memory_by_rounds Whole is = absurd (cc)
-memory_by_rounds Stalled is = absurd (cc)
-memory_by_rounds Memory is = refl
-
-pub never_stopped_by_rounds : (e : Ended) → by_rounds e ≡ told.Cut why.Stopped → ⊥
-never_stopped_by_rounds Whole is = absurd (cc)
-never_stopped_by_rounds Stalled is = absurd (cc)
-never_stopped_by_rounds Memory is = absurd (cc)
 
 module _ (j : TextJob) (capacity rounds : ℕ) (c : Committed) (ran : HasRun (text_job j) capacity rounds c) where
   abbrev ran_job : Job
@@ -193,18 +176,6 @@ module _ (j : TextJob) (capacity rounds : ℕ) (c : Committed) (ran : HasRun (te
   pub some_clocks : 0 < ran_job.processes → 0 < length c.clocks.items
   some_clocks some = subst (λ (n : ℕ). 0 < n) (sym ran.handed.count) some
 
-  is_whole : c.ended ≡ Whole → IsWhole ran_job ran.world
-  is_whole e =
-      let h : EndsAs ran_job rounds Whole (new_world capacity) ran.world
-      = subst (λ (x : Ended). EndsAs ran_job rounds x (new_world capacity) ran.world) e ran.ends in
-      h.3
-
-  pub ran_at_end : AreAtEnd ran_job (by_rounds c.ended) c.clocks.items
-  ran_at_end e p t at =
-      let within = slice_get_within c.clocks.items p t at in
-      let count = ran.handed.count in
-      sym (ran.handed.clocks p t at) ∙ is_whole (whole_by_rounds c.ended e) p (omega (arith, within, count))
-
   -- enough rounds do not stall
   pub unstalled : ((l : ℕ) (ch : Channel) → slice_get ran_job.channels l ≡ Some ch
       → (ch.source < ran_job.processes) × (ch.target < ran_job.processes))
@@ -214,7 +185,7 @@ module _ (j : TextJob) (capacity rounds : ℕ) (c : Committed) (ran : HasRun (te
       = subst (λ (x : Ended). EndsAs ran_job rounds x (new_world capacity) ran.world) e ran.ends in
       h.1 (enough_rounds ran_job capacity rounds (new_world capacity) ran.world refl some ends enough h.0)
 
-  pub is_run : {old new : Option (List ℕ)} (r : Ran) → r.clocks ≡ c.clocks → r.ended ≡ by_rounds c.ended
+  pub is_run : {old new : Option (List ℕ)} (r : Ran) → r.clocks ≡ c.clocks → (r.ended ≢ told.Whole → r.ended ≡ by_rounds c.ended)
       → IsPrinted j.tree.now.names (file_of j.tree.now.file) j.inputs.now j.groups.now j.horizon j.limit old new r
       → (0 < capacity → end_of j.limit j.horizon + 1 ≤ rounds → r.ended ≢ told.Cut why.Rounds)
       → IsRunOf j.tree.now.names (file_of j.tree.now.file) j.inputs.now j.groups.now j.horizon j.limit capacity rounds old new r
@@ -240,7 +211,8 @@ pub enough_of : (j : TextJob) (capacity rounds : ℕ) → ((l : ℕ) (ch : Chann
     → (r : Result Ran WriteError) → IfOk r (HasRunInRounds (text_job j) capacity rounds)
     → IfOk r (λ (x : Ran). 0 < capacity → end_of (text_job j).limit (text_job j).horizon + 1 ≤ rounds → x.ended ≢ told.Cut why.Rounds)
 enough_of j capacity rounds ends (Ok r) h = λ some enough cut.
-    unstalled j capacity rounds h.committed h.run ends some enough (stalled_by_rounds h.committed.ended (sym h.ended ∙ cut))
+    unstalled j capacity rounds h.committed h.run ends some enough
+    (stalled_by_rounds h.committed.ended (sym (h.ended (λ whole. absurd (let e = sym cut ∙ whole in cc))) ∙ cut))
 enough_of j capacity rounds ends (Err e) h = tt
 
 -- ---- Steps

@@ -1,5 +1,5 @@
 -- How far the run of a text came, and what was printed of it.
-use Rattle.std.specs.Prelude.{◌≡◌, ℕ, ◌<◌, ◌≤◌, nat_eq, List, length, slice_get, Option, Some}
+use Rattle.std.specs.Prelude.{◌≡◌, ◌≢◌, ℕ, ◌<◌, ◌≤◌, nat_eq, List, length, slice_get, Option, Some}
 use Rattle.std.specs.Vec.{vec_len}
 use Rattle.std.specs.Io.KnownBytes.{Appends}
 use Rattle.dv_time.specs.Time.{end_of, rank}
@@ -10,8 +10,8 @@ use Rattle.dv_syntax.specs.Trees.{FileTree}
 use Rattle.dv_devs.specs.Clocks.{least_rank}
 use Rattle.dv_devs.specs.Network.{trace_before}
 use Rattle.dv_devs.specs.Parts.{part_before}
-use Rattle.dv_conservative.specs.World.{Job, World, new_world}
-use Rattle.dv_core.specs.Worlds.{EndsAs, IsRunWithProgress, end_time, with_replies}
+use Rattle.dv_conservative.specs.World.{World, new_world}
+use Rattle.dv_core.specs.Worlds.{EndsAs, IsRunWithProgress, with_replies}
 use Rattle.dv_core.specs.declared.step.Step.{Step}
 use Rattle.dv_core.specs.declared.step.Ended.{Ended}
 use Rattle.dv_partition.specs.Groups.{Grouping, owner_of}
@@ -21,7 +21,6 @@ use Rattle.law_sound.specs.Jobs.{job_of}
 use Rattle.dv_stream.specs.Clocks.{AreWithin}
 use Rattle.dv_stream.specs.Endings.{by_rounds}
 use Rattle.dv_stream.specs.declared.ran.Ran.{Ran}
-use Rattle.dv_stream.specs.declared.ran.RunEnded.{RunEnded}
 use Rattle.dv_stream.specs.declared.ran.RunEnded.TheVariants.{Cut, Whole}
 use Rattle.dv_stream.specs.declared.ran.Why.TheVariants.{Rounds}
 use Rattle.dv_written.specs.Faults.{has_fault}
@@ -37,17 +36,13 @@ pub record LedTo (f : FileTree) (played : List Input) (groups : Grouping) (horiz
   pub count : length times ≡ groups.processes
   pub clocks : (p : ℕ) (t : Time) → slice_get times p ≡ Some t → world.clock p ≡ t
 
--- if a run is whole, all clocks are at the end
-abbrev pub AreAtEnd : Job → RunEnded → List Time → Type 0
-AreAtEnd job ended clocks = ended ≡ Whole → (p : ℕ) (t : Time) → slice_get clocks p ≡ Some t → t ≡ end_time job
-
 -- the lines of the instants of a text's resultant, with these inputs, before a rank
 abbrev pub lines_before : List (List ℕ) → FileTree → List Input → (limit : ℕ) → ℕ → List ℕ
 lines_before names f played limit n =
     instants_text (component_names names f) (root_ports names f) limit (network_of limit f) (outside f limit played) n
 
 -- What a writer got of the run of a text: the lines of the trace of its resultant with these inputs, before the least clock. There is
--- one clock for each process, and none is past the end. If the run is whole, the least clock is the end.
+-- one clock for each process, and none is past the end. If the run is whole, the least clock is the end, and else it is before the end.
 pub record IsPrinted (names : List (List ℕ)) (f : FileTree) (played : List Input) (groups : Grouping) (horizon limit : ℕ)
     (old new : Option (List ℕ)) (ran : Ran) : Type 0 where
   pub lines : Appends old new (lines_before names f played limit (least_rank limit ran.clocks.items))
@@ -57,6 +52,7 @@ pub record IsPrinted (names : List (List ℕ)) (f : FileTree) (played : List Inp
   pub count : length ran.clocks.items ≡ groups.processes
   pub within : AreWithin horizon limit ran.clocks.items
   pub whole : ran.ended ≡ Whole → least_rank limit ran.clocks.items ≡ end_of limit horizon
+  pub short : ran.ended ≢ Whole → least_rank limit ran.clocks.items < end_of limit horizon
 
 -- The same of a run in rounds, which led to these clocks. It is cut for lack of rounds only if there are no more rounds than ranks before
 -- the end.
@@ -65,7 +61,7 @@ pub record IsRunOf (names : List (List ℕ)) (f : FileTree) (played : List Input
   pub printed : IsPrinted names f played groups horizon limit old new ran
   pub stalls : ran.ended ≡ Cut Rounds → 0 < capacity → rounds ≤ end_of limit horizon
   pub ended : Ended
-  pub ended_so : ran.ended ≡ by_rounds ended
+  pub ended_so : ran.ended ≢ Whole → ran.ended ≡ by_rounds ended
   pub led : LedTo f played groups horizon limit capacity rounds ended ran.clocks.items
 
 -- A writer got a beginning of the lines before some rank that is not past the end.

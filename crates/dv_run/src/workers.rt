@@ -3,15 +3,13 @@
 ghost use Rattle.std.specs.Prelude.{◌≢◌, ◌↔◌, ◌<◌, ◌≡◌, None, IfOk, IsSome, OnErr, length};
 ghost use Rattle.dv_board.specs.Jobs.{IsMergeable};
 ghost use Rattle.dv_check.specs.Refusals.{AreOfOneText, refusal_of};
-ghost use Rattle.dv_devs.specs.Clocks.{least_rank};
 ghost use Rattle.dv_run.specs.Texts.{AreComponentsOf, AreLinksOf, text_job};
 ghost use Rattle.dv_run.specs.Runs.{IsCutShort, IsPrinted};
 ghost use Rattle.law_sound.specs.Jobs.{AllInputNumbers};
 ghost use Rattle.dv_stream.specs.Endings.{HasRunByWorkers};
 ghost use Rattle.dv_stream.specs.Written.{IsBegun, IsWrittenTo};
 ghost use Rattle.dv_syntax.specs.Trees.{file_of};
-ghost use Rattle.dv_time.specs.Time.{end_of};
-ghost use Rattle.dv_stream.specs.declared.ran.RunEnded.TheVariants.{Cut, Whole};
+ghost use Rattle.dv_stream.specs.declared.ran.RunEnded.TheVariants.{Cut};
 ghost use Rattle.dv_stream.specs.declared.ran.Why.TheVariants.{Rounds, Stopped};
 
 use crate::components::lone_components;
@@ -76,8 +74,6 @@ pub fn compiled_workers<R: Threads + Wait + Sync, G: Watch, W: Write>(
         job.now.horizon job.now.limit
         (W.contents writer.old) (W.contents writer.new) r.ran) }
     ensures ended { IfOk result (λ r. r.ran.ended ≢ Cut Rounds) }
-    ensures partial { IfOk result (λ r. r.ran.ended ≢ Whole
-        → least_rank job.now.limit r.ran.clocks.items < end_of job.now.limit job.now.horizon) }
     ensures cause { IfOk result (λ r. IsSome r.cause ↔ (r.ran.ended ≡ Cut Stopped)) }
     ensures err { OnErr result (IsCutShort job.now.tree.now.names
         (file_of job.now.tree.now.file) job.now.inputs.now job.now.horizon job.now.limit

@@ -5,6 +5,7 @@ pub mod Between
 -- The least of clocks, and the clocks that are told of a run by workers.
 pub mod ToldClocks
 -- What is joined to a backlog between rounds.
+pub mod Ended
 pub mod Joining
 -- What a run is made of, for a job that is said in another way.
 pub mod Made

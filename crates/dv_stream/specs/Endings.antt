@@ -18,6 +18,7 @@ use Rattle.dv_time.specs.declared.time.Time.{Time}
 use Rattle.dv_work.specs.declared.report.Ended.{Ended as WorkersEnded}
 use Rattle.dv_work.specs.declared.report.Ended.TheVariants as workers
 
+-- by rounds, where not every clock is at the end
 abbrev pub by_rounds : RoundsEnded → RunEnded
 by_rounds rounds.Whole = Whole
 by_rounds rounds.Stalled = Cut why.Rounds
@@ -39,12 +40,14 @@ cause_of false workers.Whole = None
 cause_of false workers.Cancelled = None
 cause_of false workers.Memory = None
 
--- At most so many rounds of a new world led to these clocks and this ending.
+-- At most so many rounds of a new world led to these clocks. The run is whole exactly if every clock is at the end, and else it ended as
+-- its rounds did.
 pub record HasRunInRounds (job : Job) (capacity rounds : ℕ) (r : Ran) : Type 0 where
   pub committed : Committed
   pub run : HasRun job capacity rounds committed
   pub clocks : r.clocks ≡ committed.clocks
-  pub ended : r.ended ≡ by_rounds committed.ended
+  pub whole : (r.ended ≡ Whole) ↔ ((p : ℕ) (t : Time) → slice_get r.clocks.items p ≡ Some t → t ≡ end_time job)
+  pub ended : r.ended ≢ Whole → r.ended ≡ by_rounds committed.ended
 
 -- Workers led to these clocks, one for each process and none past the end, and the trace is written up to the least of them. The run is
 -- whole exactly if every clock is at the end, is never cut for lack of rounds, and is stopped exactly if there is a cause.

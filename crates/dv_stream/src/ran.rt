@@ -1,14 +1,14 @@
 //! What ran, and how it ended.
 
-ghost use Rattle.std.specs.Prelude.{◌≡◌, ℕ, IfOk, map};
+ghost use Rattle.std.specs.Prelude.{◌≡◌, ℕ, if◌then◌else◌, IfOk, map};
 ghost use Rattle.dv_conservative.specs.World.{new_world};
 ghost use Rattle.dv_core.specs.Worlds.{EndsAs, IsTrueToModel, kept_by, shown};
 ghost use Rattle.dv_stream.specs.Endings.{HasRunInRounds, by_rounds};
+ghost use Rattle.dv_stream.specs.declared.ran.RunEnded.TheVariants.{Whole};
 
 use crate::clocks::clocks_of;
 use crate::written::Written;
 use dv_core::{Ended, LogicalProcess, PlannedJob, World};
-use dv_plan::Committed;
 use dv_time::Time;
 use std::alloc::{AllocError, Global};
 
@@ -53,22 +53,18 @@ pub struct RanByWorkers<C> {
     pub cause: Option<C>,
 }
 
-/// The answer of a run in rounds, from what its processes committed and what was written of it.
-pub fn ran_in_rounds(committed: Committed, written: Written) -> Ran
-    ensures clocks { result.clocks ≡ committed.clocks }
-    ensures ended { result.ended ≡ by_rounds committed.ended }
-    ensures written { result.written ≡ written }
+// How a run in rounds ended, by whether every clock is at the end. If memory is refused to a packet
+// after the last turns, the rounds are cut, but the run is whole.
+fn ended_by_rounds(is_whole: bool, ended: Ended) -> RunEnded
+    ensures { result ≡ (if is_whole then Whole else by_rounds ended) }
 {
-    let Committed { clocks, ended } = committed;
-    let ended = match ended {
+    if is_whole {
+        return RunEnded::Whole;
+    }
+    match ended {
         Ended::Whole => RunEnded::Whole,
         Ended::Stalled => RunEnded::Cut(Why::Rounds),
         Ended::Memory => RunEnded::Cut(Why::Memory),
-    };
-    Ran {
-        clocks,
-        ended,
-        written,
     }
 }
 
@@ -92,5 +88,10 @@ pub(crate) fn ran_in_world<J: PlannedJob, P: LogicalProcess>(
     ensures written { IfOk result (λ r. r.written ≡ written) }
 {
     let clocks = clocks_of(alloc, world.processes())?;
-    Ok(ran_in_rounds(Committed { clocks, ended }, written))
+    let ended = ended_by_rounds(world.whole(), ended);
+    Ok(Ran {
+        clocks,
+        ended,
+        written,
+    })
 }

@@ -22,7 +22,7 @@ returns-clause-ended g c =
     if_workers_ended _ _ _ _ c.args.options.now _ _ _
     c.in_ok-links.ensures.planned
     c.in_ok-ran.field-0.ran (g.W.Write.contents c.args.writer.now) (g.W.Write.contents c.compiled_workers.new.writer)
-    (g.W.Write.contents c.write_end.new.writer) c.in_ok-ran.ensures.printed c.in_ok-ran.ensures.ended c.in_ok-ran.ensures.partial
+    (g.W.Write.contents c.write_end.new.writer) c.in_ok-ran.ensures.printed c.in_ok-ran.ensures.ended
     (Ok c.in_ok-ended.ended) c.in_ok-ended.ensures.ending c.in_ok-ended.ensures.text
 
 pub returns-in_err-ended-clause-error : goal.returns-in_err-ended-clause-error

@@ -3,15 +3,12 @@ use Rattle.dv_devs.specs.Clocks.{least_rank}
 use Rattle.dv_time.specs.Time.{rank}
 use Rattle.dv_partition.specs.Groups.{owner_of}
 use Rattle.dv_syntax.specs.Trees.{file_of}
-use Rattle.dv_run.specs.Texts.{text_job}
 use Rattle.dv_text.proofs.Taking.{OnErr-always}
 use Rattle.dv_plan.specs.Clocks.{least_time}
 use Rattle.dv_plan.proofs.LeastClock.{least_time_rank}
 use Rattle.dv_stream.specs.Clocks.{AreWithin}
-use Rattle.dv_stream.specs.declared.ran.RunEnded.{RunEnded}
-use Rattle.dv_run.specs.Runs.{AreAtEnd}
 use Rattle.dv_run.proofs.Merging.{Leaves, merges}
-use Rattle.dv_run.proofs.Traces.{Laws, each_clock, is_cut_short, is_printed, is_run, nothing_printed, ran_at_end, ran_of_run}
+use Rattle.dv_run.proofs.Traces.{Laws, each_clock, is_cut_short, is_printed, is_run, nothing_printed, ran_of_run}
 use Rattle.dv_run.proofs.Traces.{ran_within, some_clocks}
 use Rattle.dv_run.proofs.compiled.compiled_run.Goals as goal
 
@@ -88,12 +85,9 @@ returns-clause-run g c =
     ap (rank j.limit) (is.least ∙ ap (λ ts. least_time ts.items) so.clocks)
     ∙ least_time_rank j.limit done.clocks.items some (ran_of_run j capacity rounds done so.run)
     ∙ ap (λ ts. least_rank j.limit ts.items) (sym so.clocks) in
-    let at_end : AreAtEnd (text_job j) r.ended r.clocks.items =
-    subst (λ ts. AreAtEnd (text_job j) r.ended ts.items) (sym so.clocks)
-    (subst (λ (e : RunEnded). AreAtEnd (text_job j) e done.clocks.items) (sym so.ended) (ran_at_end j capacity rounds done so.run)) in
     is_run j capacity rounds done so.run {old = g.W.Write.contents c.args.writer.now}
     {new = g.W.Write.contents c.run_components.new.writer} r so.clocks so.ended
     (is_printed j c.requires.text c.requires.accepted laws r is.written mark
     (subst (λ ts. 0 < length ts.items) (sym so.clocks) some) (each_clock j capacity rounds done so.run r so.clocks)
-    (subst (λ ts. AreWithin j.horizon j.limit ts.items) (sym so.clocks) (ran_within j capacity rounds done so.run)) at_end)
+    (subst (λ ts. AreWithin j.horizon j.limit ts.items) (sym so.clocks) (ran_within j capacity rounds done so.run)) so.whole)
     is.enough

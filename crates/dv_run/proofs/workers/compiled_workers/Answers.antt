@@ -1,10 +1,9 @@
 use Rattle.std.proofs.Common.{ℕ, ◌<◌, subst}
 use Rattle.dv_partition.specs.Groups.{owner_of}
-use Rattle.dv_run.specs.Texts.{text_job}
 use Rattle.dv_syntax.specs.Trees.{file_of}
 use Rattle.dv_text.proofs.Taking.{OnErr-always}
 use Rattle.dv_run.proofs.Merging.{Leaves, merges}
-use Rattle.dv_run.proofs.Traces.{Laws, is_cut_short, is_printed, nothing_printed, cut_before_end}
+use Rattle.dv_run.proofs.Traces.{Laws, is_cut_short, is_printed, nothing_printed}
 use Rattle.dv_run.proofs.workers.compiled_workers.Goals as goal
 
 pub lone_components-requires : goal.lone_components-requires
@@ -73,16 +72,10 @@ returns-clause-printed g c =
     let is = c.in_ok-worked.ensures in
     is_printed j c.requires.text c.requires.accepted laws {old = g.W.Write.contents c.args.writer.now}
     {new = g.W.Write.contents c.work_components.new.writer} r is.written is.run.least is.run.some_clocks is.run.count is.run.within
-    is.run.whole.0
+    is.run.whole
 
 pub returns-clause-ended : goal.returns-clause-ended
 returns-clause-ended g c = c.in_ok-worked.ensures.run.ended
 
 pub returns-clause-cause : goal.returns-clause-cause
 returns-clause-cause g c = c.in_ok-worked.ensures.run.cause
-
-pub returns-clause-partial : goal.returns-clause-partial
-returns-clause-partial g c = λ partial.
-    let j = c.args.job.now in
-    let is = c.in_ok-worked.ensures.run in
-    cut_before_end (text_job j) c.in_ok-worked.worked.ran.clocks.items is.some_clocks is.within (λ all. partial (is.whole.1 all))
