@@ -1,4 +1,5 @@
 pub mod Counted
+pub mod DeadEnds
 pub mod Loading
 pub mod Plans
 pub mod Printing

@@ -11,6 +11,8 @@ use Rattle.dv_lex.specs.Texts.{IsRefused, IsTokensOf, answer_to}
 use Rattle.dv_syntax.specs.Trees.{FileTree}
 use Rattle.dv_syntax.specs.Grammar.{IsFileOf}
 use Rattle.dv_parser.specs.Reading.{refusal_of_tokens, IsRefused as AreRefused}
+use Rattle.law_dead_ends.specs.Refusals.{IsDeadEnd}
+use Rattle.dv_job.proofs.DeadEnds.{FirstWrongLaws, no_dead_end, one_dead_end}
 use Rattle.dv_check.specs.Refusals.{IsAnswerTo, refusal_of}
 use Rattle.std.specs.Option.{option_or}
 use Rattle.dv_check.specs.CheckedFiles.{IsCheckedFile}
@@ -30,11 +32,16 @@ pub unlexed : {T : Type 0} (e : LoadError) (text : List ℕ) →
 unlexed (Refused r) text h = inl (h r refl)
 unlexed Memory text h = tt
 
+-- a refusal of tokens is where no file continues them
+abbrev pub RefusalsAreDeadEnds : Type 0
+RefusalsAreDeadEnds = (ts : List Token) (end : ℕ) (r : Refusal) → refusal_of_tokens ts end ≡ Some r → IsDeadEnd ts end r
+
 -- nor is one whose tokens are those of no file
-pub unparsed : (e : LoadError) (text : List ℕ) (names : List (List ℕ)) (tokens : List Token) → IsTokensOf text names tokens →
-    AreRefused e tokens (length text) → IsUnloaded e text
-unparsed (Refused r) text names tokens lexed unread = inr (inl (record { names = names; tokens = tokens; lexed = lexed; unread = unread }))
-unparsed Memory text names tokens lexed unread = tt
+pub unparsed : RefusalsAreDeadEnds → (e : LoadError) (text : List ℕ) (names : List (List ℕ)) (tokens : List Token) →
+    IsTokensOf text names tokens → AreRefused e tokens (length text) → IsUnloaded e text
+unparsed laws (Refused r) text names tokens lexed unread =
+    inr (inl (record { names = names; tokens = tokens; lexed = lexed; dead = laws tokens (length text) r unread }))
+unparsed laws Memory text names tokens lexed unread = tt
 
 -- the refusal of a file that breaks a rule, and of one that has too many links
 broken : (o links : Option Refusal) (r : Refusal) → o ≡ Some r → option_or o links ≡ Some r
@@ -121,7 +128,8 @@ pub record TokenLaws : Type 0 where
 pub record FileLaws : Type 0 where
   pub some : (ts : List Token) (end : ℕ) → ((f : FileTree) × IsFileOf ts f) ⊎ ((r : Refusal) × (refusal_of_tokens ts end ≡ Some r))
   pub one_file : (ts : List Token) (f g : FileTree) → IsFileOf ts f → IsFileOf ts g → f ≡ g
-  pub not_both : (ts : List Token) (end : ℕ) (f : FileTree) → IsFileOf ts f → refusal_of_tokens ts end ≡ None
+  pub dead : RefusalsAreDeadEnds
+  pub first_wrong : FirstWrongLaws
 
 same_in_option : (o : Option Refusal) (r other : Refusal) → o ≡ Some r → o ≡ Some other → r ≡ other
 same_in_option o r other is also = let same : Some r ≡ Some other = sym is ∙ also in cc
@@ -136,11 +144,10 @@ module _ (tokens_law : TokenLaws) (files_law : FileLaws) where
   same_tokens text names others tokens more one two = (tokens_law.one_list text names others tokens more one two).1
 
   no_file_and_file : (text : List ℕ) (names others : List (List ℕ)) (tokens more : List Token) (f : FileTree) (r : Refusal) →
-      IsTokensOf text names tokens → refusal_of_tokens tokens (length text) ≡ Some r → IsTokensOf text others more → IsFileOf more f → ⊥
-  no_file_and_file text names others tokens more f r one unread two parsed =
-      none_or_some (refusal_of_tokens tokens (length text)) r
-      (subst (λ (ts : List Token). refusal_of_tokens ts (length text) ≡ None) (sym (same_tokens text names others tokens more one two))
-      (files_law.not_both more (length text) f parsed)) unread
+      IsTokensOf text names tokens → IsDeadEnd tokens (length text) r → IsTokensOf text others more → IsFileOf more f → ⊥
+  no_file_and_file text names others tokens more f r one dead two parsed =
+      no_dead_end files_law.first_wrong tokens (length text) r f
+      (subst (λ (ts : List Token). IsFileOf ts f) (sym (same_tokens text names others tokens more one two)) parsed) dead
 
   same_file : (text : List ℕ) (names others : List (List ℕ)) (tokens more : List Token) (f g : FileTree) → IsTokensOf text names tokens →
       IsFileOf tokens f → IsTokensOf text others more → IsFileOf more g → f ≡ g
@@ -150,9 +157,9 @@ module _ (tokens_law : TokenLaws) (files_law : FileLaws) where
 
   one_unread : (text : List ℕ) (r other : Refusal) → HasNoFile text r → HasNoFile text other → r ≡ other
   one_unread text r other one two =
-      same_in_option (refusal_of_tokens one.tokens (length text)) r other one.unread
-      (subst (λ (ts : List Token). refusal_of_tokens ts (length text) ≡ Some other)
-      (sym (same_tokens text one.names two.names one.tokens two.tokens one.lexed two.lexed)) two.unread)
+      one_dead_end files_law.first_wrong one.tokens (length text) r other one.dead
+      (subst (λ (ts : List Token). IsDeadEnd ts (length text) other)
+      (sym (same_tokens text one.names two.names one.tokens two.tokens one.lexed two.lexed)) two.dead)
 
   one_refused : (text : List ℕ) (r other : Refusal) → IsRefusedFile text r → IsRefusedFile text other → r ≡ other
   one_refused text r other one two =
@@ -165,9 +172,9 @@ module _ (tokens_law : TokenLaws) (files_law : FileLaws) where
       HasNoFile text other ⊎ IsRefusedFile text other → r ≡ other
   one_later text r other (inl one) (inl two) = one_unread text r other one two
   one_later text r other (inl one) (inr two) =
-      absurd (no_file_and_file text one.names two.names one.tokens two.tokens two.file r one.lexed one.unread two.lexed two.parsed)
+      absurd (no_file_and_file text one.names two.names one.tokens two.tokens two.file r one.lexed one.dead two.lexed two.parsed)
   one_later text r other (inr one) (inl two) =
-      absurd (no_file_and_file text two.names one.names two.tokens one.tokens one.file other two.lexed two.unread one.lexed one.parsed)
+      absurd (no_file_and_file text two.names one.names two.tokens one.tokens one.file other two.lexed two.dead one.lexed one.parsed)
   one_later text r other (inr one) (inr two) = one_refused text r other one two
 
   -- what is refused behind its tokens has tokens
@@ -197,7 +204,7 @@ module _ (tokens_law : TokenLaws) (files_law : FileLaws) where
       IsRefusedText text r → ⊥
   model_and_refusal text names f r m (inl none) = tokens_law.not_both text names m.tokens r m.lexed none
   model_and_refusal text names f r m (inr (inl two)) =
-      no_file_and_file text two.names names two.tokens m.tokens f r two.lexed two.unread m.lexed m.parsed
+      no_file_and_file text two.names names two.tokens m.tokens f r two.lexed two.dead m.lexed m.parsed
   model_and_refusal text names f r m (inr (inr two)) =
       none_or_some (file_refusal f) r (linked (refusal_of f) (link_refusal f) m.checked ∙ m.few)
       (subst (λ (g : FileTree). file_refusal g ≡ Some r)
@@ -222,7 +229,12 @@ module _ (tokens_law : TokenLaws) (files_law : FileLaws) where
   of_tokens text names tokens lexed = elim (files_law.some tokens (length text)) [
     | inl file ↦ of_file text names tokens file.0 (file_refusal file.0) refl lexed file.1
     | inr refused ↦ inr (refused_so text refused.0
-        (inr (inl (record { names = names; tokens = tokens; lexed = lexed; unread = refused.1 }))))
+        (inr (inl (record {
+          names = names;
+          tokens = tokens;
+          lexed = lexed;
+          dead = files_law.dead tokens (length text) refused.0 refused.1;
+        }))))
   ]
 
   pub some_answer : (text : List ℕ) → HasModel text ⊎ HasAnswer text

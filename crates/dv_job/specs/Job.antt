@@ -6,7 +6,7 @@ use Rattle.dv_lex.specs.declared.error.TextError.{TextError}
 use Rattle.dv_lex.specs.Texts.{IsTokensOf, IsRefused as HasNoTokens, answer_to}
 use Rattle.dv_syntax.specs.Trees.{FileTree}
 use Rattle.dv_syntax.specs.Grammar.{IsFileOf}
-use Rattle.dv_parser.specs.Reading.{refusal_of_tokens}
+use Rattle.law_dead_ends.specs.Refusals.{IsDeadEnd}
 use Rattle.dv_check.specs.Refusals.{refusal_of}
 use Rattle.dv_flat.specs.Limit.{file_refusal, link_refusal}
 use Rattle.dv_bag.specs.declared.inputs.Input.{Input}
@@ -32,12 +32,12 @@ pub record IsModelOf (text : List ℕ) (names : List (List ℕ)) (f : FileTree) 
   pub checked : refusal_of f ≡ None
   pub few : link_refusal f ≡ None
 
--- the tokens of the text spell no file, and this refusal is where this shows
+-- the tokens of the text spell no file: behind the token that the refusal names, no file continues them
 pub record HasNoFile (text : List ℕ) (r : Refusal) : Type 0 where
   pub names : List (List ℕ)
   pub tokens : List Token
   pub lexed : IsTokensOf text names tokens
-  pub unread : refusal_of_tokens tokens (length text) ≡ Some r
+  pub dead : IsDeadEnd tokens (length text) r
 
 -- this is the first of the refusals of the file of the text
 pub record IsRefusedFile (text : List ℕ) (r : Refusal) : Type 0 where

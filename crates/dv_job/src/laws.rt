@@ -10,6 +10,7 @@ use dv_lex::laws::{
     a_text_has_tokens_or_a_refusal, refusals_are_unique, tokens_are_unique, tokens_or_refused,
 };
 use dv_parser::laws::{tokens_have_one_answer, tokens_spell_one_file};
+use law_dead_ends::laws::{a_first_wrong_token_is_one, refusals_are_dead_ends};
 
 /// A text has exactly one answer: a model, or a number with its line.
 pub fn a_text_has_one_answer()
@@ -27,4 +28,6 @@ pub fn a_text_has_one_answer()
     refusals_are_unique();
     tokens_spell_one_file();
     tokens_have_one_answer();
+    refusals_are_dead_ends();
+    a_first_wrong_token_is_one();
 }

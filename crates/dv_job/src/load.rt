@@ -22,6 +22,7 @@ use dv_lex::{LoadError, answer, tokens};
 use dv_parser::parse;
 use dv_partition::{Groups, Partition, PartitionError, counted_groups, partition};
 use dv_tree::Tree;
+use law_dead_ends::laws::refusals_are_dead_ends;
 use std::alloc::Global;
 
 /// Reads and checks a text. Its links are not counted yet.
@@ -44,6 +45,8 @@ fn read(alloc: Global, text: &[u8]) -> Result<Checked, LoadError>
     ensures checked { IfOk result (λ c. IsCheckedFileOf text.now c.names (file_of c.file)) }
     ensures refused { IfErr result (λ e. IsUnloaded e text.now) }
 {
+    // For the prover alone: no file continues the tokens of a refusal.
+    refusals_are_dead_ends();
     let lexed = tokens(alloc, text)?;
     let file = parse(alloc, &lexed.tokens, text.len() as u32)?;
     // A text may have millions of tokens, and nothing needs them from here on.
