@@ -17,8 +17,9 @@ use Rattle.dv_devs.specs.Network.{Network, trace_before}
 use Rattle.dv_devs.specs.NextTimes.{IsReady}
 use Rattle.dv_devs.specs.Parts.{part_before}
 use Rattle.dv_conservative.specs.Flat.{whole}
-use Rattle.dv_conservative.specs.World.{Channel, Job, new_world}
-use Rattle.dv_core.specs.Worlds.{EndsAs, end_time}
+use Rattle.dv_conservative.specs.World.{Channel, Job, Reply, World, new_world}
+use Rattle.dv_conservative.specs.World.{Step as Does}
+use Rattle.dv_core.specs.Worlds.{EndsAs, IsRunWithProgress, end_time, with_replies}
 use Rattle.dv_core.proofs.Driving.{enough_rounds}
 use Rattle.dv_core.specs.declared.step.Step.{Step}
 use Rattle.dv_core.specs.declared.step.Ended.{Ended}
@@ -29,6 +30,7 @@ use Rattle.dv_run.specs.declared.text_job.TextJob.{TextJob}
 use Rattle.dv_plan.specs.Runs.{HasRun, HasStepped}
 use Rattle.dv_plan.specs.declared.ran.Committed.{Committed}
 use Rattle.dv_plan.specs.declared.ran.Stepped.{Stepped}
+use Rattle.law_rules.specs.Jobs.{job_by_rules}
 use Rattle.law_sound.specs.Members.{flat_of}
 use Rattle.dv_partition.specs.Groups.{owner_of}
 use Rattle.dv_text.specs.Names.{component_names, root_ports}
@@ -160,6 +162,16 @@ module _ (j : TextJob) (text : AreOfOneText j.tree.now.names (file_of j.tree.now
 
 -- ---- In rounds
 
+-- rounds by programs are rounds by rules
+abbrev pub job_of_rules : TextJob → Job
+job_of_rules j =
+    job_by_rules j.limit j.horizon (file_of j.tree.now.file) j.inputs.now j.groups.now.processes (owner_of j.groups.now)
+
+abbrev pub EndByRules : TextJob → (capacity rounds : ℕ) → Type 0
+EndByRules j capacity rounds =
+    (ended : Ended) (w : World) → EndsAs (text_job j) rounds ended (new_world capacity) w
+    → EndsAs (job_of_rules j) rounds ended (new_world capacity) w
+
 module _ (j : TextJob) (capacity rounds : ℕ) (c : Committed) (ran : HasRun (text_job j) capacity rounds c) where
   abbrev ran_job : Job
   ran_job = text_job j
@@ -187,9 +199,9 @@ module _ (j : TextJob) (capacity rounds : ℕ) (c : Committed) (ran : HasRun (te
 
   pub is_run : {old new : Option (List ℕ)} (r : Ran) → r.clocks ≡ c.clocks → (r.ended ≢ told.Whole → r.ended ≡ by_rounds c.ended)
       → IsPrinted j.tree.now.names (file_of j.tree.now.file) j.inputs.now j.groups.now j.horizon j.limit old new r
-      → (0 < capacity → end_of j.limit j.horizon + 1 ≤ rounds → r.ended ≢ told.Cut why.Rounds)
+      → (0 < capacity → end_of j.limit j.horizon + 1 ≤ rounds → r.ended ≢ told.Cut why.Rounds) → EndByRules j capacity rounds
       → IsRunOf j.tree.now.names (file_of j.tree.now.file) j.inputs.now j.groups.now j.horizon j.limit capacity rounds old new r
-  is_run r same ended printed enough = record {
+  is_run r same ended printed enough by_rules = record {
     printed = printed;
     stalls = λ e holds. elim (cases_lt (end_of j.limit j.horizon) rounds) [
       | inl more ↦ absurd (enough holds (omega (arith, more)) e)
@@ -199,7 +211,7 @@ module _ (j : TextJob) (capacity rounds : ℕ) (c : Committed) (ran : HasRun (te
     ended_so = ended;
     led = record {
       world = ran.world;
-      ends = ran.ends;
+      ends = by_rules c.ended ran.world ran.ends;
       count = each_clock r same;
       clocks = λ p t at. ran.handed.clocks p t (ap (λ ts. slice_get ts.items p) (sym same) ∙ at);
     };
@@ -217,13 +229,19 @@ enough_of j capacity rounds ends (Err e) h = tt
 
 -- ---- Steps
 
+-- steps by programs are steps by rules
+abbrev pub StepByRules : TextJob → (capacity : ℕ) → Type 0
+StepByRules j capacity =
+    (steps : List (Does × Reply)) (w : World) → IsRunWithProgress (text_job j) steps (new_world capacity) w
+    → IsRunWithProgress (job_of_rules j) steps (new_world capacity) w
+
 pub is_stepped : (names : List (List ℕ)) (j : TextJob) → AreOfOneText names (file_of j.tree.now.file)
     → refusal_of (file_of j.tree.now.file) ≡ None → PartsOfTheText → (capacity : ℕ) (steps : List Step) (s : Stepped)
-    → HasStepped (text_job j) capacity steps s
+    → StepByRules j capacity → HasStepped (text_job j) capacity steps s
     → IsStepped (file_of j.tree.now.file) j.inputs.now j.groups.now j.horizon j.limit capacity steps s
-is_stepped names j text accepted parts capacity steps s h = record {
+is_stepped names j text accepted parts capacity steps s by_rules h = record {
   world = h.world;
-  run = h.run;
+  run = by_rules (with_replies steps s.replies.items) h.world h.run;
   each = h.each;
   clocks = h.handed.clocks;
   count = (h.handed.count, h.handed.long);

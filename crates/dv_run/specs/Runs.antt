@@ -17,7 +17,7 @@ use Rattle.dv_core.specs.declared.step.Ended.{Ended}
 use Rattle.dv_partition.specs.Groups.{Grouping, owner_of}
 use Rattle.dv_plain.specs.Source.{network_of, outside}
 use Rattle.dv_plan.specs.declared.ran.Stepped.{Stepped}
-use Rattle.law_sound.specs.Jobs.{job_of}
+use Rattle.law_rules.specs.Jobs.{job_by_rules}
 use Rattle.dv_stream.specs.Clocks.{AreWithin}
 use Rattle.dv_stream.specs.Endings.{by_rounds}
 use Rattle.dv_stream.specs.declared.ran.Ran.{Ran}
@@ -32,7 +32,7 @@ use Rattle.dv_text.specs.Writing.{AppendsBeginning}
 pub record LedTo (f : FileTree) (played : List Input) (groups : Grouping) (horizon limit capacity rounds : ℕ) (ended : Ended)
     (times : List Time) : Type 0 where
   pub world : World
-  pub ends : EndsAs (job_of limit horizon f played groups.processes (owner_of groups)) rounds ended (new_world capacity) world
+  pub ends : EndsAs (job_by_rules limit horizon f played groups.processes (owner_of groups)) rounds ended (new_world capacity) world
   pub count : length times ≡ groups.processes
   pub clocks : (p : ℕ) (t : Time) → slice_get times p ≡ Some t → world.clock p ≡ t
 
@@ -77,7 +77,7 @@ pub record IsCutShort (names : List (List ℕ)) (f : FileTree) (played : List In
 pub record IsStepped (f : FileTree) (played : List Input) (groups : Grouping) (horizon limit capacity : ℕ) (steps : List Step)
     (s : Stepped) : Type 0 where
   pub world : World
-  pub run : IsRunWithProgress (job_of limit horizon f played groups.processes (owner_of groups)) (with_replies steps s.replies.items)
+  pub run : IsRunWithProgress (job_by_rules limit horizon f played groups.processes (owner_of groups)) (with_replies steps s.replies.items)
       (new_world capacity) world
   pub each : vec_len s.replies ≡ length steps
   pub clocks : (p : ℕ) (t : Time) → slice_get s.clocks.items p ≡ Some t → world.clock p ≡ t

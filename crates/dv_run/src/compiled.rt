@@ -25,6 +25,7 @@ use dv_plain::laws::networks_of_texts;
 use dv_stream::{Bounds, Ran, stream_plan};
 use dv_text::WriteError;
 use dv_text::laws::a_trace_is_its_instants;
+use law_rules::laws::runs_by_programs_are_runs_by_rules;
 use law_sound::jobs::parts_of_the_flat_model_are_those_of_the_text;
 use law_sound::outside::what_leaves_a_flat_model_is_linear;
 use std::alloc::Global;
@@ -58,13 +59,14 @@ pub fn compiled_run<W: Write>(
 {
     // For the prover alone: the atomic models of an accepted text have programs; its flat model has
     // its trace, whose lines are those of its instants; what its processes commit can be merged;
-    // and each component is in a process.
+    // what they do by programs they may do by rules; and each component is in a process.
     texts_are_compilable();
     parts_of_the_flat_model_are_those_of_the_text();
     parts_are_of_the_trace::<Bags>();
     networks_of_texts();
     a_trace_is_its_instants::<Bags>();
     what_leaves_a_flat_model_is_linear();
+    runs_by_programs_are_runs_by_rules();
     let _processes = job.groups.processes();
     let mut bench = Bench::new(alloc);
     let components = components_of(&mut bench, job.tree, job.limit)?;

@@ -15,6 +15,7 @@ use dv_core::Step;
 use dv_flat::LinkLists;
 use dv_gen::laws::texts_are_compilable;
 use dv_plan::{Stepped, step_plan};
+use law_rules::laws::runs_by_programs_are_runs_by_rules;
 use law_sound::jobs::parts_of_the_flat_model_are_those_of_the_text;
 use std::alloc::{AllocError, Global};
 
@@ -41,10 +42,11 @@ pub fn compiled_steps(
     ensures { IfOk result (IsStepped (file_of job.now.tree.now.file) job.now.inputs.now
         job.now.groups.now job.now.horizon job.now.limit capacity steps.now) }
 {
-    // For the prover alone: the atomic models of an accepted text have programs, and the parts of
-    // its flat model are those of the text.
+    // For the prover alone: the atomic models of an accepted text have programs, the parts of its
+    // flat model are those of the text, and what processes do by programs they may do by rules.
     texts_are_compilable();
     parts_of_the_flat_model_are_those_of_the_text();
+    runs_by_programs_are_runs_by_rules();
     let mut bench = Bench::new(alloc);
     let components = components_of(&mut bench, job.tree, job.limit)?;
     Ok(step_components(alloc, job, components, links, &mut bench, steps, capacity)?)

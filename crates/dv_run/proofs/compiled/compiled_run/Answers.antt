@@ -91,3 +91,5 @@ returns-clause-run g c =
     (subst (λ ts. 0 < length ts.items) (sym so.clocks) some) (each_clock j capacity rounds done so.run r so.clocks)
     (subst (λ ts. AreWithin j.horizon j.limit ts.items) (sym so.clocks) (ran_within j capacity rounds done so.run)) so.whole)
     is.enough
+    (λ ended w. c.runs_by_programs_are_runs_by_rules.ensures.rounds j.tree.now.names f j.inputs.now j.limit j.horizon
+    j.groups.now.processes capacity rounds (owner_of j.groups.now) ended w c.requires.text c.requires.accepted)

@@ -1,3 +1,4 @@
+use Rattle.dv_partition.specs.Groups.{owner_of}
 use Rattle.dv_syntax.specs.Trees.{file_of}
 use Rattle.dv_run.proofs.Traces.{is_stepped}
 use Rattle.dv_run.proofs.steps.compiled_steps.Goals as goal
@@ -23,4 +24,6 @@ returns c =
     let j = c.args.job.now in
     is_stepped j.tree.now.names j c.requires.text c.requires.accepted
     c.parts_of_the_flat_model_are_those_of_the_text.ensures.part c.args.capacity c.args.steps.now c.in_ok-step_components.field-0
+    (λ steps w. c.runs_by_programs_are_runs_by_rules.ensures.steps j.tree.now.names (file_of j.tree.now.file) j.inputs.now j.limit
+    j.horizon j.groups.now.processes c.args.capacity (owner_of j.groups.now) steps w c.requires.text c.requires.accepted)
     c.in_ok-step_components.ensures

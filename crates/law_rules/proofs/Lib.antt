@@ -1,0 +1,4 @@
+pub mod Pairs
+pub mod Shares
+pub mod Steps
+pub mod Texts
