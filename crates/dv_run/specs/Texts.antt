@@ -1,10 +1,11 @@
 -- A text as a job, with its components as programs, and its links.
-use Rattle.std.specs.Prelude.{◌≡◌, ℕ, List, map}
+use Rattle.std.specs.Prelude.{◌≡◌, ℕ, List, None, map}
 use Rattle.std.specs.List.{All}
 use Rattle.dv_bag.specs.declared.response.Response.{Response}
 use Rattle.dv_bag.specs.Responses.{ticks_of}
 use Rattle.dv_bound.specs.Response.{response_of}
 use Rattle.dv_bound.specs.Short.{IsShort}
+use Rattle.dv_check.specs.Refusals.{AreOfOneText, refusal_of}
 use Rattle.dv_coded.specs.Components.{StandsAmong}
 use Rattle.dv_coded.specs.Models.{behaviour_of}
 use Rattle.dv_coded.specs.declared.programs.Programs.{Programs}
@@ -15,7 +16,7 @@ use Rattle.dv_partition.specs.Groups.{owner_of}
 use Rattle.dv_share.specs.Indices.{AreRising}
 use Rattle.dv_share.specs.Share.{member_by, numbers_of}
 use Rattle.dv_share.specs.declared.tables.Member.{Member}
-use Rattle.law_sound.specs.Jobs.{job_of}
+use Rattle.law_sound.specs.Jobs.{AllInputNumbers, job_of}
 use Rattle.law_sound.specs.Members.{members_from}
 use Rattle.dv_syntax.specs.Trees.{FileTree, file_of}
 use Rattle.dv_tree.specs.Instances.{Instance, instances}
@@ -39,3 +40,10 @@ pub record AreLinksOf (f : FileTree) (links : LinkLists) : Type 0 where
   pub direct : links.direct.items ≡ direct_links f
   pub entries : links.entries.items ≡ entry_links f
   pub exits : links.exits.items ≡ exit_links f
+
+-- A text is ready to be run with these links: it is accepted, the values of its inputs are numbers, and the links are those of its file.
+pub record IsReady (j : TextJob) (given : LinkLists) : Type 0 where
+  pub text : AreOfOneText j.tree.now.names (file_of j.tree.now.file)
+  pub accepted : refusal_of (file_of j.tree.now.file) ≡ None
+  pub numbers : AllInputNumbers j.inputs.now
+  pub links : AreLinksOf (file_of j.tree.now.file) given

@@ -1,12 +1,10 @@
 //! Runs the compiled model of a text in rounds.
 
-ghost use Rattle.std.specs.Prelude.{◌≢◌, ◌+◌, ◌<◌, ◌≤◌, ◌≡◌, None, IfOk, OnErr};
+ghost use Rattle.std.specs.Prelude.{◌≢◌, ◌+◌, ◌<◌, ◌≤◌, ◌≡◌, IfOk, OnErr};
 ghost use Rattle.dv_board.specs.Jobs.{IsMergeable};
-ghost use Rattle.dv_check.specs.Refusals.{AreOfOneText, refusal_of};
-ghost use Rattle.dv_run.specs.Texts.{AreComponentsOf, AreLinksOf, text_job};
+ghost use Rattle.dv_run.specs.Texts.{AreComponentsOf, IsReady, text_job};
 ghost use Rattle.dv_run.specs.Runs.{IsCutShort, IsRunOf};
 ghost use Rattle.dv_plan.specs.Clocks.{least_time};
-ghost use Rattle.law_sound.specs.Jobs.{AllInputNumbers};
 ghost use Rattle.dv_stream.specs.Endings.{HasRunInRounds};
 ghost use Rattle.dv_stream.specs.Written.{IsBegun, IsWrittenTo};
 ghost use Rattle.dv_stream.specs.declared.ran.RunEnded.TheVariants.{Cut};
@@ -46,10 +44,7 @@ pub fn compiled_run<W: Write>(
     bounds: Bounds,
     writer: &mut W,
 ) -> Result<Ran, WriteError>
-    requires text { AreOfOneText job.now.tree.now.names (file_of job.now.tree.now.file) }
-    requires accepted { refusal_of (file_of job.now.tree.now.file) ≡ None }
-    requires numbers { AllInputNumbers job.now.inputs.now }
-    requires links { AreLinksOf (file_of job.now.tree.now.file) links.now }
+    requires { IsReady job.now links.now }
     ensures run { IfOk result (IsRunOf job.now.tree.now.names (file_of job.now.tree.now.file)
         job.now.inputs.now job.now.groups.now job.now.horizon job.now.limit bounds.capacity
         bounds.rounds (W.contents writer.old) (W.contents writer.new)) }
@@ -84,12 +79,9 @@ fn run_components<W: Write>(
     bounds: Bounds,
     writer: &mut W,
 ) -> Result<Ran, WriteError>
-    requires text { AreOfOneText job.now.tree.now.names (file_of job.now.tree.now.file) }
-    requires accepted { refusal_of (file_of job.now.tree.now.file) ≡ None }
-    requires numbers { AllInputNumbers job.now.inputs.now }
+    requires ready { IsReady job.now links.now }
     requires components { AreComponentsOf (file_of job.now.tree.now.file) job.now.limit
         components.models.items components.members.items components.responses.items }
-    requires links { AreLinksOf (file_of job.now.tree.now.file) links.now }
     requires merges { IsMergeable (text_job job.now) }
     ensures some { IfOk result (λ _. 0 < (text_job job.now).processes) }
     ensures run { IfOk result (HasRunInRounds (text_job job.now) bounds.capacity bounds.rounds) }

@@ -1,11 +1,9 @@
 //! Makes a plan of a text that can be run.
 
-ghost use Rattle.std.specs.Prelude.{◌<◌, ◌≡◌, None, IfOk};
-ghost use Rattle.dv_check.specs.Refusals.{AreOfOneText, refusal_of};
+ghost use Rattle.std.specs.Prelude.{◌<◌, IfOk};
 ghost use Rattle.dv_coded.specs.Lent.{behaviour_of_lent, lent_takes};
-ghost use Rattle.dv_run.specs.Texts.{AreComponentsOf, AreLinksOf, text_job};
+ghost use Rattle.dv_run.specs.Texts.{AreComponentsOf, IsReady, text_job};
 ghost use Rattle.dv_plan.specs.Beginning.{CanRun};
-ghost use Rattle.law_sound.specs.Jobs.{AllInputNumbers};
 ghost use Rattle.dv_syntax.specs.Trees.{file_of};
 
 use crate::numbers::shares_have_numbers;
@@ -34,12 +32,9 @@ pub fn plan_of<'m>(
     responses: Vec<Response>,
     links: &LinkLists,
 ) -> Result<Plan<Lent<'m>>, AllocError>
-    requires text { AreOfOneText job.now.tree.now.names (file_of job.now.tree.now.file) }
-    requires accepted { refusal_of (file_of job.now.tree.now.file) ≡ None }
-    requires numbers { AllInputNumbers job.now.inputs.now }
+    requires ready { IsReady job.now links.now }
     requires components { AreComponentsOf (file_of job.now.tree.now.file) job.now.limit models.now
         members.items responses.items }
-    requires links { AreLinksOf (file_of job.now.tree.now.file) links.now }
     ensures run { IfOk result (CanRun text_job behaviour_of_lent lent_takes job.now) }
     ensures some { 0 < (text_job job.now).processes }
 {

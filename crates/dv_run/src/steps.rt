@@ -1,11 +1,9 @@
 //! Runs the compiled model of a text by a list of steps.
 
-ghost use Rattle.std.specs.Prelude.{◌≡◌, None, IfOk};
-ghost use Rattle.dv_check.specs.Refusals.{AreOfOneText, refusal_of};
-ghost use Rattle.dv_run.specs.Texts.{AreComponentsOf, AreLinksOf, text_job};
+ghost use Rattle.std.specs.Prelude.{IfOk};
+ghost use Rattle.dv_run.specs.Texts.{AreComponentsOf, IsReady, text_job};
 ghost use Rattle.dv_run.specs.Runs.{IsStepped};
 ghost use Rattle.dv_plan.specs.Runs.{HasStepped};
-ghost use Rattle.law_sound.specs.Jobs.{AllInputNumbers};
 ghost use Rattle.dv_syntax.specs.Trees.{file_of};
 
 use crate::plan::plan_of;
@@ -35,10 +33,7 @@ pub fn compiled_steps(
     steps: &[Step],
     capacity: usize,
 ) -> Result<Stepped, AllocError>
-    requires text { AreOfOneText job.now.tree.now.names (file_of job.now.tree.now.file) }
-    requires accepted { refusal_of (file_of job.now.tree.now.file) ≡ None }
-    requires numbers { AllInputNumbers job.now.inputs.now }
-    requires links { AreLinksOf (file_of job.now.tree.now.file) links.now }
+    requires { IsReady job.now links.now }
     ensures { IfOk result (IsStepped (file_of job.now.tree.now.file) job.now.inputs.now
         job.now.groups.now job.now.horizon job.now.limit capacity steps.now) }
 {
@@ -62,12 +57,9 @@ fn step_components(
     steps: &[Step],
     capacity: usize,
 ) -> Result<Stepped, AllocError>
-    requires text { AreOfOneText job.now.tree.now.names (file_of job.now.tree.now.file) }
-    requires accepted { refusal_of (file_of job.now.tree.now.file) ≡ None }
-    requires numbers { AllInputNumbers job.now.inputs.now }
+    requires ready { IsReady job.now links.now }
     requires components { AreComponentsOf (file_of job.now.tree.now.file) job.now.limit
         components.models.items components.members.items components.responses.items }
-    requires links { AreLinksOf (file_of job.now.tree.now.file) links.now }
     ensures { IfOk result (HasStepped (text_job job.now) capacity steps.now) }
 {
     let Components {

@@ -1,11 +1,9 @@
 //! Runs the compiled model of a text by workers.
 
-ghost use Rattle.std.specs.Prelude.{◌≢◌, ◌↔◌, ◌<◌, ◌≡◌, None, IfOk, IsSome, OnErr, length};
+ghost use Rattle.std.specs.Prelude.{◌≢◌, ◌↔◌, ◌<◌, ◌≡◌, IfOk, IsSome, OnErr, length};
 ghost use Rattle.dv_board.specs.Jobs.{IsMergeable};
-ghost use Rattle.dv_check.specs.Refusals.{AreOfOneText, refusal_of};
-ghost use Rattle.dv_run.specs.Texts.{AreComponentsOf, AreLinksOf, text_job};
+ghost use Rattle.dv_run.specs.Texts.{AreComponentsOf, IsReady, text_job};
 ghost use Rattle.dv_run.specs.Runs.{IsCutShort, IsPrinted};
-ghost use Rattle.law_sound.specs.Jobs.{AllInputNumbers};
 ghost use Rattle.dv_stream.specs.Endings.{HasRunByWorkers};
 ghost use Rattle.dv_stream.specs.Written.{IsBegun, IsWrittenTo};
 ghost use Rattle.dv_syntax.specs.Trees.{file_of};
@@ -63,10 +61,7 @@ pub fn compiled_workers<R: Threads + Wait + Sync, G: Watch, W: Write>(
     watch: &G,
     writer: &mut W,
 ) -> Result<RanByWorkers<G::Cause>, WriteError>
-    requires text { AreOfOneText job.now.tree.now.names (file_of job.now.tree.now.file) }
-    requires accepted { refusal_of (file_of job.now.tree.now.file) ≡ None }
-    requires numbers { AllInputNumbers job.now.inputs.now }
-    requires links { AreLinksOf (file_of job.now.tree.now.file) links.now }
+    requires ready { IsReady job.now links.now }
     requires workers { 0 < bounds.workers }
     requires capacity { 0 < bounds.capacity }
     ensures printed { IfOk result (λ r. IsPrinted job.now.tree.now.names
@@ -121,12 +116,9 @@ fn work_components<R: Threads + Wait + Sync, G: Watch, W: Write>(
     workers: Workers<'_, Bench, G>,
     writer: &mut W,
 ) -> Result<RanByWorkers<G::Cause>, WriteError>
-    requires text { AreOfOneText job.now.tree.now.names (file_of job.now.tree.now.file) }
-    requires accepted { refusal_of (file_of job.now.tree.now.file) ≡ None }
-    requires numbers { AllInputNumbers job.now.inputs.now }
+    requires ready { IsReady job.now links.now }
     requires components { AreComponentsOf (file_of job.now.tree.now.file) job.now.limit
         components.models.items components.members.items components.responses.items }
-    requires links { AreLinksOf (file_of job.now.tree.now.file) links.now }
     requires merges { IsMergeable (text_job job.now) }
     requires workers { 0 < length workers.works.items }
     requires capacity { 0 < workers.capacity }

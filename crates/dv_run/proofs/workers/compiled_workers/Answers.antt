@@ -9,8 +9,8 @@ use Rattle.dv_run.proofs.workers.compiled_workers.Goals as goal
 pub lone_components-requires : goal.lone_components-requires
 lone_components-requires g c = record {
   compilable =
-      c.texts_are_compilable.ensures c.args.job.now.tree.now.names (file_of c.args.job.now.tree.now.file) c.requires.text
-      c.requires.accepted;
+      c.texts_are_compilable.ensures c.args.job.now.tree.now.names (file_of c.args.job.now.tree.now.file) c.requires.ready.text
+      c.requires.ready.accepted;
 }
 
 pub work_components-requires-clause-components : goal.work_components-requires-clause-components
@@ -41,7 +41,7 @@ work_components-requires-clause-merges g c κs _ =
     } in
     let owned : (k : ℕ) → owner_of j.groups.now k < j.groups.now.processes =
     λ k. subst (λ (n : ℕ). owner_of j.groups.now k < n) c.processes-processes.ensures.exact (c.processes-processes.ensures.owned k) in
-    merges j c.requires.text c.requires.accepted leaves owned
+    merges j c.requires.ready.text c.requires.ready.accepted leaves owned
 
 pub returns-in_err-worked-clause-err : goal.returns-in_err-worked-clause-err
 returns-in_err-worked-clause-err g c =
@@ -54,7 +54,7 @@ returns-in_err-worked-clause-err g c =
       flat = c.what_leaves_a_flat_model_is_linear.ensures.ready j.limit f;
       ready = c.networks_of_texts.ensures.ready j.limit f;
     } in
-    OnErr-always _ (is_cut_short j c.requires.text c.requires.accepted laws {old = g.W.Write.contents c.args.writer.now}
+    OnErr-always _ (is_cut_short j c.requires.ready.text c.requires.ready.accepted laws {old = g.W.Write.contents c.args.writer.now}
     {new = g.W.Write.contents c.work_components.new.writer} c.in_err-worked.ensures.err)
 
 pub returns-clause-printed : goal.returns-clause-printed
@@ -70,7 +70,7 @@ returns-clause-printed g c =
     } in
     let r = c.in_ok-worked.worked.ran in
     let is = c.in_ok-worked.ensures in
-    is_printed j c.requires.text c.requires.accepted laws {old = g.W.Write.contents c.args.writer.now}
+    is_printed j c.requires.ready.text c.requires.ready.accepted laws {old = g.W.Write.contents c.args.writer.now}
     {new = g.W.Write.contents c.work_components.new.writer} r is.written is.run.least is.run.some_clocks is.run.count is.run.within
     is.run.whole
 
