@@ -159,25 +159,30 @@ fn told_name(word: &str) -> &str {
     }
 }
 
-/// The answer of reading the file with a name. `None` if the file can't be read: a message with the
-/// reason is printed then.
+/// The answer of reading the file with a name. `None` if the file can't be read: a message is
+/// printed then, with the reason if it is explained.
 ///
 /// # Errors
 ///
 /// An allocation was refused.
-fn unless_unread<R: Eprint, T>(rt: &R, name: &str, answer: io::Result<T>) -> io::Result<Option<T>> {
+fn unless_unread<R: Eprint, T>(
+    rt: &R,
+    name: &str,
+    answer: io::Result<T>,
+    is_explained: bool,
+) -> io::Result<Option<T>> {
     match answer {
         Ok(made) => Ok(Some(made)),
         Err(error) if matches!(error.kind(), ErrorKind::OutOfMemory) => Err(error),
         Err(error) => {
-            tell_unread(rt, name, &error);
+            tell_unread(rt, name, &error, is_explained);
             Ok(None)
         }
     }
 }
 
 /// The bytes of the file that a word names, or of standard input if the word is `-`. `None` if they
-/// can't be read: a message with the reason is printed then.
+/// can't be read: a message is printed then, with the reason if it is explained.
 ///
 /// # Errors
 ///
@@ -185,6 +190,7 @@ fn unless_unread<R: Eprint, T>(rt: &R, name: &str, answer: io::Result<T>) -> io:
 pub fn read<'a, R: AllocGlobal + Files + Input + Eprint>(
     rt: &R,
     word: &'a str,
+    is_explained: bool,
 ) -> io::Result<Option<FileBytes<'a>>> {
     let bytes = if word == STANDARD_INPUT {
         standard_input(rt)
@@ -192,14 +198,15 @@ pub fn read<'a, R: AllocGlobal + Files + Input + Eprint>(
         fs::read(rt, word)
     };
     let name = told_name(word);
-    match unless_unread(rt, name, bytes)? {
+    match unless_unread(rt, name, bytes, is_explained)? {
         Some(bytes) => Ok(Some(FileBytes { name, bytes })),
         None => Ok(None),
     }
 }
 
 /// Opens the file that a word names, or standard input if the word is `-`, to be read piece by
-/// piece. `None` if it can't be opened: a message with the reason is printed then.
+/// piece. `None` if it can't be opened: a message is printed then, with the reason if it is
+/// explained.
 ///
 /// # Errors
 ///
@@ -207,6 +214,7 @@ pub fn read<'a, R: AllocGlobal + Files + Input + Eprint>(
 pub fn open<'a, R: Files + Input + Eprint>(
     rt: &R,
     word: &'a str,
+    is_explained: bool,
 ) -> io::Result<Option<OpenedFile<'a, FileReader<R::File, R::Reader>>>> {
     let reader = if word == STANDARD_INPUT {
         Ok(FileReader::Input(rt.reader()))
@@ -214,7 +222,7 @@ pub fn open<'a, R: Files + Input + Eprint>(
         open_file(rt, word)
     };
     let name = told_name(word);
-    match unless_unread(rt, name, reader)? {
+    match unless_unread(rt, name, reader, is_explained)? {
         Some(reader) => Ok(Some(OpenedFile { name, reader })),
         None => Ok(None),
     }
@@ -229,6 +237,7 @@ pub fn open<'a, R: Files + Input + Eprint>(
 pub fn open_seekable<'a, R: AllocGlobal + Files + Input + Eprint>(
     rt: &R,
     word: &'a str,
+    is_explained: bool,
 ) -> io::Result<Option<OpenedFile<'a, SeekableReader<R::File>>>> {
     let reader = if word == STANDARD_INPUT {
         kept_input(rt)
@@ -236,7 +245,7 @@ pub fn open_seekable<'a, R: AllocGlobal + Files + Input + Eprint>(
         open_or_keep(rt, word)
     };
     let name = told_name(word);
-    match unless_unread(rt, name, reader)? {
+    match unless_unread(rt, name, reader, is_explained)? {
         Some(reader) => Ok(Some(OpenedFile { name, reader })),
         None => Ok(None),
     }
@@ -279,9 +288,10 @@ fn standard_input<R: AllocGlobal + Input>(rt: &R) -> io::Result<Vec<u8>> {
 pub fn read_inputs<'a, R: AllocGlobal + Files + Input + Eprint>(
     rt: &R,
     inputs: Option<&'a String>,
+    is_explained: bool,
 ) -> io::Result<Option<Option<FileBytes<'a>>>> {
     match inputs {
-        Some(name) => match read(rt, name.as_str())? {
+        Some(name) => match read(rt, name.as_str(), is_explained)? {
             Some(inputs) => Ok(Some(Some(inputs))),
             None => Ok(None),
         },
@@ -300,13 +310,13 @@ pub fn read_trace<'a, R: AllocGlobal + Files + Input + Eprint>(
     files: &'a TraceFiles,
     inputs: Option<&'a String>,
 ) -> io::Result<Option<TraceBytes<'a>>> {
-    let Some(model) = read(rt, files.model.as_str())? else {
+    let Some(model) = read(rt, files.model.as_str(), files.explained)? else {
         return Ok(None);
     };
-    let Some(trace) = read(rt, files.trace.as_str())? else {
+    let Some(trace) = read(rt, files.trace.as_str(), files.explained)? else {
         return Ok(None);
     };
-    let Some(inputs) = read_inputs(rt, inputs)? else {
+    let Some(inputs) = read_inputs(rt, inputs, files.explained)? else {
         return Ok(None);
     };
     Ok(Some(TraceBytes {
@@ -325,9 +335,10 @@ pub fn read_trace<'a, R: AllocGlobal + Files + Input + Eprint>(
 pub fn read_parting<R: AllocGlobal + Files + Input + Eprint>(
     rt: &R,
     choice: Option<&PartitionChoice>,
+    is_explained: bool,
 ) -> io::Result<Option<Parting>> {
     match choice {
-        Some(PartitionChoice::File(name)) => match read(rt, name.as_str())? {
+        Some(PartitionChoice::File(name)) => match read(rt, name.as_str(), is_explained)? {
             Some(FileBytes { name: _, bytes }) => {
                 let planned = partition_of_plan(rt.alloc(), &bytes)?;
                 Ok(Some(Parting::Text(planned.unwrap_or(bytes))))

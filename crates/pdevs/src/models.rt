@@ -19,7 +19,7 @@ pub fn check_model<R: AllocGlobal + Files + Input + Print + Eprint>(
     rt: &R,
     check: &Check,
 ) -> io::Result<u8> {
-    let Some(model) = read(rt, check.file.model.as_str())? else {
+    let Some(model) = read(rt, check.file.model.as_str(), check.file.explained)? else {
         return Ok(REFUSED);
     };
     match check_bytes(rt.alloc(), &model.bytes) {
@@ -48,7 +48,7 @@ pub fn list_model<R: AllocGlobal + Files + Input + Print + Eprint>(
     rt: &R,
     code: &ModelFile,
 ) -> io::Result<u8> {
-    let Some(model) = read(rt, code.model.as_str())? else {
+    let Some(model) = read(rt, code.model.as_str(), code.explained)? else {
         return Ok(REFUSED);
     };
     let alloc = rt.alloc();
@@ -68,10 +68,10 @@ pub fn plan_model<R: AllocGlobal + Files + Input + Print + Eprint>(
     rt: &R,
     plan: &Plan,
 ) -> io::Result<u8> {
-    let Some(model) = read(rt, plan.model.as_str())? else {
+    let Some(model) = read(rt, plan.model.as_str(), plan.explained)? else {
         return Ok(REFUSED);
     };
-    let Some(parting) = read_parting(rt, plan.partition.as_ref())? else {
+    let Some(parting) = read_parting(rt, plan.partition.as_ref(), plan.explained)? else {
         return Ok(REFUSED);
     };
     match plan_bytes(rt.alloc(), &model.bytes, parting.partition()) {
@@ -96,10 +96,10 @@ pub fn graph_model<R: AllocGlobal + Files + Input + Print + Eprint>(
     rt: &R,
     graph: &Graph,
 ) -> io::Result<u8> {
-    let Some(model) = read(rt, graph.file.model.as_str())? else {
+    let Some(model) = read(rt, graph.file.model.as_str(), graph.file.explained)? else {
         return Ok(REFUSED);
     };
-    let Some(parting) = read_parting(rt, graph.partition.as_ref())? else {
+    let Some(parting) = read_parting(rt, graph.partition.as_ref(), graph.file.explained)? else {
         return Ok(REFUSED);
     };
     let groups = if graph.partition.is_some() {

@@ -76,13 +76,13 @@ pub fn run_model<R: AllocGlobal + Clock + Files + Input + Print + Eprint + Threa
     rt: &R,
     run: &Run,
 ) -> io::Result<u8> {
-    let Some(model) = read(rt, run.model.as_str())? else {
+    let Some(model) = read(rt, run.model.as_str(), run.explained)? else {
         return Ok(REFUSED);
     };
-    let Some(parting) = read_parting(rt, run.partition.as_ref())? else {
+    let Some(parting) = read_parting(rt, run.partition.as_ref(), run.explained)? else {
         return Ok(REFUSED);
     };
-    let Some(inputs) = read_inputs(rt, run.inputs.as_ref())? else {
+    let Some(inputs) = read_inputs(rt, run.inputs.as_ref(), run.explained)? else {
         return Ok(REFUSED);
     };
     let Some(options) = Options::new(

@@ -27,9 +27,12 @@ pub fn tell_text<R: Eprint>(rt: &R, text: &str) {
     let _ = eprint!(rt; "{text}");
 }
 
-/// Prints that a file can't be read, and why.
-pub fn tell_unread<R: Eprint>(rt: &R, name: &str, error: &io::Error) {
-    tell_line(rt, format_args!("cannot read {name}: {error}"));
+/// Prints that a file can't be read, followed by the reason if it is explained.
+pub fn tell_unread<R: Eprint>(rt: &R, name: &str, error: &io::Error, is_explained: bool) {
+    tell_line(rt, format_args!("cannot read {name}"));
+    if is_explained {
+        tell_reason(rt, error);
+    }
 }
 
 /// Prints an error of the system.

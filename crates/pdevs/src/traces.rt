@@ -39,7 +39,7 @@ fn status_of_view<R: AllocGlobal + Eprint>(
 }
 
 /// The same as `status_of_view`, for a trace that was read while its view was made. If it can't be
-/// read, a message with its name and the cause is printed.
+/// read, a message with its name is printed, and the reason if it is explained.
 fn status_of_read_view<R: AllocGlobal + Eprint>(
     rt: &R,
     name: &str,
@@ -48,7 +48,7 @@ fn status_of_read_view<R: AllocGlobal + Eprint>(
     is_explained: bool,
 ) -> u8 {
     if let Err(ViewError::Unread(error)) = &printed.result {
-        tell_unread(rt, name, error);
+        tell_unread(rt, name, error, is_explained);
         return REFUSED;
     }
     status_of_view(rt, texts, printed, is_explained)
@@ -84,13 +84,18 @@ pub fn dump_trace<R: AllocGlobal + Files + Input + Print + Eprint>(
     let Some(timescale) = timescale_of(rt, waves.timescale.as_ref()) else {
         return Ok(USAGE);
     };
-    let Some(model) = read(rt, files.model.as_str())? else {
+    let Some(model) = read(rt, files.model.as_str(), files.explained)? else {
         return Ok(REFUSED);
     };
-    let Some(OpenedFile { name, mut reader }) = open_seekable(rt, files.trace.as_str())? else {
+    let Some(OpenedFile { name, mut reader }) = open_seekable(
+        rt,
+        files.trace.as_str(),
+        files.explained,
+    )?
+    else {
         return Ok(REFUSED);
     };
-    let Some(inputs) = read_inputs(rt, waves.inputs.as_ref())? else {
+    let Some(inputs) = read_inputs(rt, waves.inputs.as_ref(), files.explained)? else {
         return Ok(REFUSED);
     };
     let options = WaveOptions {
@@ -119,10 +124,11 @@ pub fn count_trace<R: AllocGlobal + Files + Input + Print + Eprint>(
     stats: &Stats,
 ) -> io::Result<u8> {
     let files = &stats.files;
-    let Some(model) = read(rt, files.model.as_str())? else {
+    let Some(model) = read(rt, files.model.as_str(), files.explained)? else {
         return Ok(REFUSED);
     };
-    let Some(OpenedFile { name, mut reader }) = open(rt, files.trace.as_str())? else {
+    let Some(OpenedFile { name, mut reader }) = open(rt, files.trace.as_str(), files.explained)?
+    else {
         return Ok(REFUSED);
     };
     let options = stats_options(&stats.choice, stats.choice.only.as_ref(), end_of(files));
