@@ -5,5 +5,5 @@ endif
 let current_compiler = "pdevs"
 
 CompilerSet makeprg=pdevs\ check\ --explain\ %:S
-" Of what is told only the line with the place counts: FILE:LINE:COLUMN: E7: unknown name `m`; `n` is near
+" Of what is printed only the line with the place counts: FILE:LINE:COLUMN: E7: unknown name `m`; `n` is near
 CompilerSet errorformat=%f:%l:%c:\ %m,%-G%.%#

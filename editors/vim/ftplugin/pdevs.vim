@@ -1,4 +1,4 @@
-" Comments of the rule text of Parallel DEVS models.
+" Comments of Parallel DEVS models.
 if exists("b:did_ftplugin")
   finish
 endif

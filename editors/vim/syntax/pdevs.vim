@@ -1,4 +1,4 @@
-" Vim syntax for the rule text of Parallel DEVS models.
+" Vim syntax for Parallel DEVS models.
 if exists("b:current_syntax")
   finish
 endif
