@@ -35,7 +35,7 @@ fn write_entries<W: Write>(
         text.put(format_args!(
             "\ti{from} -> c{} [label=\"{}{}\"];\n",
             to.component,
-            Escaped(input_name(scene.tree, to.component, to.port)),
+            Escaped(input_name(scene.tree, to)),
             Copies(link.copies)
         ))?;
     }
@@ -59,8 +59,8 @@ fn write_direct<W: Write>(
             "\tc{} -> c{} [label=\"{} -> {}{}\"{style}];\n",
             from.component,
             to.component,
-            Escaped(output_name(scene.tree, from.component, from.port)),
-            Escaped(input_name(scene.tree, to.component, to.port)),
+            Escaped(output_name(scene.tree, from)),
+            Escaped(input_name(scene.tree, to)),
             Copies(link.copies)
         ))?;
     }
@@ -78,7 +78,7 @@ fn write_exits<W: Write>(
         text.put(format_args!(
             "\tc{} -> o{to} [label=\"{}{}\"];\n",
             from.component,
-            Escaped(output_name(scene.tree, from.component, from.port)),
+            Escaped(output_name(scene.tree, from)),
             Copies(link.copies)
         ))?;
     }

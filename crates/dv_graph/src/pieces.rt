@@ -1,6 +1,8 @@
 //! Names, labels and indentation.
 
 use dv_check::GREATEST_DEPTH;
+use dv_eval::Scope;
+use dv_flat::ComponentPort;
 use dv_syntax::Model;
 use dv_tree::{ResolvedPart, Tree};
 use std::fmt;
@@ -64,33 +66,39 @@ pub(crate) fn tabs(count: usize) -> &'static str {
     TABS.get(..count).unwrap_or(TABS)
 }
 
-/// The name of an output port of a component, by its index.
-pub(crate) fn output_name<'t>(tree: &'t Tree<'_>, component: u32, port: u32) -> &'t str {
-    port_name(tree, outputs_of(tree, component), port)
+/// The name of an output port of a component.
+pub(crate) fn output_name<'t>(tree: &'t Tree<'_>, port: ComponentPort) -> &'t str {
+    port_name(tree, outputs_of(tree, port.component), port.port)
 }
 
-/// The name of an input port of a component, by its index.
-pub(crate) fn input_name<'t>(tree: &'t Tree<'_>, component: u32, port: u32) -> &'t str {
-    port_name(tree, inputs_of(tree, component), port)
+/// The name of an input port of a component.
+pub(crate) fn input_name<'t>(tree: &'t Tree<'_>, port: ComponentPort) -> &'t str {
+    port_name(tree, inputs_of(tree, port.component), port.port)
 }
 
 /// The numbers of the names of a component's output ports.
 pub(crate) fn outputs_of<'t>(tree: &'t Tree<'_>, component: u32) -> &'t [u32] {
-    let component = component as usize;
-    if component < tree.component_count() {
-        tree.scope(component).outputs()
-    } else {
-        &[]
+    match scope_of(tree, component) {
+        Some(scope) => scope.outputs(),
+        None => &[],
     }
 }
 
 /// The numbers of the names of a component's input ports.
 pub(crate) fn inputs_of<'t>(tree: &'t Tree<'_>, component: u32) -> &'t [u32] {
+    match scope_of(tree, component) {
+        Some(scope) => scope.inputs(),
+        None => &[],
+    }
+}
+
+// What the model of a component declares, if there is a component of this number.
+fn scope_of<'t>(tree: &'t Tree<'_>, component: u32) -> Option<&'t Scope> {
     let component = component as usize;
     if component < tree.component_count() {
-        tree.scope(component).inputs()
+        Some(tree.scope(component))
     } else {
-        &[]
+        None
     }
 }
 
