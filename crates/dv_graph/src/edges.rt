@@ -3,7 +3,7 @@
 use crate::graph_text::GraphText;
 use crate::pieces::{Escaped, input_name, output_name};
 use crate::scene::Scene;
-use dv_flat::{DirectLink, EntryLink, ExitLink, LinkLists};
+use dv_flat::DirectLink;
 use dv_partition::Groups;
 use dv_text::WriteError;
 use std::fmt;
@@ -16,21 +16,19 @@ use std::io::Write;
 /// As of `write_graph`.
 pub(crate) fn write_links<W: Write>(
     scene: Scene<'_>,
-    links: &LinkLists,
     text: &mut GraphText<'_, W>,
 ) -> Result<(), WriteError> {
-    write_entries(scene, &links.entries, text)?;
-    write_direct(scene, &links.direct, text)?;
-    write_exits(scene, &links.exits, text)
+    write_entries(scene, text)?;
+    write_direct(scene, text)?;
+    write_exits(scene, text)
 }
 
 // Writes the links from the root's inputs.
 fn write_entries<W: Write>(
     scene: Scene<'_>,
-    links: &[EntryLink],
     text: &mut GraphText<'_, W>,
 ) -> Result<(), WriteError> {
-    for link in links {
+    for link in &scene.links.entries {
         let (from, to) = (link.from, link.to);
         text.put(format_args!(
             "\ti{from} -> c{} [label=\"{}{}\"];\n",
@@ -43,12 +41,8 @@ fn write_entries<W: Write>(
 }
 
 // Writes the links between components.
-fn write_direct<W: Write>(
-    scene: Scene<'_>,
-    links: &[DirectLink],
-    text: &mut GraphText<'_, W>,
-) -> Result<(), WriteError> {
-    for link in links {
+fn write_direct<W: Write>(scene: Scene<'_>, text: &mut GraphText<'_, W>) -> Result<(), WriteError> {
+    for link in &scene.links.direct {
         let (from, to) = (link.from, link.to);
         let style = if is_crossing(scene.groups, link) {
             ", style=dashed"
@@ -68,12 +62,8 @@ fn write_direct<W: Write>(
 }
 
 // Writes the links to the root's outputs.
-fn write_exits<W: Write>(
-    scene: Scene<'_>,
-    links: &[ExitLink],
-    text: &mut GraphText<'_, W>,
-) -> Result<(), WriteError> {
-    for link in links {
+fn write_exits<W: Write>(scene: Scene<'_>, text: &mut GraphText<'_, W>) -> Result<(), WriteError> {
+    for link in &scene.links.exits {
         let (from, to) = (link.from, link.to);
         text.put(format_args!(
             "\tc{} -> o{to} [label=\"{}{}\"];\n",

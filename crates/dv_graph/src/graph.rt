@@ -3,13 +3,10 @@
 use crate::edges::write_links;
 use crate::graph_text::GraphText;
 use crate::nodes::{Nodes, write_nodes};
-use crate::scene::{Scene, put_front};
+use crate::scene::{Drawing, Scene, put_front};
 use crate::unlinked::LinkedPorts;
 use dv_check::GREATEST_DEPTH;
-use dv_flat::LinkLists;
-use dv_partition::Groups;
 use dv_text::WriteError;
-use dv_tree::Tree;
 use std::alloc::Global;
 use std::io::Write;
 
@@ -18,8 +15,8 @@ use std::io::Write;
 /// A component is a node, labelled with the names of its part and its model, in the clusters of the
 /// coupled models around it. The ports of the root are nodes too. An edge is a link between ports
 /// of components, or from an input or to an output of the root, with no regard to the coupled
-/// models through which it leads. Unlinked ports are shown in grey. With `groups` all components of
-/// a process have the same colour, and links to another process are dashed.
+/// models through which it leads. Unlinked ports are shown in grey. With a partition all components
+/// of a process have the same colour, and links to another process are dashed.
 ///
 /// # Errors
 ///
@@ -27,30 +24,18 @@ use std::io::Write;
 /// refused. Then only a part of the graph is written, from its beginning on.
 pub fn write_graph<W: Write>(
     alloc: Global,
-    tree: &Tree<'_>,
-    links: &LinkLists,
-    groups: Option<&Groups>,
+    drawing: Drawing<'_>,
     writer: &mut W,
 ) -> Result<(), WriteError> {
-    let linked = LinkedPorts::of(alloc, links)?;
-    let scene = Scene {
-        alloc,
-        tree: &*tree,
-        groups,
-        linked: &linked,
-        names_unlinked: true,
-    };
-    write_scene(scene, links, &mut GraphText::new(alloc, writer))
+    let linked = LinkedPorts::of(alloc, drawing.links)?;
+    let scene = Scene::of(alloc, drawing, &linked);
+    write_scene(scene, &mut GraphText::new(alloc, writer))
 }
 
-fn write_scene<W: Write>(
-    scene: Scene<'_>,
-    links: &LinkLists,
-    text: &mut GraphText<'_, W>,
-) -> Result<(), WriteError> {
+fn write_scene<W: Write>(scene: Scene<'_>, text: &mut GraphText<'_, W>) -> Result<(), WriteError> {
     put_front(scene, "", text)?;
     write_all_nodes(scene, text)?;
-    write_links(scene, links, text)?;
+    write_links(scene, text)?;
     text.end()
 }
 

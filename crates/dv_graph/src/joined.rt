@@ -3,7 +3,6 @@
 use crate::edges::is_crossing;
 use crate::nodes::Nodes;
 use crate::scene::Scene;
-use dv_flat::LinkLists;
 use std::alloc::AllocError;
 
 /// All links from one node to another. Nodes are given by index.
@@ -26,23 +25,18 @@ pub(crate) struct JoinedLinks {
 /// Memory is refused.
 pub(crate) fn joined_links(
     scene: Scene<'_>,
-    links: &LinkLists,
     nodes: &Nodes,
 ) -> Result<Vec<JoinedLinks>, AllocError> {
     let mut joined = Vec::new(scene.alloc);
-    join(entries_of(scene, links, nodes)?, &mut joined)?;
-    join(direct_of(scene, links, nodes)?, &mut joined)?;
-    join(exits_of(scene, links, nodes)?, &mut joined)?;
+    join(entries_of(scene, nodes)?, &mut joined)?;
+    join(direct_of(scene, nodes)?, &mut joined)?;
+    join(exits_of(scene, nodes)?, &mut joined)?;
     Ok(joined)
 }
 
-fn entries_of(
-    scene: Scene<'_>,
-    links: &LinkLists,
-    nodes: &Nodes,
-) -> Result<Vec<JoinedLinks>, AllocError> {
+fn entries_of(scene: Scene<'_>, nodes: &Nodes) -> Result<Vec<JoinedLinks>, AllocError> {
     let mut entries = Vec::new(scene.alloc);
-    for link in &links.entries {
+    for link in &scene.links.entries {
         entries.push(JoinedLinks {
             from: nodes.input(link.from),
             to: nodes.index_of(link.to.component),
@@ -53,13 +47,9 @@ fn entries_of(
     Ok(entries)
 }
 
-fn direct_of(
-    scene: Scene<'_>,
-    links: &LinkLists,
-    nodes: &Nodes,
-) -> Result<Vec<JoinedLinks>, AllocError> {
+fn direct_of(scene: Scene<'_>, nodes: &Nodes) -> Result<Vec<JoinedLinks>, AllocError> {
     let mut direct = Vec::new(scene.alloc);
-    for link in &links.direct {
+    for link in &scene.links.direct {
         let from = nodes.index_of(link.from.component);
         let to = nodes.index_of(link.to.component);
         if from != to || nodes.is_component(from) {
@@ -74,13 +64,9 @@ fn direct_of(
     Ok(direct)
 }
 
-fn exits_of(
-    scene: Scene<'_>,
-    links: &LinkLists,
-    nodes: &Nodes,
-) -> Result<Vec<JoinedLinks>, AllocError> {
+fn exits_of(scene: Scene<'_>, nodes: &Nodes) -> Result<Vec<JoinedLinks>, AllocError> {
     let mut exits = Vec::new(scene.alloc);
-    for link in &links.exits {
+    for link in &scene.links.exits {
         exits.push(JoinedLinks {
             from: nodes.index_of(link.from.component),
             to: nodes.output(link.to),

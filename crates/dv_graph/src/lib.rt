@@ -36,10 +36,11 @@ mod rows;
 /// What the rules of an atomic model do.
 mod rules;
 /// What is drawn of a model.
-mod scene;
+pub mod scene;
 /// Unlinked ports.
 mod unlinked;
 
 pub use graph::write_graph;
 pub use overview::write_overview;
 pub use phases::write_phases;
+pub use scene::Drawing;

@@ -4,13 +4,10 @@ use crate::graph_text::GraphText;
 use crate::joined::{JoinedLinks, joined_links};
 use crate::nodes::{Node, Nodes, put_root_box, write_nodes};
 use crate::rows::Rows;
-use crate::scene::{Scene, put_front};
+use crate::scene::{Drawing, Scene, put_front};
 use crate::unlinked::LinkedPorts;
 use dv_check::GREATEST_DEPTH;
-use dv_flat::LinkLists;
-use dv_partition::Groups;
 use dv_text::WriteError;
-use dv_tree::Tree;
 use std::alloc::Global;
 use std::fmt;
 use std::io::Write;
@@ -21,7 +18,7 @@ use std::io::Write;
 /// labelled with the number of its components. What is above that depth is drawn as by
 /// `write_graph`. All links from one node to another are one edge. If there are several, counted
 /// with their copies, their number is its label. Links inside of a box are not drawn. A long line
-/// of nodes is broken into rows. With `groups` a box whose components are all in one process has
+/// of nodes is broken into rows. With a partition a box whose components are all in one process has
 /// the colour of this process, and an edge is dashed if one of its links leads to another process.
 ///
 /// # Errors
@@ -30,33 +27,22 @@ use std::io::Write;
 /// refused. Then only a part of the graph is written, from its beginning on.
 pub fn write_overview<W: Write>(
     alloc: Global,
-    tree: &Tree<'_>,
-    links: &LinkLists,
-    groups: Option<&Groups>,
+    drawing: Drawing<'_>,
     depth: u64,
     writer: &mut W,
 ) -> Result<(), WriteError> {
-    let linked = LinkedPorts::of(alloc, links)?;
+    let linked = LinkedPorts::of(alloc, drawing.links)?;
+    let whole = Scene::of(alloc, drawing, &linked);
     let scene = Scene {
-        alloc,
-        tree: &*tree,
-        groups,
-        linked: &linked,
         names_unlinked: false,
+        ..whole
     };
     let mut nodes = Nodes::new(alloc);
-    write_scene(
-        scene,
-        links,
-        depth,
-        &mut nodes,
-        &mut GraphText::new(alloc, writer),
-    )
+    write_scene(scene, depth, &mut nodes, &mut GraphText::new(alloc, writer))
 }
 
 fn write_scene<W: Write>(
     scene: Scene<'_>,
-    links: &LinkLists,
     depth: u64,
     nodes: &mut Nodes,
     text: &mut GraphText<'_, W>,
@@ -64,7 +50,7 @@ fn write_scene<W: Write>(
     put_front(scene, "\tnewrank=true;\n", text)?;
     write_inside(scene, depth, nodes, text)?;
     nodes.add_ports(scene.tree.input_count(), scene.tree.output_count())?;
-    write_joined(scene, links, nodes, text)?;
+    write_joined(scene, nodes, text)?;
     text.end()
 }
 
@@ -84,11 +70,10 @@ fn write_inside<W: Write>(
 // Writes the edges.
 fn write_joined<W: Write>(
     scene: Scene<'_>,
-    links: &LinkLists,
     nodes: &Nodes,
     text: &mut GraphText<'_, W>,
 ) -> Result<(), WriteError> {
-    let joined = joined_links(scene, links, nodes)?;
+    let joined = joined_links(scene, nodes)?;
     let rows = Rows::of(scene.alloc, &nodes.parts, &joined)?;
     write_edges(&nodes.nodes, &joined, &rows, text)
 }

@@ -4,22 +4,59 @@ use crate::graph_text::GraphText;
 use crate::number::number_of;
 use crate::pieces::Escaped;
 use crate::unlinked::LinkedPorts;
+use dv_flat::LinkLists;
 use dv_partition::Groups;
 use dv_text::WriteError;
 use dv_tree::Tree;
 use std::alloc::Global;
 use std::io::Write;
 
+/// A model to be drawn, with its links and, if there is a partition, its processes.
+#[derive(Clone, Copy)]
+pub struct Drawing<'d> {
+    pub(crate) tree: &'d Tree<'d>,
+    pub(crate) links: &'d LinkLists,
+    /// Which process has which components, if there is a partition.
+    pub(crate) groups: Option<&'d Groups>,
+}
+
+impl<'d> Drawing<'d> {
+    /// The model of a tree. `links` are those of the same tree, and `groups` is the partition, if
+    /// processes are to be shown.
+    pub fn of(tree: &'d Tree<'d>, links: &'d LinkLists, groups: Option<&'d Groups>) -> Self {
+        Drawing {
+            tree,
+            links,
+            groups,
+        }
+    }
+}
+
 /// A model, and what is drawn of it.
 #[derive(Clone, Copy)]
 pub(crate) struct Scene<'s> {
     pub(crate) alloc: Global,
     pub(crate) tree: &'s Tree<'s>,
+    pub(crate) links: &'s LinkLists,
     /// Which process has which components, if there is a partition.
     pub(crate) groups: Option<&'s Groups>,
     pub(crate) linked: &'s LinkedPorts,
     /// Whether the node of a component names its unlinked ports.
     pub(crate) names_unlinked: bool,
+}
+
+impl<'s> Scene<'s> {
+    /// All of a model, whose linked ports are given.
+    pub(crate) fn of(alloc: Global, drawing: Drawing<'s>, linked: &'s LinkedPorts) -> Self {
+        Scene {
+            alloc,
+            tree: drawing.tree,
+            links: drawing.links,
+            groups: drawing.groups,
+            linked,
+            names_unlinked: true,
+        }
+    }
 }
 
 /// Begins a graph: its name, the style of nodes, further settings, and the nodes of the root's

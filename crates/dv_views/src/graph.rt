@@ -5,8 +5,8 @@ ghost use Rattle.dv_flat.specs.Limit.{link_refusal};
 ghost use Rattle.dv_syntax.specs.Trees.{file_of};
 
 use crate::error::ViewError;
-use dv_flat::{LinkLists, flatten, paths_of};
-use dv_graph::{write_graph, write_overview, write_phases};
+use dv_flat::{flatten, paths_of};
+use dv_graph::{Drawing, write_graph, write_overview, write_phases};
 use dv_hints::unknown_name;
 use dv_job::load::{accept, load};
 use dv_partition::{Groups, Partition, partition};
@@ -55,33 +55,33 @@ pub fn graph_bytes<W: Write>(
     let checked = load(alloc, model)?;
     let tree = accept(alloc, model, &checked)?;
     match options.shown {
-        Shown::All => {
-            let (links, groups) = linked(alloc, &tree, options.groups)?;
-            write_graph(alloc, &tree, &links, groups.as_ref(), writer)?;
-        }
-        Shown::Depth(depth) => {
-            let (links, groups) = linked(alloc, &tree, options.groups)?;
-            write_overview(alloc, &tree, &links, groups.as_ref(), depth, writer)?;
-        }
+        Shown::All => graph_tree(alloc, &tree, options.groups, None, writer),
+        Shown::Depth(depth) => graph_tree(alloc, &tree, options.groups, Some(depth), writer),
         Shown::Phases(name) => {
             let atomic = atomic_named(alloc, &tree, name)?;
-            write_phases(alloc, &tree, atomic, writer)?;
+            Ok(write_phases(alloc, &tree, atomic, writer)?)
         }
     }
-    Ok(())
 }
 
-// The links of a model, and the groups of its components if there is a partition.
-fn linked(
+// Writes all components of a model, or an overview if a depth is given.
+fn graph_tree<W: Write>(
     alloc: Global,
     tree: &Tree<'_>,
     groups: Option<Partition<'_>>,
-) -> Result<(LinkLists, Option<Groups>), ViewError>
+    depth: Option<u64>,
+    writer: &mut W,
+) -> Result<(), ViewError>
     requires few { link_refusal (file_of tree.now.file) ≡ None }
 {
     let links = flatten(alloc, tree)?;
     let groups = groups_of(alloc, tree, groups)?;
-    Ok((links, groups))
+    let drawing = Drawing::of(tree, &links, groups.as_ref());
+    match depth {
+        Some(depth) => write_overview(alloc, drawing, depth, writer)?,
+        None => write_graph(alloc, drawing, writer)?,
+    }
+    Ok(())
 }
 
 // The groups of the components, if there is a partition.
