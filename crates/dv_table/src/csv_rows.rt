@@ -1,7 +1,7 @@
 //! Rows as comma-separated values.
 
 use crate::error::TableError;
-use crate::row::{Index, Rows, State, Value};
+use crate::row::{Index, Row, Rows, State, Value};
 use dv_trace::Datum;
 use std::alloc::{AllocError, Global};
 use std::io::Write;
@@ -66,19 +66,13 @@ impl<'w, W: Write> CsvRows<'w, W> {
 }
 
 impl<'w, W: Write> Rows for CsvRows<'w, W> {
-    fn put(
-        &mut self,
-        index: &Index<'_>,
-        what: &str,
-        name: &str,
-        value: Value<'_, '_>,
-    ) -> Result<(), TableError> {
+    fn put(&mut self, index: &Index<'_>, row: Row<'_, '_>) -> Result<(), TableError> {
         self.value.clear();
-        if let Value::Numbers(values) = value {
+        if let Value::Numbers(values) = row.value {
             self.value.push_str(values)?;
         }
-        self.put_record(index, what, name)?;
-        match value {
+        self.put_record(index, row.what, row.name)?;
+        match row.value {
             Value::State(state) => self.put_state(index, state),
             Value::Nothing | Value::Numbers(_) => Ok(()),
         }

@@ -1,7 +1,7 @@
 //! Rows as JSON lines.
 
 use crate::error::TableError;
-use crate::row::{Index, Rows, State, Value};
+use crate::row::{Index, Row, Rows, State, Value};
 use dv_text::{hand_over, hand_over_if_long};
 use dv_time::Time;
 use dv_trace::Datum;
@@ -30,19 +30,8 @@ impl<'w, W: Write> JsonRows<'w, W> {
 }
 
 impl<'w, W: Write> Rows for JsonRows<'w, W> {
-    fn put(
-        &mut self,
-        index: &Index<'_>,
-        what: &str,
-        name: &str,
-        value: Value<'_, '_>,
-    ) -> Result<(), TableError> {
-        let object = Object {
-            index: *index,
-            what,
-            name,
-            value,
-        };
+    fn put(&mut self, index: &Index<'_>, row: Row<'_, '_>) -> Result<(), TableError> {
+        let object = Object { index: *index, row };
         let line = serde_json::to_string(self.alloc, &object)?;
         writeln!(self.text, "{line}")?;
         hand_over_if_long(&mut self.text, self.writer)?;
@@ -57,22 +46,20 @@ impl<'w, W: Write> Rows for JsonRows<'w, W> {
 
 // The object on a line. It has six members.
 #[derive(Clone, Copy)]
-struct Object<'p, 'w, 'n, 't, 'v> {
+struct Object<'p, 't, 'v> {
     index: Index<'p>,
-    what: &'w str,
-    name: &'n str,
-    value: Value<'t, 'v>,
+    row: Row<'t, 'v>,
 }
 
-impl Described for Object<'_, '_, '_, '_, '_> {}
+impl Described for Object<'_, '_, '_> {}
 
-impl Serialize for Object<'_, '_, '_, '_, '_> {
+impl Serialize for Object<'_, '_, '_> {
     fn serialize<S: Serializer>(&self, out: &mut S) -> Result<(), S::Error> {
         out.begin_map(Some(6))?;
         put_time(self.index.time, out)?;
-        put_words(self.index.component, self.what, self.name, out)?;
+        put_words(self.index.component, self.row.what, self.row.name, out)?;
         out.key("value")?;
-        put_value(self.value, out)?;
+        put_value(self.row.value, out)?;
         out.end_map()
     }
 }

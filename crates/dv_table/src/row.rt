@@ -1,7 +1,7 @@
 //! The rows of a table.
 
 use crate::error::TableError;
-use dv_bag::Kind;
+use dv_bag::{Fault, Kind};
 use dv_time::Time;
 use dv_trace::Datum;
 use dv_tree::Tree;
@@ -21,16 +21,7 @@ pub(crate) const ARRIVED: &str = "arrived";
 /// The word of a row for values that left the model by an output port of the root.
 pub(crate) const LEFT: &str = "left";
 /// The word of a row for a fault.
-pub(crate) const FAULT: &str = "fault";
-
-/// The word of a row for a kind of transition.
-pub(crate) fn kind_word(kind: Kind) -> &'static str {
-    match kind {
-        Kind::Internal => "internal",
-        Kind::External => "external",
-        Kind::Confluent => "confluent",
-    }
-}
+const FAULT: &str = "fault";
 
 /// The state variables of a component: the numbers of their names, and what they hold.
 #[derive(Clone, Copy)]
@@ -51,20 +42,61 @@ pub(crate) enum Value<'t, 'v> {
     State(State<'t, 'v>),
 }
 
+/// A row, without its index.
+#[derive(Clone, Copy)]
+pub(crate) struct Row<'t, 'v> {
+    /// What happened, in a word.
+    pub(crate) what: &'static str,
+    /// The name of the port, the phase or the fault.
+    pub(crate) name: &'t str,
+    pub(crate) value: Value<'t, 'v>,
+}
+
+impl<'t, 'v> Row<'t, 'v> {
+    /// Values that passed by a port, as in a trace. `what` is `SENT`, `ARRIVED` or `LEFT`.
+    pub(crate) fn at_port(what: &'static str, port: &'t str, values: &'v str) -> Self {
+        Row {
+            what,
+            name: port,
+            value: Value::Numbers(values),
+        }
+    }
+
+    /// A transition to a phase, with the state after it.
+    pub(crate) fn transition(kind: Kind, phase: &'t str, state: State<'t, 'v>) -> Self {
+        Row {
+            what: kind_word(kind),
+            name: phase,
+            value: Value::State(state),
+        }
+    }
+
+    /// A fault.
+    pub(crate) fn fault(fault: Fault) -> Self {
+        Row {
+            what: FAULT,
+            name: fault.word(),
+            value: Value::Nothing,
+        }
+    }
+}
+
+fn kind_word(kind: Kind) -> &'static str {
+    match kind {
+        Kind::Internal => "internal",
+        Kind::External => "external",
+        Kind::Confluent => "confluent",
+    }
+}
+
 /// A form of tables, to which rows are put one after the other.
 pub(crate) trait Rows {
-    /// Adds a row: what happened, in a word; the name of the port, the phase or the fault; the value.
+    /// Adds a row.
     ///
     /// # Errors
     ///
     /// `Write`: a write failed. `Memory`: an allocation was refused.
-    fn put(
-        &mut self,
-        index: &Index<'_>,
-        what: &str,
-        name: &str,
-        value: Value<'_, '_>,
-    ) -> Result<(), TableError>;
+    fn put(&mut self, index: &Index<'_>, row: Row<'_, '_>) -> Result<(), TableError>;
 
     /// Writes what is not written yet.
     ///

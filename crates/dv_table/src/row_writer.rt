@@ -2,7 +2,7 @@
 
 use crate::arrivals::{Arrival, push_values};
 use crate::error::TableError;
-use crate::row::{ARRIVED, FAULT, Index, LEFT, Rows, SENT, State, Value, kind_word};
+use crate::row::{ARRIVED, Index, LEFT, Row, Rows, SENT, State};
 use dv_eval::Scope;
 use dv_trace::{Entry, Happening, Outside, Sending};
 use dv_tree::Tree;
@@ -73,8 +73,8 @@ impl<'a, R: Rows> RowWriter<'a, R> {
     ) -> Result<(), TableError> {
         for sending in sent {
             let port = name_in(self.tree, scope.outputs(), sending.port);
-            self.rows
-                .put(index, SENT, port, Value::Numbers(sending.values.text))?;
+            let row = Row::at_port(SENT, port, sending.values.text);
+            self.rows.put(index, row)?;
         }
         Ok(())
     }
@@ -93,8 +93,8 @@ impl<'a, R: Rows> RowWriter<'a, R> {
             self.values.clear();
             push_values(&mut self.values, group)?;
             let port = name_in(self.tree, scope.inputs(), first.to.port as usize);
-            self.rows
-                .put(index, ARRIVED, port, Value::Numbers(self.values.as_str()))?;
+            let row = Row::at_port(ARRIVED, port, self.values.as_str());
+            self.rows.put(index, row)?;
         }
         Ok(())
     }
@@ -114,10 +114,9 @@ impl<'a, R: Rows> RowWriter<'a, R> {
                     names,
                     data: state,
                 };
-                self.rows
-                    .put(index, kind_word(*kind), phase, Value::State(state))
+                self.rows.put(index, Row::transition(*kind, phase, state))
             }
-            Happening::Fault(fault) => self.rows.put(index, FAULT, fault.word(), Value::Nothing),
+            Happening::Fault(fault) => self.rows.put(index, Row::fault(*fault)),
         }
     }
 
@@ -134,8 +133,8 @@ impl<'a, R: Rows> RowWriter<'a, R> {
         for sending in &outside.sent {
             if sending.port < self.tree.output_count() {
                 let port = self.tree.output_name(sending.port);
-                self.rows
-                    .put(&index, LEFT, port, Value::Numbers(sending.values.text))?;
+                let row = Row::at_port(LEFT, port, sending.values.text);
+                self.rows.put(&index, row)?;
             }
         }
         Ok(())
