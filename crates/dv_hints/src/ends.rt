@@ -3,7 +3,7 @@
 use crate::causes::{cause, empty_cause};
 use crate::lists::{Choice, WantedSentence};
 use crate::models::{
-    link_at, model_around, model_named, name_of as name_of_model, part_named, part_of_model_at,
+    model_around, model_named, name_of as name_of_model, part_named, part_of_model_at,
     port_direction,
 };
 use crate::near::cause_of_unknown;
@@ -404,21 +404,13 @@ fn ends_text<'a>(read: &'a ReadText, from: &End, to: &End) -> LinkText<'a> {
     }
 }
 
-/// The cause of E13 for the link at an offset: from a part to itself, or from an input port of the
-/// model to an output port of it.
+/// The cause of E13 for a link: from a part to itself, or from an input port of its model to an
+/// output port of it.
 ///
 /// # Errors
 ///
 /// No memory for the words.
-pub fn leads_back(
-    alloc: Global,
-    read: &ReadText,
-    model: &Coupled,
-    offset: u32,
-) -> Result<Cause, AllocError> {
-    let Some(link) = link_at(model, offset) else {
-        return empty_cause(alloc);
-    };
+pub fn leads_back(alloc: Global, read: &ReadText, link: &Link) -> Result<Cause, AllocError> {
     let LinkText {
         from: (from, out),
         to: (to, back),

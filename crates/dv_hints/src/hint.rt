@@ -4,7 +4,7 @@ use crate::causes::empty_cause;
 use crate::ends::{leads_back, unknown_in, wrong_way_in};
 use crate::known::Known;
 use crate::missing::item_at;
-use crate::models::model_around;
+use crate::models::{link_at, model_around};
 use crate::reading::{ReadText, read};
 use crate::reason::Search;
 use crate::repeats::{repeat_at, repeated_link};
@@ -44,19 +44,14 @@ pub fn hint_on(alloc: Global, text: &[u8], refusal: &TextError) -> Result<Cause,
         | RefusalNumber::E15
         | RefusalNumber::E16
         | RefusalNumber::E17 => match read(alloc, text)? {
-            Some(read) => hint_in_tree(alloc, text, &read, refusal),
+            Some(read) => hint_in_tree(alloc, &read, refusal),
             None => empty_cause(alloc),
         },
     }
 }
 
 /// The cause of a refusal of a text that has a tree.
-fn hint_in_tree(
-    alloc: Global,
-    text: &[u8],
-    read: &ReadText,
-    refusal: &TextError,
-) -> Result<Cause, AllocError> {
+fn hint_in_tree(alloc: Global, read: &ReadText, refusal: &TextError) -> Result<Cause, AllocError> {
     let offset = refusal.offset;
     if offset == read.file.root.offset {
         return hint_on_root(alloc, read, refusal.number);
@@ -65,15 +60,15 @@ fn hint_in_tree(
         RefusalNumber::E15 => return own_part(alloc, read, offset),
         RefusalNumber::E17 => return limit_at(alloc, read, offset),
         RefusalNumber::E6 => {
-            if let Some(cause) = repeat_at(alloc, text, read, offset)? {
+            if let Some(cause) = repeat_at(alloc, read, offset)? {
                 return Ok(cause);
             }
         }
         _ => {}
     }
     match model_around(&read.file, offset) {
-        Some(Model::Atomic(atomic)) => hint_in_atomic(alloc, text, read, atomic, refusal),
-        Some(Model::Coupled(coupled)) => hint_in_coupled(alloc, text, read, coupled, refusal),
+        Some(Model::Atomic(atomic)) => hint_in_atomic(alloc, read, atomic, refusal),
+        Some(Model::Coupled(coupled)) => hint_in_coupled(alloc, read, coupled, refusal),
         None => empty_cause(alloc),
     }
 }
@@ -93,20 +88,19 @@ fn hint_on_root(
 
 fn hint_in_atomic(
     alloc: Global,
-    text: &[u8],
     read: &ReadText,
     model: &Atomic,
     refusal: &TextError,
 ) -> Result<Cause, AllocError> {
     match refusal.number {
-        RefusalNumber::E10 => item_at(alloc, text, read, model, refusal.offset),
+        RefusalNumber::E10 => item_at(alloc, read, model, refusal.offset),
         RefusalNumber::E11 => start_at(alloc, model, refusal.offset),
         RefusalNumber::E6 | RefusalNumber::E7 | RefusalNumber::E8 | RefusalNumber::E9 => {
             let known = Known::of(alloc, model)?;
             let mut search = Search::new(refusal.number, refusal.offset);
             look_through_model(&known, model, &mut search);
             match search.found {
-                Some(reason) => cause_of(alloc, text, read, model, &known, &reason),
+                Some(reason) => cause_of(alloc, read, model, &known, &reason),
                 None => empty_cause(alloc),
             }
         }
@@ -116,16 +110,15 @@ fn hint_in_atomic(
 
 fn hint_in_coupled(
     alloc: Global,
-    text: &[u8],
     read: &ReadText,
     model: &Coupled,
     refusal: &TextError,
 ) -> Result<Cause, AllocError> {
-    match refusal.number {
-        RefusalNumber::E7 => unknown_in(alloc, read, model, refusal.offset),
-        RefusalNumber::E12 => wrong_way_in(alloc, read, model, refusal.offset),
-        RefusalNumber::E13 => leads_back(alloc, read, model, refusal.offset),
-        RefusalNumber::E14 => repeated_link(alloc, text, read, model, refusal.offset),
+    match (refusal.number, link_at(model, refusal.offset)) {
+        (RefusalNumber::E7, _) => unknown_in(alloc, read, model, refusal.offset),
+        (RefusalNumber::E12, _) => wrong_way_in(alloc, read, model, refusal.offset),
+        (RefusalNumber::E13, Some(link)) => leads_back(alloc, read, link),
+        (RefusalNumber::E14, Some(link)) => repeated_link(alloc, read, model, link),
         _ => empty_cause(alloc),
     }
 }

@@ -1,7 +1,7 @@
 //! Items of an atomic model that are missing or written twice.
 
 use crate::causes::{cause, empty_cause};
-use crate::reading::{ReadText, position};
+use crate::reading::ReadText;
 use dv_explain::{Cause, Quoted};
 use dv_syntax::{Atomic, Name};
 use std::alloc::{AllocError, Global};
@@ -19,7 +19,6 @@ const MOST_LISTED: usize = 8;
 /// No memory for the words.
 pub fn item_at(
     alloc: Global,
-    text: &[u8],
     read: &ReadText,
     model: &Atomic,
     offset: u32,
@@ -27,7 +26,7 @@ pub fn item_at(
     if model.name.offset == offset {
         missing(alloc, read, model)
     } else {
-        twice(alloc, text, read, model, offset)
+        twice(alloc, read, model, offset)
     }
 }
 
@@ -141,13 +140,7 @@ fn held_phases(alloc: Global, model: &Atomic) -> Result<HashSet<u32>, AllocError
 }
 
 /// The cause of E10 for the second of two items, whose first word is at an offset.
-fn twice(
-    alloc: Global,
-    text: &[u8],
-    read: &ReadText,
-    model: &Atomic,
-    offset: u32,
-) -> Result<Cause, AllocError> {
+fn twice(alloc: Global, read: &ReadText, model: &Atomic, offset: u32) -> Result<Cause, AllocError> {
     let Some((item, first)) = item_and_first(read, model, offset) else {
         return empty_cause(alloc);
     };
@@ -155,7 +148,7 @@ fn twice(
         Item::Phases => "`phases z, w;` names all phases.\n",
         Item::Start | Item::Hold(_) => "",
     };
-    let first = position(text, first);
+    let first = read.position(first);
     cause(
         alloc,
         format_args!("{item} is written twice, first at {first}"),

@@ -9,7 +9,8 @@ use std::alloc::{AllocError, Global};
 
 /// A text that could be parsed.
 #[derive(Drop)]
-pub struct ReadText {
+pub struct ReadText<'t> {
+    text: &'t [u8],
     /// The syntax tree.
     pub file: File,
     /// The table of names.
@@ -18,10 +19,15 @@ pub struct ReadText {
     pub knows_queues: bool,
 }
 
-impl ReadText {
+impl ReadText<'_> {
     /// The text of the name of this number.
     pub fn name(&self, number: u32) -> &str {
         self.names.text(number).unwrap_or("")
+    }
+
+    /// The position of an offset, in bytes of the text.
+    pub fn position(&self, offset: u32) -> Position {
+        Position::of(self.text, offset as usize)
     }
 }
 
@@ -30,7 +36,7 @@ impl ReadText {
 /// # Errors
 ///
 /// No memory for the tree.
-pub fn read(alloc: Global, text: &[u8]) -> Result<Option<ReadText>, AllocError> {
+pub fn read(alloc: Global, text: &[u8]) -> Result<Option<ReadText<'_>>, AllocError> {
     match parsed(alloc, text) {
         Ok(read) => Ok(Some(read)),
         Err(LoadError::Refused(_)) => Ok(None),
@@ -38,7 +44,7 @@ pub fn read(alloc: Global, text: &[u8]) -> Result<Option<ReadText>, AllocError> 
     }
 }
 
-fn parsed(alloc: Global, text: &[u8]) -> Result<ReadText, LoadError> {
+fn parsed(alloc: Global, text: &[u8]) -> Result<ReadText<'_>, LoadError> {
     let lexed = tokens(alloc, text)?;
     let file = parse(
         alloc,
@@ -47,13 +53,9 @@ fn parsed(alloc: Global, text: &[u8]) -> Result<ReadText, LoadError> {
     )?;
     let knows_queues = knows_queues(&lexed.tokens);
     Ok(ReadText {
+        text,
         file,
         names: lexed.names,
         knows_queues,
     })
-}
-
-/// The position of an offset, in bytes, of a text.
-pub fn position(text: &[u8], offset: u32) -> Position {
-    Position::of(text, offset as usize)
 }

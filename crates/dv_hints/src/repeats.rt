@@ -2,11 +2,11 @@
 
 use crate::causes::{cause, empty_cause};
 use crate::ends::link_text;
-use crate::models::{link_at, model_around, name_of};
-use crate::reading::{ReadText, position};
+use crate::models::{model_around, name_of};
+use crate::reading::ReadText;
 use crate::sorts::{Rule, name_of as name_of_declaration, sort_of};
 use dv_explain::{Cause, Quoted};
-use dv_syntax::{Atomic, Coupled, End, Model, Name, RuleSort};
+use dv_syntax::{Atomic, Coupled, End, Link, Model, Name, RuleSort};
 use std::alloc::{AllocError, Global};
 
 /// Names that all have to be different. There is one such space for each case.
@@ -37,15 +37,10 @@ struct Located {
 /// # Errors
 ///
 /// No memory for the names or the words.
-pub fn repeat_at(
-    alloc: Global,
-    text: &[u8],
-    read: &ReadText,
-    offset: u32,
-) -> Result<Option<Cause>, AllocError> {
+pub fn repeat_at(alloc: Global, read: &ReadText, offset: u32) -> Result<Option<Cause>, AllocError> {
     let names = names_around(alloc, read, offset)?;
     match first_of(&names, offset) {
-        Some(first) => Ok(Some(cause_of_repeat(alloc, text, read, first)?)),
+        Some(first) => Ok(Some(cause_of_repeat(alloc, read, first)?)),
         None => Ok(None),
     }
 }
@@ -80,14 +75,9 @@ fn is_same(one: &Located, other: &Located) -> bool {
 }
 
 /// The cause of E6 for a name with this first declaration.
-fn cause_of_repeat(
-    alloc: Global,
-    text: &[u8],
-    read: &ReadText,
-    first: &Located,
-) -> Result<Cause, AllocError> {
+fn cause_of_repeat(alloc: Global, read: &ReadText, first: &Located) -> Result<Cause, AllocError> {
     let name = Quoted(read.name(first.name.number));
-    let position = position(text, first.name.offset);
+    let position = read.position(first.name.offset);
     let kind = first.kind;
     match first.space {
         Space::Rules(_) => cause(
@@ -171,28 +161,24 @@ fn push_all(
     Ok(())
 }
 
-/// The cause of E14 for the link whose word `link` is at an offset.
+/// The cause of E14 for a link of a model.
 ///
 /// # Errors
 ///
 /// No memory for the words.
 pub fn repeated_link(
     alloc: Global,
-    text: &[u8],
     read: &ReadText,
     model: &Coupled,
-    offset: u32,
+    second: &Link,
 ) -> Result<Cause, AllocError> {
-    let Some(second) = link_at(model, offset) else {
-        return empty_cause(alloc);
-    };
     for first in &model.links {
-        if first.offset < offset
+        if first.offset < second.offset
             && is_same_end(&first.from, &second.from)
             && is_same_end(&first.to, &second.to)
         {
             let written = link_text(read, second);
-            let position = position(text, first.offset);
+            let position = read.position(first.offset);
             let summary = format_args!("`{written}` is written twice, first at {position}");
             return cause(alloc, summary, "");
         }

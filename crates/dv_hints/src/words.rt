@@ -5,7 +5,7 @@ use crate::causes::cause;
 use crate::known::Known;
 use crate::lists::WantedSentence;
 use crate::near::cause_of_unknown;
-use crate::reading::{ReadText, position};
+use crate::reading::ReadText;
 use crate::reason::{Misplaced, Reason};
 use crate::sorts::{NameSort, Rule, name_of, sort_of};
 use crate::taker::{Taker, TypeWords};
@@ -23,7 +23,6 @@ use std::fmt;
 /// No memory for the words.
 pub fn cause_of(
     alloc: Global,
-    text: &[u8],
     read: &ReadText,
     model: &Atomic,
     known: &Known,
@@ -42,7 +41,7 @@ pub fn cause_of(
         Reason::Type { found, taker } => other_type(alloc, read, *found, *taker),
         Reason::Misplaced { what, around } => misplaced(alloc, read, *what, around),
         Reason::LoopVariable { variable, other } => {
-            loop_variable(alloc, text, read, known, *variable, *other)
+            loop_variable(alloc, read, known, *variable, *other)
         }
     }
 }
@@ -337,7 +336,6 @@ fn misplaced(
 /// The cause of E6 for the variable of a loop.
 fn loop_variable(
     alloc: Global,
-    text: &[u8],
     read: &ReadText,
     known: &Known,
     variable: Name,
@@ -353,7 +351,7 @@ fn loop_variable(
         alloc,
         format_args!(
             "{name} is declared twice, first as {sort} at {}",
-            position(text, first)
+            read.position(first)
         ),
         "The variable of a loop needs a name of its own; loops that are not nested may share one.\n",
     )
