@@ -2,7 +2,6 @@
 
 use crate::atom::Atom;
 use crate::component::{Component, state_at_start, state_shown};
-use crate::error::FaultsError;
 use crate::paragraphs::{FileText, Paragraphs};
 use crate::reaction::Instant;
 use dv_bag::{Bags, Input, What};
@@ -90,11 +89,11 @@ impl<'t> Follower<'t> {
     ///
     /// # Errors
     ///
-    /// `Memory`: no memory for the text.
-    pub(crate) fn finish(mut self) -> Result<String, FaultsError> {
+    /// No memory for the text.
+    pub(crate) fn finish(mut self) -> Result<String, AllocError> {
         self.settle()?;
         let Follower { paragraphs, .. } = self;
-        Ok(paragraphs.into_text()?)
+        paragraphs.into_text()
     }
 
     // Counts a fault that is not explained.

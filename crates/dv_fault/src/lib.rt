@@ -17,8 +17,6 @@ mod atom;
 mod case;
 /// Components between two instants.
 mod component;
-/// Why faults could not be explained.
-pub mod error;
 /// Follows a run by the lines of its trace.
 mod follower;
 /// Sentences on the operation that has a fault.
@@ -38,6 +36,5 @@ mod values;
 /// The interface: a writer that takes the trace of a run.
 pub mod writer;
 
-pub use error::FaultsError;
 pub use paragraphs::FileText;
 pub use writer::FaultWriter;

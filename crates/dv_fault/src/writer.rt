@@ -1,13 +1,12 @@
 //! A writer that takes the trace of a run and explains its faults.
 
-use crate::error::FaultsError;
 use crate::follower::Follower;
 use crate::paragraphs::FileText;
 use dv_bag::Inputs;
 use dv_flat::LinkLists;
-use dv_trace::{End, LineCutter, LineLists, TakeLine, TraceReader};
+use dv_trace::{End, LineCutter, LineLists, TakeLine, TraceError, TraceReader};
 use dv_tree::Tree;
-use std::alloc::Global;
+use std::alloc::{AllocError, Global};
 use std::io;
 use std::io::Write;
 
@@ -27,14 +26,14 @@ struct Following<'t> {
 }
 
 impl TakeLine for Following<'_> {
-    type Error = FaultsError;
+    type Error = TraceError;
 
     // The lists are not needed: the follower reads the whole line.
     fn take_line<'a>(
         &mut self,
         line: &'a [u8],
         _lists: &mut LineLists<'a>,
-    ) -> Result<(), FaultsError> {
+    ) -> Result<(), TraceError> {
         let line = self.reader.read_line(line)?;
         self.follower.add(&line)?;
         Ok(())
@@ -48,7 +47,7 @@ impl<'t> FaultWriter<'t> {
     ///
     /// # Errors
     ///
-    /// `Memory`: no memory for the names and the components.
+    /// No memory for the names and the components.
     pub fn new(
         alloc: Global,
         tree: &'t Tree<'t>,
@@ -56,7 +55,7 @@ impl<'t> FaultWriter<'t> {
         inputs: &'t Inputs,
         limit: u32,
         model: FileText<'t>,
-    ) -> Result<Self, FaultsError> {
+    ) -> Result<Self, AllocError> {
         let following = Following {
             reader: TraceReader::new(alloc, tree)?,
             follower: Follower::new(alloc, tree, links, inputs.as_slice(), limit, model)?,
@@ -71,15 +70,16 @@ impl<'t> FaultWriter<'t> {
     ///
     /// # Errors
     ///
-    /// `Refused` or `Memory`, if a write failed with it before. `Memory`: no memory for the text.
-    pub fn finish(self) -> Result<String, FaultsError> {
+    /// `Refused` or `Memory`, if a write failed before because the bytes are no trace of the model
+    /// or because an allocation was refused. `Memory`: no memory for the text.
+    pub fn finish(self) -> Result<String, TraceError> {
         let FaultWriter { lines } = self;
         // Bytes after the last line feed are ignored.
         let Following {
             reader: _,
             follower,
         } = lines.finish(End::Optional)?;
-        follower.finish()
+        Ok(follower.finish()?)
     }
 }
 

@@ -1,13 +1,12 @@
 //! Why a view is not complete.
 
-use dv_fault::FaultsError;
 use dv_inputs::InputsError;
 use dv_job::JobError;
 use dv_partition::PartitionError;
 use dv_stats::StatsError;
 use dv_table::TableError;
 use dv_text::WriteError;
-use dv_trace::TraceRefusal;
+use dv_trace::{TraceError, TraceRefusal};
 use dv_vcd::VcdError;
 use std::alloc::AllocError;
 use std::io::ErrorKind;
@@ -106,11 +105,11 @@ impl From<TableError> for ViewError {
     }
 }
 
-impl From<FaultsError> for ViewError {
-    fn from(error: FaultsError) -> Self {
+impl From<TraceError> for ViewError {
+    fn from(error: TraceError) -> Self {
         match error {
-            FaultsError::Refused(refusal) => ViewError::Trace(refusal),
-            FaultsError::Memory => ViewError::Job(JobError::Memory),
+            TraceError::Refused(refusal) => ViewError::Trace(refusal),
+            TraceError::Memory => ViewError::Job(JobError::Memory),
         }
     }
 }
