@@ -2,7 +2,7 @@
 
 use dv_bag::Fault;
 use dv_syntax::RuleSort;
-use std::alloc::{AllocError, AllocFailed};
+use std::alloc::AllocError;
 
 /// What has a fault.
 #[derive(Clone, Copy, PartialEq, Eq)]
@@ -45,12 +45,6 @@ impl Stop {
 
 impl From<AllocError> for Stop {
     fn from(_error: AllocError) -> Self {
-        Stop::Memory
-    }
-}
-
-impl<T: Drop> From<AllocFailed<T>> for Stop {
-    fn from(_error: AllocFailed<T>) -> Self {
         Stop::Memory
     }
 }

@@ -2,7 +2,7 @@
 
 use dv_text::WriteError;
 use dv_trace::{TraceError, TraceRefusal};
-use std::alloc::{AllocError, AllocFailed};
+use std::alloc::AllocError;
 
 /// Why the numbers are not complete.
 #[derive(Clone, Copy, PartialEq, Eq)]
@@ -35,12 +35,6 @@ impl From<WriteError> for StatsError {
 
 impl From<AllocError> for StatsError {
     fn from(_error: AllocError) -> Self {
-        StatsError::Memory
-    }
-}
-
-impl<T: Drop> From<AllocFailed<T>> for StatsError {
-    fn from(_error: AllocFailed<T>) -> Self {
         StatsError::Memory
     }
 }
