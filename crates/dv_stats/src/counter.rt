@@ -3,10 +3,9 @@
 use crate::counts::Counts;
 use crate::error::StatsError;
 use crate::listing::write_counts;
-use crate::options::StatsOptions;
+use crate::options::Counted;
 use dv_trace::{LineLists, Reach, TakeLine, TraceReader};
-use dv_tree::Tree;
-use std::alloc::{AllocError, Global};
+use std::alloc::AllocError;
 use std::io::Write;
 
 /// Reads the lines of a trace and counts what they say.
@@ -19,31 +18,25 @@ pub(crate) struct Counter<'t> {
 impl<'t> Counter<'t> {
     /// A counter at the first line of a trace. `None` if no component has the path in
     /// `options.only`.
-    pub(crate) fn new(
-        alloc: Global,
-        tree: &'t Tree<'t>,
-        options: &StatsOptions<'_>,
-    ) -> Result<Option<Self>, AllocError> {
-        let Some(counts) = Counts::new(alloc, tree, options)? else {
+    pub(crate) fn new(counted: Counted<'t>) -> Result<Option<Self>, AllocError> {
+        let Some(counts) = Counts::new(counted.alloc, counted.tree, &counted.options)? else {
             return Ok(None);
         };
         Ok(Some(Counter {
             counts,
-            reader: TraceReader::new(alloc, tree)?,
+            reader: TraceReader::new(counted.alloc, counted.tree)?,
         }))
     }
 
     /// Ends the trace, writes what was counted, and returns how far the trace reaches.
     pub(crate) fn end<W: Write>(
         &mut self,
-        alloc: Global,
-        tree: &'t Tree<'t>,
-        options: &StatsOptions<'_>,
+        counted: Counted<'t>,
         writer: &mut W,
     ) -> Result<Reach, StatsError> {
-        let reach = self.reader.end(options.end)?;
+        let reach = self.reader.end(counted.options.end)?;
         self.counts.finish();
-        write_counts(alloc, tree, &self.counts, options, writer)?;
+        write_counts(counted, &self.counts, writer)?;
         Ok(reach)
     }
 }

@@ -2,43 +2,34 @@
 
 use crate::counts::Counts;
 use crate::error::StatsError;
-use crate::options::{Form, StatsOptions};
+use crate::options::{Counted, Form, StatsOptions};
 use crate::rows::section_of;
 use crate::section::Kind;
 use crate::table::{push_columns, push_csv};
 use dv_text::hand_over;
-use dv_tree::Tree;
-use std::alloc::{AllocError, Global};
+use std::alloc::AllocError;
 use std::fmt::Display;
 use std::io::Write;
 
 /// Writes what was counted.
-pub(crate) fn write_counts<'t, W: Write>(
-    alloc: Global,
-    tree: &'t Tree<'t>,
+pub(crate) fn write_counts<W: Write>(
+    counted: Counted<'_>,
     counts: &Counts,
-    options: &StatsOptions<'_>,
     writer: &mut W,
 ) -> Result<(), StatsError> {
-    let mut text = String::new(alloc);
-    push_counts(alloc, tree, counts, options, &mut text)?;
+    let mut text = String::new(counted.alloc);
+    push_counts(counted, counts, &mut text)?;
     hand_over(writer, text.as_bytes())?;
     Ok(())
 }
 
-fn push_counts<'t>(
-    alloc: Global,
-    tree: &'t Tree<'t>,
-    counts: &Counts,
-    options: &StatsOptions<'_>,
-    text: &mut String,
-) -> Result<(), AllocError> {
-    push_span(text, counts.span.ticks(), options)?;
+fn push_counts(counted: Counted<'_>, counts: &Counts, text: &mut String) -> Result<(), AllocError> {
+    push_span(text, counts.span.ticks(), &counted.options)?;
     for kind in Kind::ALL {
-        let section = section_of(alloc, tree, counts, kind)?;
-        match options.form {
-            Form::Columns => push_columns(alloc, text, &section)?,
-            Form::Csv => push_csv(alloc, text, &section)?,
+        let section = section_of(counted.alloc, counted.tree, counts, kind)?;
+        match counted.options.form {
+            Form::Columns => push_columns(counted.alloc, text, &section)?,
+            Form::Csv => push_csv(counted.alloc, text, &section)?,
         }
     }
     Ok(())

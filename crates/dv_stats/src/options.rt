@@ -1,6 +1,8 @@
-//! Options of the numbers.
+//! Options of the numbers, and the model that they are of.
 
 use dv_trace::End;
+use dv_tree::Tree;
+use std::alloc::Global;
 
 /// How the numbers are written.
 #[derive(Clone, Copy, PartialEq, Eq)]
@@ -29,4 +31,12 @@ pub struct StatsOptions<'a> {
     /// Whether quantiles and histograms are written, too. They take memory for each distinct value
     /// that a port sent.
     pub quantiles: bool,
+}
+
+/// The model of a trace, and what is counted of it.
+#[derive(Clone, Copy)]
+pub(crate) struct Counted<'t> {
+    pub(crate) alloc: Global,
+    pub(crate) tree: &'t Tree<'t>,
+    pub(crate) options: StatsOptions<'t>,
 }

@@ -2,7 +2,7 @@
 
 use crate::counter::Counter;
 use crate::error::StatsError;
-use crate::options::StatsOptions;
+use crate::options::{Counted, StatsOptions};
 use dv_trace::{LineCutter, Reach};
 use dv_tree::Tree;
 use std::alloc::{AllocError, Global};
@@ -16,9 +16,7 @@ use std::io::Write;
 /// A write fails if a line is refused or an allocation is; `finish` returns the cause.
 #[derive(Drop)]
 pub struct StatsWriter<'t> {
-    alloc: Global,
-    tree: &'t Tree<'t>,
-    options: StatsOptions<'t>,
+    counted: Counted<'t>,
     lines: LineCutter<Counter<'t>>,
 }
 
@@ -34,13 +32,16 @@ impl<'t> StatsWriter<'t> {
         tree: &'t Tree<'t>,
         options: &StatsOptions<'t>,
     ) -> Result<Option<Self>, AllocError> {
-        let Some(counter) = Counter::new(alloc, tree, options)? else {
-            return Ok(None);
-        };
-        Ok(Some(StatsWriter {
+        let counted = Counted {
             alloc,
             tree,
             options: *options,
+        };
+        let Some(counter) = Counter::new(counted)? else {
+            return Ok(None);
+        };
+        Ok(Some(StatsWriter {
+            counted,
             lines: LineCutter::new(alloc, counter),
         }))
     }
@@ -61,14 +62,9 @@ impl<'t> StatsWriter<'t> {
     /// If a write to this `StatsWriter` failed, the error is the cause of that: `Refused` or
     /// `Memory`.
     pub fn finish<W: Write>(self, writer: &mut W) -> Result<Reach, StatsError> {
-        let StatsWriter {
-            alloc,
-            tree,
-            options,
-            lines,
-        } = self;
-        let mut counter = lines.finish(options.end)?;
-        counter.end(alloc, tree, &options, writer)
+        let StatsWriter { counted, lines } = self;
+        let mut counter = lines.finish(counted.options.end)?;
+        counter.end(counted, writer)
     }
 }
 
