@@ -1,5 +1,6 @@
 //! Which ports have links.
 
+use crate::warning::Direction;
 use dv_syntax::Model;
 use dv_tree::{Coupling, Level, Target, Tree, level_at};
 use std::alloc::{AllocError, Global};
@@ -26,16 +27,18 @@ impl PortLinks {
         })
     }
 
-    /// Whether a link leads to the input port at an index. Also true if no part of the model has a
-    /// link at all: then each part has a warning of its own.
-    pub(crate) fn is_input_linked(&self, port: Option<usize>) -> bool {
-        !self.is_linked || is_marked(&self.inputs, port)
+    /// Whether the port at an index has a link. Also true if no part of the model has a link at
+    /// all: then each part has a warning of its own.
+    pub(crate) fn has_link(&self, direction: Direction, port: Option<usize>) -> bool {
+        !self.is_linked || is_marked(self.ports(direction), port)
     }
 
-    /// Whether a link leads from the output port at an index. Also true if no part of the model has
-    /// a link at all.
-    pub(crate) fn is_output_linked(&self, port: Option<usize>) -> bool {
-        !self.is_linked || is_marked(&self.outputs, port)
+    // For each port of a direction, whether it has a link.
+    fn ports(&self, direction: Direction) -> &[bool] {
+        match direction {
+            Direction::Input => &self.inputs,
+            Direction::Output => &self.outputs,
+        }
     }
 
     /// The indices of the input ports to which links lead, ascending.
@@ -96,14 +99,12 @@ impl PartLinks {
         !self.inputs.is_empty() || !self.outputs.is_empty()
     }
 
-    /// Whether the input port at an index has a link.
-    pub(crate) fn has_input(&self, port: usize) -> bool {
-        self.inputs.binary_search(&port).is_ok()
-    }
-
-    /// Whether the output port at an index has a link.
-    pub(crate) fn has_output(&self, port: usize) -> bool {
-        self.outputs.binary_search(&port).is_ok()
+    /// Whether the port at an index has a link.
+    pub(crate) fn has_link(&self, direction: Direction, port: usize) -> bool {
+        match direction {
+            Direction::Input => self.inputs.binary_search(&port).is_ok(),
+            Direction::Output => self.outputs.binary_search(&port).is_ok(),
+        }
     }
 }
 

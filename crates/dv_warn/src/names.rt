@@ -115,12 +115,12 @@ fn find_unused_name(
     match declaration {
         Declaration::In(port) => {
             let is_used = uses.takes_anything || uses.read.contains(&port.number);
-            let is_linked = links.is_input_linked(scope.input(port.number));
+            let is_linked = links.has_link(Direction::Input, scope.input(port.number));
             find_unused_port(findings, Direction::Input, *port, is_used, is_linked)
         }
         Declaration::Out(port) => {
             let is_used = uses.sent.contains(&port.number);
-            let is_linked = links.is_output_linked(scope.output(port.number));
+            let is_linked = links.has_link(Direction::Output, scope.output(port.number));
             find_unused_port(findings, Direction::Output, *port, is_used, is_linked)
         }
         Declaration::Var(variable) => {

@@ -19,25 +19,38 @@ pub(crate) fn find_unlinked_ports(
     inside: &PartLinks,
     outside: &PortLinks,
 ) -> Result<(), AllocError> {
-    for (index, name) in coupled.inputs.iter().enumerate() {
-        let port = CoupledPort {
-            direction: Direction::Input,
-            name: *name,
-            is_linked_inside: inside.has_input(index),
-            is_linked_outside: outside.is_input_linked(Some(index)),
-        };
-        find_unlinked_port(findings, coupled.name, port)?;
+    for direction in [Direction::Input, Direction::Output] {
+        find_unlinked_of(findings, coupled, direction, inside, outside)?;
     }
-    for (index, name) in coupled.outputs.iter().enumerate() {
+    Ok(())
+}
+
+// Adds the warnings about the ports of a direction.
+fn find_unlinked_of(
+    findings: &mut Findings<'_>,
+    coupled: &Coupled,
+    direction: Direction,
+    inside: &PartLinks,
+    outside: &PortLinks,
+) -> Result<(), AllocError> {
+    for (index, name) in ports_of(coupled, direction).iter().enumerate() {
         let port = CoupledPort {
-            direction: Direction::Output,
+            direction,
             name: *name,
-            is_linked_inside: inside.has_output(index),
-            is_linked_outside: outside.is_output_linked(Some(index)),
+            is_linked_inside: inside.has_link(direction, index),
+            is_linked_outside: outside.has_link(direction, Some(index)),
         };
         find_unlinked_port(findings, coupled.name, port)?;
     }
     Ok(())
+}
+
+// The names of the ports of a direction.
+fn ports_of(coupled: &Coupled, direction: Direction) -> &[Name] {
+    match direction {
+        Direction::Input => &coupled.inputs,
+        Direction::Output => &coupled.outputs,
+    }
 }
 
 // A port of a coupled model, and on which sides of it there are links.
