@@ -1,5 +1,6 @@
 //! Finds the warnings of a model.
 
+use crate::atomic::AtomicModel;
 use crate::constants::Nowhere;
 use crate::findings::Findings;
 use crate::links::{InsideLinks, PortLinks, links_inside, port_links};
@@ -9,20 +10,11 @@ use crate::names::{Uses, find_unused_names};
 use crate::parts::{find_unlinked_parts, find_unlinked_ports};
 use crate::phases::{Phase, phases_of};
 use crate::reach::{phases_behind_internal_rules, reached_phases};
-use crate::rules::{Reach, Surroundings, find_constant_conditions, find_in_phase};
+use crate::rules::{Reach, find_constant_conditions, find_in_phase};
 use crate::warning::Found;
-use dv_eval::Scope;
-use dv_syntax::{Atomic, Model, RuleSort};
+use dv_syntax::Model;
 use dv_tree::{Tree, level_at};
 use std::alloc::{AllocError, Global};
-
-/// An atomic model, with its names and the links at its ports.
-#[derive(Clone, Copy)]
-struct AtomicModel<'a> {
-    atomic: &'a Atomic,
-    scope: &'a Scope,
-    links: &'a PortLinks,
-}
 
 /// The warnings about the model of a tree, in the order of the text. A model that the root does not
 /// lead to gets only the warning that says so.
@@ -90,7 +82,7 @@ fn find_unused(
 ) -> Result<(), AllocError> {
     let holds = mentions_in_holds(alloc, model.atomic)?;
     let uses = Uses::of(alloc, rules, &holds, model.scope)?;
-    find_unused_names(findings, model.atomic, model.scope, &uses, model.links)
+    find_unused_names(findings, model, &uses)
 }
 
 fn find_in_phases(
@@ -101,42 +93,16 @@ fn find_in_phases(
 ) -> Result<(), AllocError> {
     let reached = reached_phases(alloc, model.atomic, model.scope, phases)?;
     let behind = phases_behind_internal_rules(alloc, model.scope, phases, &reached)?;
-    let around = surroundings(model);
+    let around = model.surroundings();
     for ((phase, is_reached), is_behind) in phases.iter().zip(&reached).zip(&behind) {
         let reach = Reach {
-            is_start: is_start(model.atomic, phase.name.number),
+            is_start: model.starts_in(phase.name.number),
             is_reached: *is_reached,
             is_behind_internal_rule: *is_behind,
         };
         find_in_phase(findings, phase, around, reach)?;
     }
     Ok(())
-}
-
-fn surroundings(model: AtomicModel<'_>) -> Surroundings {
-    Surroundings {
-        has_inputs: !model.scope.inputs().is_empty(),
-        is_fed: !model.links.fed_inputs().is_empty(),
-        has_external_rules: has_external_rules(model.atomic),
-    }
-}
-
-fn has_external_rules(atomic: &Atomic) -> bool {
-    for rule in &atomic.rules {
-        if rule.sort == RuleSort::External {
-            return true;
-        }
-    }
-    false
-}
-
-fn is_start(atomic: &Atomic, phase: u32) -> bool {
-    for start in &atomic.starts {
-        if start.phase.number == phase {
-            return true;
-        }
-    }
-    false
 }
 
 fn find_in_coupled_models(

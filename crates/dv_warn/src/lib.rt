@@ -9,6 +9,8 @@
 //! with some may be right.
 #![tactic(auto)]
 
+/// An atomic model, with what is known of it.
+mod atomic;
 /// The values of expressions without names.
 mod constants;
 /// Finds the warnings of a model.

@@ -1,12 +1,12 @@
 //! Warnings about unused names of an atomic model.
 
+use crate::atomic::AtomicModel;
 use crate::findings::Findings;
-use crate::links::PortLinks;
 use crate::mentions::{Mention, ReadRule};
 use crate::warning::{Direction, StateSort, Warning};
 use dv_bag::Discipline;
 use dv_eval::Scope;
-use dv_syntax::{Atomic, Declaration, Name, RuleSort};
+use dv_syntax::{Declaration, Name, RuleSort};
 use std::alloc::{AllocError, Global};
 use std::collections::HashSet;
 
@@ -94,33 +94,32 @@ fn reads_input(mentions: &[Mention], scope: &Scope) -> bool {
 /// Memory is refused.
 pub(crate) fn find_unused_names(
     findings: &mut Findings<'_>,
-    atomic: &Atomic,
-    scope: &Scope,
+    model: AtomicModel<'_>,
     uses: &Uses,
-    links: &PortLinks,
 ) -> Result<(), AllocError> {
-    for declaration in &atomic.declarations {
-        find_unused_name(findings, declaration, scope, uses, links)?;
+    for declaration in &model.atomic.declarations {
+        find_unused_name(findings, model, declaration, uses)?;
     }
     Ok(())
 }
 
 fn find_unused_name(
     findings: &mut Findings<'_>,
+    model: AtomicModel<'_>,
     declaration: &Declaration,
-    scope: &Scope,
     uses: &Uses,
-    links: &PortLinks,
 ) -> Result<(), AllocError> {
     match declaration {
         Declaration::In(port) => {
             let is_used = uses.takes_anything || uses.read.contains(&port.number);
-            let is_linked = links.has_link(Direction::Input, scope.input(port.number));
+            let index = model.scope.input(port.number);
+            let is_linked = model.links.has_link(Direction::Input, index);
             find_unused_port(findings, Direction::Input, *port, is_used, is_linked)
         }
         Declaration::Out(port) => {
             let is_used = uses.sent.contains(&port.number);
-            let is_linked = links.has_link(Direction::Output, scope.output(port.number));
+            let index = model.scope.output(port.number);
+            let is_linked = model.links.has_link(Direction::Output, index);
             find_unused_port(findings, Direction::Output, *port, is_used, is_linked)
         }
         Declaration::Var(variable) => {
