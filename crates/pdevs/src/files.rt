@@ -221,11 +221,7 @@ pub fn open<'a, R: Files + Input + Eprint>(
     } else {
         open_file(rt, word)
     };
-    let name = told_name(word);
-    match unless_unread(rt, name, reader, is_explained)? {
-        Some(reader) => Ok(Some(OpenedFile { name, reader })),
-        None => Ok(None),
-    }
+    opened(rt, word, reader, is_explained)
 }
 
 /// Opens a file as `open` does, to be read any number of times. What is no regular file, such as a
@@ -244,6 +240,21 @@ pub fn open_seekable<'a, R: AllocGlobal + Files + Input + Eprint>(
     } else {
         open_or_keep(rt, word)
     };
+    opened(rt, word, reader, is_explained)
+}
+
+/// The file that a word names, with the answer of opening it. `None` if it can't be opened, as for
+/// `open`.
+///
+/// # Errors
+///
+/// An allocation was refused.
+fn opened<'a, R: Eprint, T>(
+    rt: &R,
+    word: &'a str,
+    reader: io::Result<T>,
+    is_explained: bool,
+) -> io::Result<Option<OpenedFile<'a, T>>> {
     let name = told_name(word);
     match unless_unread(rt, name, reader, is_explained)? {
         Some(reader) => Ok(Some(OpenedFile { name, reader })),
