@@ -1,6 +1,7 @@
 -- What words ask for.
 use Rattle.std.specs.Prelude.{◌≡◌, ℕ, ◌^◌, ◌-◌, Bool, true, false, ◌||◌, ◌&&◌, MatchBool, IsSomeAnd, ⊤, List, [], ◌∷◌, ◌++◌}
 use Rattle.std.specs.Prelude.{Option, Some, None, option_map, is_some, nat_le, string_bytes, bytes_eq, codes}
+use Rattle.std.specs.Prelude.{Result, Ok, Err}
 use Rattle.std.specs.declared.string.String.{String}
 use Rattle.dv_time.specs.Limits.{greatest_tick, greatest_limit}
 use Rattle.dv_explain.specs.Codes.{explained_in_any_case}
@@ -27,11 +28,18 @@ use Rattle.dv_command.specs.declared.request.StatsChoice.{StatsChoice}
 use Rattle.dv_command.specs.declared.request.Table.{Table as TableRequest}
 use Rattle.dv_command.specs.declared.request.TraceFiles.{TraceFiles}
 use Rattle.dv_command.specs.declared.request.Waves.{Waves}
+use Rattle.dv_command.specs.declared.unasked.Unasked.{Unasked}
+use Rattle.dv_command.specs.declared.unasked.Unasked.TheVariants as unasked
 
 -- what fits, or `None` if nothing fits
 abbrev pub IsFitting : {A : Type 0} → (A → Type 0) → Option A → Type 0
 IsFitting {A} Fits None = (x : A) → ¬ (Fits x)
 IsFitting Fits (Some x) = Fits x
+
+-- what is true of an answer: `Nothing` is the answer `None`; if memory ran out, there is no answer
+abbrev pub IfAnswered : {A : Type 0} → Result A Unasked → (Option A → Type 0) → Type 0
+IfAnswered (Ok x) Holds = Holds (Some x)
+IfAnswered (Err why) Holds = why ≡ unasked.Nothing → Holds None
 
 -- the microstep limit of a run if none is given
 abbrev pub usual_limit : ℕ

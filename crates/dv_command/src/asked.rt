@@ -1,8 +1,8 @@
-//! From parts to requests. `None` means that the parts ask for nothing.
+//! From words and their parts to requests.
 
-ghost use Rattle.std.specs.Prelude.{◌≡◌, ◌≤◌, ◌∷◌, [], IfOk, IfSome, map, string_bytes};
+ghost use Rattle.std.specs.Prelude.{◌≡◌, ◌≤◌, ◌∷◌, [], IfOk, map, option_map, string_bytes};
 ghost use Rattle.dv_command.specs.Asked.{Asks, AsksBehind, AsksCheck, AsksCode, AsksDriving, AsksHorizon, AsksMicrosteps};
-ghost use Rattle.dv_command.specs.Asked.{AsksModel, AsksRun, AsksWith, IsAnswer, IsFitting, IsVersion, is_version};
+ghost use Rattle.dv_command.specs.Asked.{AsksModel, AsksRun, AsksWith, IfAnswered, IsAnswer, IsFitting, IsVersion, is_version};
 ghost use Rattle.dv_command.specs.Subcommands.{subcommand_named};
 ghost use Rattle.dv_command.specs.Steps.{said_in};
 ghost use Rattle.dv_command.specs.Words.{values};
@@ -13,6 +13,7 @@ use crate::given::{count_in, flag_in, owned_text_in, values};
 use crate::part::{Part, said_by};
 use crate::request::{Check, ModelFile, Request, Run, USUAL_LIMIT};
 use crate::subcommand::{Subcommand, subcommand_named};
+use crate::unasked::Unasked;
 use crate::viewed::{run_stats_in, stats_in, table_in, waves_in};
 use dv_explain::{Explanation, explanation_in_any_case};
 use dv_time::{GREATEST_LIMIT, GREATEST_TICK};
@@ -25,149 +26,106 @@ pub(crate) const VERSION: &str = "0.1.0";
 pub(crate) const MOST_WORKERS: u64 = 256;
 
 /// The value, if there is exactly one.
-pub(crate) fn only_value(alloc: Global, parts: &[Part<'_>]) -> Result<Option<String>, AllocError>
-    ensures { IfOk result (IsFitting (λ text. values (map said_in parts.now)
-        ≡ string_bytes text ∷ [])) }
+fn only_text<'a>(alloc: Global, parts: &[Part<'a>]) -> Result<&'a str, Unasked>
+    ensures { IfAnswered result (λ r. IsFitting (λ text. values (map said_in parts.now) ≡ text ∷ [])
+        (option_map (λ text. text.now) r)) }
 {
     let texts = values(alloc, parts)?;
     match texts.as_slice() {
-        [text] => Ok(Some(String::from_str(alloc, text)?)),
-        [] => Ok(None),
-        [_, _, ..] => Ok(None),
+        [text] => Ok(*text),
+        [] => Err(Unasked::Nothing),
+        [_, _, ..] => Err(Unasked::Nothing),
     }
+}
+
+/// The same as `only_text`, with a copy of the value.
+pub(crate) fn only_value(alloc: Global, parts: &[Part<'_>]) -> Result<String, Unasked>
+    ensures { IfAnswered result (IsFitting (λ text. values (map said_in parts.now)
+        ≡ string_bytes text ∷ [])) }
+{
+    let text = only_text(alloc, parts)?;
+    Ok(String::from_str(alloc, text)?)
 }
 
 /// A model with `--explain` or without.
-pub(crate) fn model_in(alloc: Global, parts: &[Part<'_>]) -> Result<Option<ModelFile>, AllocError>
-    ensures { IfOk result (IsFitting (AsksModel (map said_in parts.now))) }
+pub(crate) fn model_in(alloc: Global, parts: &[Part<'_>]) -> Result<ModelFile, Unasked>
+    ensures { IfAnswered result (IsFitting (AsksModel (map said_in parts.now))) }
 {
-    let Some(model) = only_value(alloc, parts)? else {
-        return Ok(None);
-    };
-    let Some(explained) = flag_in(alloc, "--explain", parts)? else {
-        return Ok(None);
-    };
-    Ok(Some(ModelFile { model, explained }))
+    Ok(ModelFile {
+        model: only_value(alloc, parts)?,
+        explained: flag_in(alloc, "--explain", parts)?,
+    })
 }
 
-fn check_in(alloc: Global, parts: &[Part<'_>]) -> Result<Option<Check>, AllocError>
-    ensures { IfOk result (IsFitting (AsksCheck (map said_in parts.now))) }
+fn check_in(alloc: Global, parts: &[Part<'_>]) -> Result<Check, Unasked>
+    ensures { IfAnswered result (IsFitting (AsksCheck (map said_in parts.now))) }
 {
-    let Some(file) = model_in(alloc, parts)? else {
-        return Ok(None);
-    };
-    let Some(warned) = flag_in(alloc, "--warn", parts)? else {
-        return Ok(None);
-    };
-    Ok(Some(Check { file, warned }))
+    Ok(Check {
+        file: model_in(alloc, parts)?,
+        warned: flag_in(alloc, "--warn", parts)?,
+    })
 }
 
 /// The last tick of a run.
-fn horizon_in(alloc: Global, parts: &[Part<'_>]) -> Result<Option<u64>, AllocError>
-    ensures fits { IfOk result (IsFitting (AsksHorizon (map said_in parts.now))) }
-    ensures in_range { IfOk result (λ r. IfSome r (λ tick. tick ≤ greatest_tick)) }
+fn horizon_in(alloc: Global, parts: &[Part<'_>]) -> Result<u64, Unasked>
+    ensures fits { IfAnswered result (IsFitting (AsksHorizon (map said_in parts.now))) }
+    ensures in_range { IfOk result (λ tick. tick ≤ greatest_tick) }
 {
-    match count_in(alloc, 0, GREATEST_TICK, "--horizon", parts)? {
-        Some(Some(horizon)) => Ok(Some(horizon)),
-        Some(None) => Ok(None),
-        None => Ok(None),
-    }
+    count_in(alloc, 0, GREATEST_TICK, "--horizon", parts)?.ok_or(Unasked::Nothing)
 }
 
 /// The greatest microstep of a tick, 20 if none is given.
-fn microsteps_in(alloc: Global, parts: &[Part<'_>]) -> Result<Option<u32>, AllocError>
-    ensures fits { IfOk result (IsFitting (AsksMicrosteps (map said_in parts.now))) }
-    ensures in_range { IfOk result (λ r. IfSome r
-        (λ limit. (1 ≤ limit) × (limit ≤ greatest_limit))) }
+fn microsteps_in(alloc: Global, parts: &[Part<'_>]) -> Result<u32, Unasked>
+    ensures fits { IfAnswered result (IsFitting (AsksMicrosteps (map said_in parts.now))) }
+    ensures in_range { IfOk result (λ limit. (1 ≤ limit) × (limit ≤ greatest_limit)) }
 {
     let most = u64::from(GREATEST_LIMIT);
     match count_in(alloc, 1, most, "--microsteps", parts)? {
-        Some(Some(limit)) => Ok(Some(limit as u32)),
-        Some(None) => Ok(Some(USUAL_LIMIT)),
-        None => Ok(None),
+        Some(limit) => Ok(limit as u32),
+        None => Ok(USUAL_LIMIT),
     }
 }
 
 /// The number of rounds and the number of workers. Only one of them may be given.
-fn driving_in(
-    alloc: Global,
-    parts: &[Part<'_>],
-) -> Result<Option<(Option<u64>, Option<u32>)>, AllocError>
-    ensures { IfOk result (IsFitting (λ driving. AsksDriving (map said_in parts.now)
+fn driving_in(alloc: Global, parts: &[Part<'_>]) -> Result<(Option<u64>, Option<u32>), Unasked>
+    ensures { IfAnswered result (IsFitting (λ driving. AsksDriving (map said_in parts.now)
         driving.0 driving.1)) }
 {
-    let Some(rounds) = count_in(alloc, 0, u64::MAX, "--rounds", parts)? else {
-        return Ok(None);
-    };
-    let Some(workers) = count_in(alloc, 1, MOST_WORKERS, "--workers", parts)? else {
-        return Ok(None);
-    };
+    let rounds = count_in(alloc, 0, u64::MAX, "--rounds", parts)?;
+    let workers = count_in(alloc, 1, MOST_WORKERS, "--workers", parts)?;
     match (rounds, workers) {
-        (None, None) => Ok(Some((None, None))),
-        (Some(rounds), None) => Ok(Some((Some(rounds), None))),
-        (None, Some(workers)) => Ok(Some((None, Some(workers as u32)))),
-        (Some(_), Some(_)) => Ok(None),
+        (None, None) => Ok((None, None)),
+        (Some(rounds), None) => Ok((Some(rounds), None)),
+        (None, Some(workers)) => Ok((None, Some(workers as u32))),
+        (Some(_), Some(_)) => Err(Unasked::Nothing),
     }
 }
 
-fn run_in(alloc: Global, parts: &[Part<'_>]) -> Result<Option<Run>, AllocError>
-    ensures { IfOk result (IsFitting (AsksRun (map said_in parts.now))) }
+fn run_in(alloc: Global, parts: &[Part<'_>]) -> Result<Run, Unasked>
+    ensures { IfAnswered result (IsFitting (AsksRun (map said_in parts.now))) }
 {
-    let Some(model) = only_value(alloc, parts)? else {
-        return Ok(None);
-    };
-    let Some(partition) = partition_in(alloc, parts)? else {
-        return Ok(None);
-    };
-    let Some(inputs) = owned_text_in(alloc, "--inputs", parts)? else {
-        return Ok(None);
-    };
-    let Some(horizon) = horizon_in(alloc, parts)? else {
-        return Ok(None);
-    };
-    let Some(microsteps) = microsteps_in(alloc, parts)? else {
-        return Ok(None);
-    };
-    let Some((rounds, workers)) = driving_in(alloc, parts)? else {
-        return Ok(None);
-    };
-    let Some(explained) = flag_in(alloc, "--explain", parts)? else {
-        return Ok(None);
-    };
-    let Some(stats) = run_stats_in(alloc, parts)? else {
-        return Ok(None);
-    };
-    let Some(progress) = flag_in(alloc, "--progress", parts)? else {
-        return Ok(None);
-    };
-    Ok(Some(Run {
-        model,
-        partition,
-        inputs,
-        horizon,
-        microsteps,
+    let (rounds, workers) = driving_in(alloc, parts)?;
+    Ok(Run {
+        model: only_value(alloc, parts)?,
+        partition: partition_in(alloc, parts)?,
+        inputs: owned_text_in(alloc, "--inputs", parts)?,
+        horizon: horizon_in(alloc, parts)?,
+        microsteps: microsteps_in(alloc, parts)?,
         rounds,
         workers,
-        explained,
-        stats,
-        progress,
-    }))
+        explained: flag_in(alloc, "--explain", parts)?,
+        stats: run_stats_in(alloc, parts)?,
+        progress: flag_in(alloc, "--progress", parts)?,
+    })
 }
 
 /// The explanation of the code that is given.
-fn explanation_in(
-    alloc: Global,
-    parts: &[Part<'_>],
-) -> Result<Option<&'static Explanation>, AllocError>
-    ensures { IfOk result (IsFitting (λ explanation. AsksCode (map said_in parts.now)
+fn explanation_in(alloc: Global, parts: &[Part<'_>]) -> Result<&'static Explanation, Unasked>
+    ensures { IfAnswered result (IsFitting (λ explanation. AsksCode (map said_in parts.now)
         explanation.now.code.now)) }
 {
-    let texts = values(alloc, parts)?;
-    match texts.as_slice() {
-        [code] => explanation_in_any_case(alloc, code),
-        [] => Ok(None),
-        [_, _, ..] => Ok(None),
-    }
+    let code = only_text(alloc, parts)?;
+    explanation_in_any_case(alloc, code)?.ok_or(Unasked::Nothing)
 }
 
 /// What the parts behind a subcommand ask for.
@@ -175,61 +133,32 @@ fn asked_behind(
     alloc: Global,
     subcommand: Subcommand,
     parts: &[Part<'_>],
-) -> Result<Option<Request>, AllocError>
-    ensures { IfOk result (IsAnswer (AsksBehind subcommand (map said_in parts.now))) }
+) -> Result<Request, Unasked>
+    ensures { IfAnswered result (IsAnswer (AsksBehind subcommand (map said_in parts.now))) }
 {
     match subcommand {
-        Subcommand::Check => match check_in(alloc, parts)? {
-            Some(check) => Ok(Some(Request::Check(check))),
-            None => Ok(None),
-        },
-        Subcommand::Code => match model_in(alloc, parts)? {
-            Some(file) => Ok(Some(Request::Code(file))),
-            None => Ok(None),
-        },
-        Subcommand::Explain => match explanation_in(alloc, parts)? {
-            Some(explanation) => Ok(Some(Request::Explain(explanation))),
-            None => Ok(None),
-        },
-        Subcommand::Graph => match graph_in(alloc, parts)? {
-            Some(graph) => Ok(Some(Request::Graph(graph))),
-            None => Ok(None),
-        },
-        Subcommand::Plan => match plan_in(alloc, parts)? {
-            Some(plan) => Ok(Some(Request::Plan(plan))),
-            None => Ok(None),
-        },
-        Subcommand::Run => match run_in(alloc, parts)? {
-            Some(run) => Ok(Some(Request::Run(run))),
-            None => Ok(None),
-        },
-        Subcommand::Stats => match stats_in(alloc, parts)? {
-            Some(stats) => Ok(Some(Request::Stats(stats))),
-            None => Ok(None),
-        },
-        Subcommand::Table => match table_in(alloc, parts)? {
-            Some(table) => Ok(Some(Request::Table(table))),
-            None => Ok(None),
-        },
-        Subcommand::Vcd => match waves_in(alloc, parts)? {
-            Some(waves) => Ok(Some(Request::Vcd(waves))),
-            None => Ok(None),
-        },
+        Subcommand::Check => Ok(Request::Check(check_in(alloc, parts)?)),
+        Subcommand::Code => Ok(Request::Code(model_in(alloc, parts)?)),
+        Subcommand::Explain => Ok(Request::Explain(explanation_in(alloc, parts)?)),
+        Subcommand::Graph => Ok(Request::Graph(graph_in(alloc, parts)?)),
+        Subcommand::Plan => Ok(Request::Plan(plan_in(alloc, parts)?)),
+        Subcommand::Run => Ok(Request::Run(run_in(alloc, parts)?)),
+        Subcommand::Stats => Ok(Request::Stats(stats_in(alloc, parts)?)),
+        Subcommand::Table => Ok(Request::Table(table_in(alloc, parts)?)),
+        Subcommand::Vcd => Ok(Request::Vcd(waves_in(alloc, parts)?)),
     }
 }
 
 /// What the words behind the name of a subcommand ask for. The name may be any word.
-fn asked_with(alloc: Global, name: &str, words: &[String]) -> Result<Option<Request>, AllocError>
-    ensures { IfOk result (IsAnswer (AsksWith (subcommand_named name.now)
+fn asked_with(alloc: Global, name: &str, words: &[String]) -> Result<Request, Unasked>
+    ensures { IfAnswered result (IsAnswer (AsksWith (subcommand_named name.now)
         (map string_bytes words.now))) }
 {
     let Some(subcommand) = subcommand_named(name) else {
-        return Ok(None);
+        return Err(Unasked::Nothing);
     };
-    match said_by(alloc, subcommand, words)? {
-        Some(parts) => asked_behind(alloc, subcommand, &parts),
-        None => Ok(None),
-    }
+    let parts = said_by(alloc, subcommand, words)?;
+    asked_behind(alloc, subcommand, &parts)
 }
 
 /// Whether a word asks for the version.
@@ -249,23 +178,22 @@ fn version(alloc: Global) -> Result<Request, AllocError>
     Ok(Request::Version(text))
 }
 
-/// What a command line asks for, or `None` if it asks for nothing. The first word is the program's
-/// name.
+/// What a command line asks for. The first word is the program's name.
 ///
 /// # Errors
 ///
-/// An allocation was refused.
-pub(crate) fn asked(alloc: Global, words: &[String]) -> Result<Option<Request>, AllocError>
-    ensures { IfOk result (IsAnswer (Asks (map string_bytes words.now))) }
+/// `Nothing`: it asks for nothing. `Memory`: an allocation was refused.
+pub(crate) fn asked(alloc: Global, words: &[String]) -> Result<Request, Unasked>
+    ensures { IfAnswered result (IsAnswer (Asks (map string_bytes words.now))) }
 {
     match words {
         [_, word, rest @ ..] => {
             if is_version(word.as_str()) {
-                return Ok(Some(version(alloc)?));
+                return Ok(version(alloc)?);
             }
             asked_with(alloc, word.as_str(), rest)
         }
-        [] => Ok(None),
-        [_] => Ok(None),
+        [] => Err(Unasked::Nothing),
+        [_] => Err(Unasked::Nothing),
     }
 }

@@ -5,6 +5,7 @@ ghost use Rattle.dv_command.specs.Asked.{AnswersNothing, Asks};
 
 use crate::asked::asked;
 use crate::request::{Request, RequestError, Usage};
+use crate::unasked::Unasked;
 use crate::usage::usage_text;
 use std::alloc::Global;
 
@@ -18,11 +19,12 @@ pub fn request_of(alloc: Global, words: &[String]) -> Result<Request, RequestErr
     ensures asked { IfOk result (Asks (map string_bytes words.now)) }
     ensures nothing { IfErr result (AnswersNothing (Asks (map string_bytes words.now))) }
 {
-    match asked(alloc, words)? {
-        Some(request) => Ok(request),
-        None => {
+    match asked(alloc, words) {
+        Ok(request) => Ok(request),
+        Err(Unasked::Nothing) => {
             let text = usage_text(alloc, words)?;
             Err(RequestError::Usage(Usage { text }))
         }
+        Err(Unasked::Memory) => Err(RequestError::Memory),
     }
 }

@@ -1,13 +1,13 @@
-//! Values and options among parts. The outer `None` of an answer means that the parts ask for
-//! nothing.
+//! Values and options among parts.
 
 ghost use Rattle.std.specs.Prelude.{◌≡◌, ◌≤◌, List, ℕ, map, option_map, filter_map, IfOk, is_some, IfSome};
 ghost use Rattle.dv_command.specs.Words.{at_most_one, given, named_in, value_in, values};
-ghost use Rattle.dv_command.specs.Asked.{AsksText, IsFitting, count_in, flag_in, is_left_out, number_of, text_in};
+ghost use Rattle.dv_command.specs.Asked.{AsksText, IfAnswered, IsFitting, count_in, flag_in, is_left_out, number_of, text_in};
 ghost use Rattle.dv_command.specs.Steps.{said_in};
 
 use crate::number::number_in;
 use crate::part::Part;
+use crate::unasked::Unasked;
 use std::alloc::{AllocError, Global};
 
 fn value_in<'a>(part: Part<'a>) -> Option<&'a str>
@@ -69,17 +69,17 @@ fn at_most_one<'a>(texts: &[&'a str]) -> Option<Option<&'a str>>
     }
 }
 
-/// The value of an option, if it is given; `None` if it is given more than once.
+/// The value of an option, if it is given; `Nothing` if it is given more than once.
 pub(crate) fn text_in<'a>(
     alloc: Global,
     name: &str,
     parts: &[Part<'a>],
-) -> Result<Option<Option<&'a str>>, AllocError>
-    ensures { IfOk result (λ r. option_map (option_map (λ text. text.now)) r
+) -> Result<Option<&'a str>, Unasked>
+    ensures { IfAnswered result (λ r. option_map (option_map (λ text. text.now)) r
         ≡ text_in name.now (map said_in parts.now)) }
 {
     let texts = given(alloc, name, parts)?;
-    Ok(at_most_one(&texts))
+    at_most_one(&texts).ok_or(Unasked::Nothing)
 }
 
 /// The same as `text_in`, with a copy of the value.
@@ -87,39 +87,29 @@ pub(crate) fn owned_text_in(
     alloc: Global,
     name: &str,
     parts: &[Part<'_>],
-) -> Result<Option<Option<String>>, AllocError>
-    ensures { IfOk result (IsFitting (AsksText name.now (map said_in parts.now))) }
+) -> Result<Option<String>, Unasked>
+    ensures { IfAnswered result (IsFitting (AsksText name.now (map said_in parts.now))) }
 {
     match text_in(alloc, name, parts)? {
         None => Ok(None),
-        Some(None) => Ok(Some(None)),
-        Some(Some(text)) => Ok(Some(Some(String::from_str(alloc, text)?))),
+        Some(text) => Ok(Some(String::from_str(alloc, text)?)),
     }
 }
 
-/// Whether a flag is given; `None` if it is given more than once.
-pub(crate) fn flag_in(
-    alloc: Global,
-    name: &str,
-    parts: &[Part<'_>],
-) -> Result<Option<bool>, AllocError>
-    ensures { IfOk result (λ r. r ≡ flag_in name.now (map said_in parts.now)) }
+/// Whether a flag is given; `Nothing` if it is given more than once.
+pub(crate) fn flag_in(alloc: Global, name: &str, parts: &[Part<'_>]) -> Result<bool, Unasked>
+    ensures { IfAnswered result (λ r. r ≡ flag_in name.now (map said_in parts.now)) }
 {
-    match text_in(alloc, name, parts)? {
-        Some(text) => Ok(Some(text.is_some())),
-        None => Ok(None),
-    }
+    let text = text_in(alloc, name, parts)?;
+    Ok(text.is_some())
 }
 
 /// Whether an option is not given.
 pub(crate) fn is_left_out(alloc: Global, name: &str, parts: &[Part<'_>]) -> Result<bool, AllocError>
     ensures { IfOk result (λ r. r ≡ is_left_out name.now (map said_in parts.now)) }
 {
-    match text_in(alloc, name, parts)? {
-        Some(None) => Ok(true),
-        Some(Some(_)) => Ok(false),
-        None => Ok(false),
-    }
+    let texts = given(alloc, name, parts)?;
+    Ok(texts.is_empty())
 }
 
 /// The number in the value of an option, if it is given; `None` if the value is no number in this
@@ -136,19 +126,18 @@ fn number_of(least: u64, greatest: u64, text: Option<&str>) -> Option<Option<u64
     }
 }
 
-/// The number of an option, if it is given; `None` if it is given more than once, or if its value
-/// is not a number in this range.
+/// The number of an option, if it is given; `Nothing` if it is given more than once, or if its
+/// value is not a number in this range.
 pub(crate) fn count_in(
     alloc: Global,
     least: u64,
     greatest: u64,
     name: &str,
     parts: &[Part<'_>],
-) -> Result<Option<Option<u64>>, AllocError>
-    ensures { IfOk result (λ r. r ≡ count_in least greatest name.now (map said_in parts.now)) }
+) -> Result<Option<u64>, Unasked>
+    ensures { IfAnswered result (λ r. r
+        ≡ count_in least greatest name.now (map said_in parts.now)) }
 {
-    match text_in(alloc, name, parts)? {
-        Some(text) => Ok(number_of(least, greatest, text)),
-        None => Ok(None),
-    }
+    let text = text_in(alloc, name, parts)?;
+    number_of(least, greatest, text).ok_or(Unasked::Nothing)
 }

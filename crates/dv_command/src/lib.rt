@@ -31,6 +31,8 @@ mod part;
 pub mod request;
 /// The subcommands, their names and their options.
 mod subcommand;
+/// Why words ask for nothing.
+mod unasked;
 /// The text of help and of errors.
 mod usage;
 /// From parts to requests for views of a trace.

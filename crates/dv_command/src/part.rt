@@ -1,10 +1,12 @@
 //! From the words behind a subcommand to parts.
 
-ghost use Rattle.std.specs.Prelude.{◌≡◌, ◌++◌, map, option_map, option_to_list, IfOk, OnOk, string_bytes};
+ghost use Rattle.std.specs.Prelude.{◌≡◌, ◌++◌, map, option_map, option_to_list, OnOk, string_bytes};
+ghost use Rattle.dv_command.specs.Asked.{IfAnswered};
 ghost use Rattle.dv_command.specs.Words.{Ready, is_value, joined_step, named_in, option_step, said_by, step, value_in};
 ghost use Rattle.dv_command.specs.Steps.{reading_of, said_in, step_of};
 
 use crate::subcommand::{Subcommand, is_flag, takes_value};
+use crate::unasked::Unasked;
 use std::alloc::{AllocError, Global};
 
 /// A value, a flag, or an option with its value.
@@ -128,31 +130,31 @@ fn push_part<'a>(parts: &mut Vec<Part<'a>>, part: Option<Part<'a>>) -> Result<()
     Ok(())
 }
 
-/// The parts of all words; `None` if a word is not allowed where it is, or if the value of an
-/// option is missing.
+/// The parts of all words.
 ///
 /// # Errors
 ///
-/// An allocation was refused.
+/// `Nothing`: a word is not allowed where it is, or the value of an option is missing. `Memory`: an
+/// allocation was refused.
 pub(crate) fn said_by<'a>(
     alloc: Global,
     subcommand: Subcommand,
     words: &'a [String],
-) -> Result<Option<Vec<Part<'a>>>, AllocError>
-    ensures { IfOk result (λ parts. option_map (λ said. map said_in said.items) parts
+) -> Result<Vec<Part<'a>>, Unasked>
+    ensures { IfAnswered result (λ parts. option_map (λ said. map said_in said.items) parts
         ≡ said_by subcommand Ready (map string_bytes words.now)) }
 {
     let mut parts = Vec::new(alloc);
     let mut index = Index::Ready;
     for word in words {
         let Some(read) = step(subcommand, index, word.as_str()) else {
-            return Ok(None);
+            return Err(Unasked::Nothing);
         };
         push_part(&mut parts, read.part)?;
         index = read.next;
     }
     if let Index::Awaits(_) = index {
-        return Ok(None);
+        return Err(Unasked::Nothing);
     }
-    Ok(Some(parts))
+    Ok(parts)
 }

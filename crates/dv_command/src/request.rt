@@ -2,6 +2,7 @@
 
 ghost use Rattle.std.specs.Prelude.{◌≡◌};
 ghost use Rattle.dv_command.specs.Ranges.{AreInRange};
+ghost use Rattle.dv_command.specs.declared.request.RequestError.TheVariants.{Memory};
 
 use dv_explain::Explanation;
 use std::alloc::AllocError;
@@ -199,8 +200,6 @@ pub enum RequestError {
 }
 
 impl From<AllocError> for RequestError {
-    ghost use Rattle.dv_command.specs.declared.request.RequestError.TheVariants.{Memory};
-
     ghost from_gives = { λ _ e. e ≡ Memory };
 
     fn from(_error: AllocError) -> Self {

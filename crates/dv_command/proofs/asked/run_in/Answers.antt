@@ -1,10 +1,7 @@
-use Rattle.std.proofs.Common.{ℕ, map, Option}
-use Rattle.dv_command.specs.Asked.{AsksDriving}
-use Rattle.dv_command.specs.Steps.{said_in}
-use Rattle.dv_command.proofs.Fitting.{none_fits}
+use Rattle.std.proofs.lemmas.Result.{err_from_is_err_and}
 use Rattle.dv_command.proofs.asked.run_in.Goals as goal
 
-pub returns-in_default-6 : goal.returns-in_default-6
-returns-in_default-6 c = λ run asks.
-    none_fits (λ (driving : Option ℕ × Option ℕ). AsksDriving (map said_in c.args.parts.now) driving.0 driving.1)
-    c.in_ok-rounds.field-0 c.in_default-6.is c.in_ok-rounds.ensures (run.rounds, run.workers) asks.driving
+pub returns-in_err-rounds : goal.returns-in_err-rounds
+returns-in_err-rounds c =
+    let p = err_from_is_err_and c.from_residual.result c.from_residual.ensures.1 in
+    rw (p.1, p.2) (λ nothing run asks. c.in_err-rounds.ensures nothing (run.rounds, run.workers) asks.driving)

@@ -1,10 +1,7 @@
-use Rattle.std.proofs.Common.{ℕ, map, Option}
-use Rattle.dv_command.specs.Asked.{AsksWindow}
-use Rattle.dv_command.specs.Steps.{said_in}
-use Rattle.dv_command.proofs.Fitting.{none_fits}
+use Rattle.std.proofs.lemmas.Result.{err_from_is_err_and}
 use Rattle.dv_command.proofs.viewed.stats_choice_in.Goals as goal
 
-pub returns-in_default : goal.returns-in_default
-returns-in_default c = λ choice asks.
-    none_fits (λ (window : Option ℕ × Option ℕ). AsksWindow (map said_in c.args.parts.now) window.0 window.1)
-    c.in_ok-from.field-0 c.in_default.is c.in_ok-from.ensures (choice.from, choice.to) asks.window
+pub returns-in_err-from : goal.returns-in_err-from
+returns-in_err-from c =
+    let p = err_from_is_err_and c.from_residual.result c.from_residual.ensures.1 in
+    rw (p.1, p.2) (λ nothing choice asks. c.in_err-from.ensures nothing (choice.from, choice.to) asks.window)
