@@ -58,7 +58,19 @@ def come_to(bench, words, given):
     answer = bench.call(words, given, stood_in={"HURRY": "", "THREADS": str(threads)})
     text = TOLD.sub("", answer.text())
     told = "progress is told\n" if text != answer.text() else ""
-    return f"{text}{told}{threads.stat().st_size if threads.exists() else 0} threads\n"
+    return f"{text}{told}{threads_in(threads)} threads\n"
+
+
+def threads_in(file):
+    """How many threads were started, of which each left a byte in a file."""
+    return file.stat().st_size if file.exists() else 0
+
+
+def hold_workers(request, bench):
+    """What is wrong with the threads of a run by workers that has just ended: each worker has one of its own."""
+    wanted = int(request.options.get("workers", 0))
+    started = threads_in(bench.folder / "threads")
+    return "" if started >= wanted else f"{started} threads for {wanted} workers\n"
 
 
 def hold_request(files, words, request, bench):
@@ -72,6 +84,8 @@ def hold_request(files, words, request, bench):
         wrong = difference(wanted, come_to(bench, words, given))
         if wrong:
             return f"{model}, and not as {' '.join(request.words())}\n{wrong}"
+        if model == MODELS[0] and (wrong := hold_workers(request, bench)):
+            return wrong
         for name, other in request.parts():
             if name not in seen and come_to(bench, other.words(), given) != wanted:
                 seen.add(name)

@@ -83,7 +83,15 @@ def hold_faulted(row, bench):
         return f"without --explain\n{quiet.text()}and with it\n{told.text()}"
     if quiet.status != (3 if wanted else 0):
         return quiet.text()
-    return difference(wanted, told.told.decode())
+    return difference(wanted, told.told.decode()) or hold_faulted_once(row, words, wanted, bench)
+
+
+def hold_faulted_once(row, words, wanted, bench):
+    """What is wrong with what is told of the faults of a row where the model, or its inputs, can be read only once."""
+    piped = bench.call([word.replace("model.pd", "-") for word in (*words, "--explain")], row.text("").encode())
+    told = piped.told.decode().replace("<stdin>:", "model.pd:")
+    given = bench.call([word.replace("inputs.txt", "-") for word in (*words, "--explain")], row.text("< ").encode())
+    return difference(wanted, told) or difference(wanted, given.told.decode())
 
 
 def hold_read(model, row, bench):
