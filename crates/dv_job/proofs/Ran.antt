@@ -1,6 +1,7 @@
 -- From what ran and what was written of it to what a run of bytes leaves.
-use Rattle.std.proofs.Common.{◌≡◌, ℕ, ◌<◌, ◌≤◌, Bool, true, false, if◌then◌else◌, List, [], ◌++◌, append-nil, length, Option}
+use Rattle.std.proofs.Common.{◌≡◌, ◌≢◌, ℕ, ◌<◌, ◌≤◌, Bool, true, false, if◌then◌else◌, List, [], ◌++◌, append-nil, length, Option}
 use Rattle.std.proofs.Common.{None, Some, Result, Ok, Err, IfOk, IfErr, refl, ap, ◌∙◌, sym, subst, inl, inr}
+use Rattle.std.specs.List.{list_any}
 use Rattle.std.specs.Prelude.{◌↔◌, IsSome, OnOk}
 use Rattle.std.specs.Io.KnownBytes.{Appends, Keeps}
 use Rattle.dv_time.specs.Time.{end_of}
@@ -20,12 +21,15 @@ use Rattle.dv_run.specs.Runs.{IsCutShort, IsPrinted, IsRunOf, LedTo, lines_befor
 use Rattle.dv_core.specs.declared.step.Ended.{Ended}
 use Rattle.dv_core.specs.declared.step.Ended.TheVariants as rounds
 use Rattle.dv_stream.proofs.Ended.{memory_by_rounds, never_stopped_by_rounds, stalled_by_rounds}
-use Rattle.dv_stream.specs.Endings.{by_rounds}
+use Rattle.dv_stream.specs.Endings.{by_rounds, why_for}
 use Rattle.dv_stream.specs.declared.ran.Ran.{Ran}
 use Rattle.dv_stream.specs.declared.ran.RunEnded.{RunEnded}
 use Rattle.dv_stream.specs.declared.ran.RunEnded.TheVariants as ran
 use Rattle.dv_stream.specs.declared.ran.Why.{Why}
 use Rattle.dv_stream.specs.declared.ran.Why.TheVariants as why
+use Rattle.dv_work.specs.Endings.{is_caused, lacks_memory}
+use Rattle.dv_work.specs.declared.worker.Halt.{Halt}
+use Rattle.dv_work.proofs.Endings.{caused_is_some}
 use Rattle.dv_written.specs.Faults.{has_fault}
 use Rattle.dv_text.specs.declared.writing.Ending.TheVariants as text_end
 use Rattle.dv_text.specs.declared.writing.WriteError.{WriteError}
@@ -36,10 +40,11 @@ use Rattle.dv_text.specs.Writing.{StopsShort, TakesFront}
 use Rattle.dv_text.proofs.Endings.{ending-some}
 use Rattle.dv_text.proofs.Taking.{Appends-append, AppendsBeginning-longer, AppendsBeginning-text, StopsShort-behind}
 use Rattle.dv_text.proofs.Taking.{StopsShort-from, StopsShort-longer}
+use Rattle.dv_job.specs.Halts.{IsCutAs, cause_at}
 use Rattle.dv_job.specs.Job.{IsModelOf, run_text}
 use Rattle.dv_job.specs.Planned.{AnswersPlan}
-use Rattle.dv_job.specs.Running.{EndsBy, EndsByWorkers, IsLed, IsPlanned, IsTextOf, LeftByRun, PrintsCut, PrintsLed}
-use Rattle.dv_job.specs.Running.{PrintsSome, PrintsWhole, granted}
+use Rattle.dv_job.specs.Running.{EndsBy, EndsByWorkers, IsLed, IsLedShort, IsLedText, IsPlanned, IsTextOf, LeftByRun, PrintsCut, PrintsLed}
+use Rattle.dv_job.specs.Running.{PrintsSome, PrintsSomeLed, PrintsWhole, granted}
 use Rattle.dv_job.specs.Stepping.{AnswersSteps}
 use Rattle.dv_job.specs.Written.{IsUnwritten, end_text, ended_at}
 use Rattle.dv_job.specs.declared.options.Options.{Options}
@@ -82,7 +87,7 @@ RanSo names f played groups o old new r = IsRunOf names f played groups o.horizo
 module _ (names : List (List ℕ)) (f : FileTree) (played : List Input) (groups : Grouping) (o : Options)
     (model inputs : List ℕ) (partition : Partition) (planned : IsPlanned model inputs partition o.limit names f groups played) where
   -- a text that was not written to its end
-  stops : {old new : Option (List ℕ)} (text : List ℕ) → IsTextOf names f played groups.processes o.horizon o.limit text
+  abbrev stops : {old new : Option (List ℕ)} (text : List ℕ) → IsTextOf names f played groups.processes o.horizon o.limit text
       → StopsShort old new text → PrintsSome model inputs partition o old new
   stops text is written = record {
     names = names;
@@ -95,10 +100,19 @@ module _ (names : List (List ℕ)) (f : FileTree) (played : List Input) (groups 
     written = written;
   }
 
+  -- the same of a text to which rounds led
+  led_stops : {old new : Option (List ℕ)} (text : List ℕ) → IsTextOf names f played groups.processes o.horizon o.limit text
+      → IsLedText names f played groups o text → StopsShort old new text → PrintsSomeLed model inputs partition o old new
+  led_stops text is led written = record { some = stops text is written; led = led }
+
   -- lines that were cut short are a beginning of the whole text
-  pub left_by_cut : {old new : Option (List ℕ)} (e : WriteError) → LinesContinue → IsCutShort names f played o.horizon o.limit old new
-      → LeftByRun (job_error_of_write e) model inputs partition o old new
-  left_by_cut {old} {new} e continue cut = by_error e
+  cut_short : {old new : Option (List ℕ)} → LinesContinue → IsCutShort names f played o.horizon o.limit old new
+      → StopsShort old new (run_text names f played o.horizon o.limit)
+  cut_short continue cut =
+      StopsShort-longer (ending_text (text_end.Whole o.horizon)) (ending-some (text_end.Whole o.horizon))
+      (AppendsBeginning-text
+      (continue all ports o.limit (network_of o.limit f) (outside f o.limit played) cut.upto (end_of o.limit o.horizon) cut.within)
+      (AppendsBeginning-longer more cut.lines))
     where
       all : List ComponentNames
       all = component_names names f
@@ -110,17 +124,17 @@ module _ (names : List (List ℕ)) (f : FileTree) (played : List Input) (groups 
       more = part_text all ports (trace_between o.limit (network_of o.limit f) (outside f o.limit played) cut.upto
           (end_of o.limit o.horizon))
 
-      short : PrintsSome model inputs partition o old new
-      short =
-          stops (run_text names f played o.horizon o.limit) (inl refl)
-          (StopsShort-longer (ending_text (text_end.Whole o.horizon)) (ending-some (text_end.Whole o.horizon))
-          (AppendsBeginning-text
-          (continue all ports o.limit (network_of o.limit f) (outside f o.limit played) cut.upto (end_of o.limit o.horizon) cut.within)
-          (AppendsBeginning-longer more cut.lines)))
+  pub left_by_cut : {old new : Option (List ℕ)} (e : WriteError) → LinesContinue → IsCutShort names f played o.horizon o.limit old new
+      → LeftByRun (job_error_of_write e) model inputs partition o old new
+  left_by_cut write.Write continue cut = stops (run_text names f played o.horizon o.limit) (inl refl) (cut_short continue cut)
+  left_by_cut write.Memory continue cut = inr (stops (run_text names f played o.horizon o.limit) (inl refl) (cut_short continue cut))
 
-      by_error : (e : WriteError) → LeftByRun (job_error_of_write e) model inputs partition o old new
-      by_error write.Write = short
-      by_error write.Memory = inr short
+  pub led_by_cut : {old new : Option (List ℕ)} (e : WriteError) → LinesContinue → IsCutShort names f played o.horizon o.limit old new
+      → IsLedShort (job_error_of_write e) model inputs partition o old new
+  led_by_cut write.Write continue cut =
+      led_stops (run_text names f played o.horizon o.limit) (inl refl) (inl refl) (cut_short continue cut)
+  led_by_cut write.Memory continue cut =
+      inr (led_stops (run_text names f played o.horizon o.limit) (inl refl) (inl refl) (cut_short continue cut))
 
   module _ (r : Ran) (old mid new : Option (List ℕ)) (printed : IsPrinted names f played groups o.horizon o.limit old mid r) where
     abbrev least : ℕ
@@ -135,7 +149,8 @@ module _ (names : List (List ℕ)) (f : FileTree) (played : List Input) (groups 
         → IsTextOf names f played groups.processes o.horizon o.limit (lines ++ end_text at o.horizon r.clocks.items)
     text_of_it ran.Whole at =
         inl (ap (λ (n : ℕ). lines_before names f played o.limit n ++ ending_text (text_end.Whole o.horizon)) (printed.whole at))
-    text_of_it (ran.Cut w) at = inr (r.clocks.items, printed.count, printed.some, printed.within, refl)
+    text_of_it (ran.Cut w) at =
+        inr (r.clocks.items, printed.count, printed.some, printed.within, printed.short (λ whole. absurd (let e = sym at ∙ whole in cc)), refl)
 
     behind : (text : List ℕ) → Appends mid new text → Appends old new (lines ++ text)
     behind text written = Appends-append old mid new lines text printed.lines written
@@ -245,6 +260,39 @@ module _ (names : List (List ℕ)) (f : FileTree) (played : List Input) (groups 
     led_so (ran.Cut why.Memory) at written = led_at at rounds.Memory (memory_by_rounds is.ended (rounds_so at)) written
     led_so (ran.Cut why.Stopped) at written = absurd (never_stopped_by_rounds is.ended (rounds_so at))
 
+    -- the lines with the ending are a text to which the rounds led
+    led_text : (at : RunEnded) → r.ended ≡ at
+        → IsLedText names f played groups o (lines r old mid new is.printed ++ end_text at o.horizon r.clocks.items)
+    led_text ran.Whole at =
+        inl (ap (λ (n : ℕ). lines_before names f played o.limit n ++ ending_text (text_end.Whole o.horizon)) (is.printed.whole at))
+    led_text (ran.Cut w) at = inr (r.clocks.items, is.ended, is.led, refl)
+
+    -- whichever way the writing of the ending failed
+    led_unwritten : (e : JobError) (text : List ℕ) → 0 < length text
+        → IsTextOf names f played groups.processes o.horizon o.limit (lines r old mid new is.printed ++ text)
+        → IsLedText names f played groups o (lines r old mid new is.printed ++ text)
+        → IsUnwritten e text mid new → IsLedShort e model inputs partition o old new
+    led_unwritten (error.Text x) text some is_text led unwritten = absurd unwritten
+    led_unwritten (error.Partition x) text some is_text led unwritten = absurd unwritten
+    led_unwritten (error.Inputs x) text some is_text led unwritten = absurd unwritten
+    led_unwritten error.Write text some is_text led short =
+        led_stops (lines r old mid new is.printed ++ text) is_text led
+        (StopsShort-behind (lines r old mid new is.printed) text is.printed.lines short)
+    led_unwritten error.Memory text some is_text led (inl same) =
+        inr (led_stops (lines r old mid new is.printed ++ text) is_text led
+        (StopsShort-behind (lines r old mid new is.printed) text is.printed.lines (nothing_more mid new text some same)))
+    led_unwritten error.Memory text some is_text led (inr short) =
+        inr (led_stops (lines r old mid new is.printed ++ text) is_text led
+        (StopsShort-behind (lines r old mid new is.printed) text is.printed.lines short))
+
+    pub if_it_was_led_short : (result : Result JobEnded JobError)
+        → IfErr result (λ (e : JobError). IsUnwritten e (end_text r.ended o.horizon r.clocks.items) mid new)
+        → IfErr result (λ (e : JobError). IsLedShort e model inputs partition o old new)
+    if_it_was_led_short (Ok e) unwritten = tt
+    if_it_was_led_short (Err e) unwritten =
+        led_unwritten e (end_text r.ended o.horizon r.clocks.items) (ending_is_some r old mid new is.printed r.ended)
+        (text_of_it r old mid new is.printed r.ended refl) (led_text r.ended refl) unwritten
+
     pub if_it_is_led : (result : Result JobEnded JobError) → IfOk result (λ (e : JobEnded). e ≡ ended_at r.ended r.written.faulted)
         → OnOk result (Appends mid new (end_text r.ended o.horizon r.clocks.items))
         → IfOk result (λ (e : JobEnded). IsLed e model inputs partition o old new)
@@ -278,20 +326,35 @@ module _ (names : List (List ℕ)) (f : FileTree) (played : List Input) (groups 
           subst (λ (e : JobEnded). EndsByWorkers e model inputs partition o old new) (sym ending) (worked_so r.ended refl written)
       if_workers_ended (Err e) ending written = tt
 
--- a cause is told exactly where the answer is that the run was stopped
-pub told_where_stopped : {C : Type 0} (r : Ran) (cause : Option C) → IsSome cause ↔ (r.ended ≡ ran.Cut why.Stopped) → (e : JobEnded)
-    → e ≡ ended_at r.ended r.written.faulted → IsSome cause ↔ (e ≡ ended.Partial why.Stopped)
-told_where_stopped {C} r cause told e is = (
-  λ some. is ∙ ap (λ (at : RunEnded). ended_at at r.written.faulted) (told.0 some),
-  λ stopped. told.1 (only_there r.ended r.written.faulted (sym is ∙ stopped)),
-)
+-- a run by workers is cut as its workers' halts say
+pub cut_as_said : {C : Type 0} (r : Ran) (halts : List (Option (Halt C))) → (r.ended ≢ ran.Whole → r.ended ≡ ran.Cut (why_for halts))
+    → IsCutAs halts (ended_at r.ended r.written.faulted)
+cut_as_said {C} r halts said = at r.ended refl r.written.faulted
   where
-    only_there : (at : RunEnded) (faulted : Bool) → ended_at at faulted ≡ ended.Partial why.Stopped → at ≡ ran.Cut why.Stopped
-    only_there ran.Whole true e = absurd (cc)
-    only_there ran.Whole false e = absurd (cc)
-    only_there (ran.Cut why.Rounds) faulted e = absurd (cc)
-    only_there (ran.Cut why.Memory) faulted e = absurd (cc)
-    only_there (ran.Cut why.Stopped) faulted e = refl
+    same : {a b : Why} → ran.Cut a ≡ ran.Cut b → a ≡ b
+    same e = cc
+
+    at : (e : RunEnded) → r.ended ≡ e → (faulted : Bool) → IsCutAs halts (ended_at e faulted)
+    at ran.Whole is true = tt
+    at ran.Whole is false = tt
+    at (ran.Cut w) is faulted =
+        same (sym is ∙ said (λ whole. let e : ran.Cut w ≡ ran.Whole = sym is ∙ whole in absurd (cc)))
+
+-- there is a cause exactly where the answer is that the run was stopped
+pub told_where_stopped : {C : Type 0} (halts : List (Option (Halt C))) (e : JobEnded) → IsCutAs halts e
+    → IsSome (cause_at e halts) ↔ (e ≡ ended.Partial why.Stopped)
+told_where_stopped halts ended.Whole as_said = (λ some. absurd (cc), λ e. absurd (cc))
+told_where_stopped halts ended.Faulted as_said = (λ some. absurd (cc), λ e. absurd (cc))
+told_where_stopped halts (ended.Partial why.Rounds) as_said = (λ some. absurd (cc), λ e. absurd (cc))
+told_where_stopped halts (ended.Partial why.Memory) as_said = (λ some. absurd (cc), λ e. absurd (cc))
+told_where_stopped halts (ended.Partial why.Stopped) as_said =
+    (λ some. refl, λ e. caused_is_some halts (stopped_for (list_any lacks_memory halts) (list_any is_caused halts) as_said))
+  where
+    stopped_for : (memory is_caused : Bool)
+        → why.Stopped ≡ (if memory then why.Memory else if is_caused then why.Stopped else why.Memory) → is_caused ≡ true
+    stopped_for true is_caused e = absurd (cc)
+    stopped_for false true e = refl
+    stopped_for false false e = absurd (cc)
 
 -- a model, its inputs and its groups, all read
 pub planned_tree : (model inputs : List ℕ) (partition : Partition) (limit : ℕ) (tree : Source) (groups : Grouping) (played : List Input)
@@ -320,6 +383,14 @@ left_by_answer (error.Partition r) model inputs partition o old h = (h, kept old
 left_by_answer (error.Inputs r) model inputs partition o old h = (h, kept old)
 left_by_answer error.Write model inputs partition o old h = absurd h
 left_by_answer error.Memory model inputs partition o old h = inl (kept old)
+
+pub led_by_answer : (e : JobError) (model inputs : List ℕ) (partition : Partition) (o : Options) (old : Option (List ℕ))
+    → AnswersSteps model inputs partition o.limit e → IsLedShort e model inputs partition o old old
+led_by_answer (error.Text e) model inputs partition o old h = tt
+led_by_answer (error.Partition r) model inputs partition o old h = tt
+led_by_answer (error.Inputs r) model inputs partition o old h = tt
+led_by_answer error.Write model inputs partition o old h = absurd h
+led_by_answer error.Memory model inputs partition o old h = inl (kept old)
 
 -- ---- A run is set up
 

@@ -2,6 +2,7 @@
 pub mod Job
 pub mod Ending
 pub mod Running
+pub mod Halts
 pub mod Stepping
 pub mod Planned
 pub mod Names

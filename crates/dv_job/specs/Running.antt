@@ -44,13 +44,13 @@ abbrev pub cut_text : List (List ℕ) → FileTree → List Input → (limit : �
 cut_text names f inputs limit clocks =
     partial_text (component_names names f) (root_ports names f) limit (network_of limit f) (outside f limit inputs) clocks
 
--- the whole text of a trace, or one that is cut at the clocks of the processes, one for each, none of which is past the end; there is at
--- least one process
+-- the whole text of a trace, or one that is cut at the clocks of the processes, one for each, none of which is past the end, and the least
+-- of which is before it; there is at least one process
 abbrev pub IsTextOf : List (List ℕ) → FileTree → List Input → (processes horizon limit : ℕ) → List ℕ → Type 0
 IsTextOf names f inputs processes horizon limit text =
     (text ≡ run_text names f inputs horizon limit)
     ⊎ ((clocks : List Time) × (length clocks ≡ processes) × (0 < length clocks) × AreWithin horizon limit clocks
-    × (text ≡ cut_text names f inputs limit clocks))
+    × (least_rank limit clocks < end_of limit horizon) × (text ≡ cut_text names f inputs limit clocks))
 
 -- the bound on the rounds of a driver, if there is one; workers have none
 abbrev pub rounds_of : Driver → Option ℕ
@@ -157,3 +157,23 @@ LeftByRun (error.Inputs r) model inputs partition o old new = IsLastAnswer model
 LeftByRun error.Write model inputs partition o old new = PrintsSome model inputs partition o old new
 LeftByRun error.Memory model inputs partition o old new =
     Keeps old new ⊎ PrintsSome model inputs partition o old new
+
+-- the whole text of a trace, or one that is cut at clocks to which the rounds of a run led
+abbrev pub IsLedText : List (List ℕ) → FileTree → List Input → Grouping → Options → List ℕ → Type 0
+IsLedText names f played groups o text =
+    (text ≡ run_text names f played o.horizon o.limit)
+    ⊎ ((clocks : List Time) × (rounds : Ended) × LedTo f played groups o.horizon o.limit o.capacity (granted o) rounds clocks
+    × (text ≡ cut_text names f played o.limit clocks))
+
+-- A writer got a beginning of such a text, but not all of it.
+pub record PrintsSomeLed (model inputs : List ℕ) (partition : Partition) (o : Options) (old new : Option (List ℕ)) : Type 0 where
+  pub some : PrintsSome model inputs partition o old new
+  pub led : IsLedText some.names some.file some.played some.groups o some.text
+
+-- which clocks may be printed where a write of a run in rounds failed, or memory was refused
+abbrev pub IsLedShort : JobError → (model inputs : List ℕ) → Partition → Options → (old new : Option (List ℕ)) → Type 0
+IsLedShort (error.Text e) model inputs partition o old new = Unit {0}
+IsLedShort (error.Partition r) model inputs partition o old new = Unit {0}
+IsLedShort (error.Inputs r) model inputs partition o old new = Unit {0}
+IsLedShort error.Write model inputs partition o old new = PrintsSomeLed model inputs partition o old new
+IsLedShort error.Memory model inputs partition o old new = Keeps old new ⊎ PrintsSomeLed model inputs partition o old new

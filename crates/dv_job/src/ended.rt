@@ -6,7 +6,7 @@ ghost use Rattle.dv_job.specs.Status.{status_of};
 use dv_inputs::{InputRefusal, InputsError};
 use dv_lex::TextError;
 use dv_partition::{PartitionError, PartitionRefusal};
-use dv_stream::Why;
+use dv_stream::{Halt, Why, first_cause};
 use dv_text::WriteError;
 use std::alloc::AllocError;
 use std::fmt;
@@ -24,13 +24,30 @@ pub enum JobEnded {
     Partial(Why),
 }
 
-/// How a run by workers ended, and the cause for which it was stopped, if it was.
+/// How a run by workers ended, and why its workers did.
 #[derive(Drop)]
 pub struct EndedByWorkers<C> {
     /// How the run ended.
     pub ended: JobEnded,
-    /// The cause for which the watch stopped the run, if it did.
-    pub cause: Option<C>,
+    /// Why each worker ended before its processes were done, or `None` if they are done: first the
+    /// workers that got no thread, then the others, by their numbers.
+    pub halts: Vec<Option<Halt<C>>>,
+}
+
+impl<C: Drop> EndedByWorkers<C> {
+    ghost use Rattle.dv_job.specs.Halts.{cause_of};
+
+    /// The cause for which the watch stopped the run, if it did. Of several causes it is that of
+    /// the worker with the least number.
+    pub fn into_cause(self) -> Option<C>
+        ensures { result ≡ cause_of self }
+    {
+        match self.ended {
+            JobEnded::Partial(Why::Stopped) => first_cause(self.halts),
+            JobEnded::Partial(Why::Rounds | Why::Memory) => None,
+            JobEnded::Whole | JobEnded::Faulted => None,
+        }
+    }
 }
 
 /// Why there is no whole trace, or no whole listing.

@@ -49,7 +49,7 @@ mod written;
 
 pub use check::check_bytes;
 pub use code::list_code;
-pub use dv_stream::Why;
+pub use dv_stream::{Halt, Why};
 pub use ended::{EndedByWorkers, JobEnded, JobError, status};
 pub use options::{Driver, GREATEST_CAPACITY, MOST_WORKERS, Options};
 pub use plain::run_plain;

@@ -1,21 +1,18 @@
 //! Runs a model in processes, in rounds.
 
 ghost use Rattle.std.specs.Prelude.{IfOk, IfErr};
-ghost use Rattle.dv_syntax.specs.Trees.{file_of};
-ghost use Rattle.dv_job.specs.Job.{IsModelOf};
-ghost use Rattle.dv_job.specs.Running.{EndsBy, IsLed, LeftByRun};
+ghost use Rattle.dv_job.specs.Running.{EndsBy, IsLed, IsLedShort, LeftByRun};
 
 use crate::ended::{JobEnded, JobError};
 use crate::load::{accept, load};
 use crate::options::Options;
 use crate::rounds::granted;
-use crate::setup::{Setup, set_up};
+use crate::setup::set_up;
 use crate::written::write_end;
 use dv_bag::Bags;
 use dv_partition::Partition;
-use dv_run::{Bounds, TextJob, compiled_run};
+use dv_run::{Bounds, compiled_run};
 use dv_text::laws::a_trace_is_its_pieces;
-use dv_tree::Tree;
 use std::alloc::Global;
 use std::io::Write;
 
@@ -25,7 +22,8 @@ use std::io::Write;
 /// empty text has no inputs.
 ///
 /// A run of which all clocks are at the end is whole, even if memory was refused after its last
-/// turn. The clocks of a run that was cut are those to which its rounds led.
+/// turn. The clocks of a run that was cut are those to which its rounds led, also where a write of
+/// them fails.
 ///
 /// # Errors
 ///
@@ -46,48 +44,19 @@ pub fn run_bytes<W: Write>(
         options.now (W.contents writer.old) (W.contents writer.new)) }
     ensures error { IfErr result (λ e. LeftByRun e model.now inputs.now groups.entry
         options.now (W.contents writer.old) (W.contents writer.new)) }
-{
-    let checked = load(alloc, model)?;
-    let tree = accept(alloc, model, &checked)?;
-    run_tree(alloc, &tree, model, inputs, groups, options, writer)
-}
-
-// Runs the model of an accepted text, by its tree.
-fn run_tree<W: Write>(
-    alloc: Global,
-    tree: &Tree,
-    model: &[u8],
-    inputs: &[u8],
-    groups: Partition<'_>,
-    options: &Options,
-    writer: &mut W,
-) -> Result<JobEnded, JobError>
-    requires accepted { IsModelOf model.now tree.now.names (file_of tree.now.file) }
-    ensures ended { IfOk result (λ ended. EndsBy ended model.now inputs.now groups.entry
-        options.now (W.contents writer.old) (W.contents writer.new)) }
-    ensures led { IfOk result (λ ended. IsLed ended model.now inputs.now groups.entry
-        options.now (W.contents writer.old) (W.contents writer.new)) }
-    ensures error { IfErr result (λ e. LeftByRun e model.now inputs.now groups.entry
+    ensures led_short { IfErr result (λ e. IsLedShort e model.now inputs.now groups.entry
         options.now (W.contents writer.old) (W.contents writer.new)) }
 {
     // For the prover alone: the lines of two adjacent pieces are those of both together.
     a_trace_is_its_pieces::<Bags>();
-    let Setup {
-        links,
-        groups,
-        inputs,
-    } = set_up(alloc, tree, model, inputs, groups, options.limit)?;
-    let job = TextJob {
-        tree,
-        inputs: &inputs,
-        groups: &groups,
-        horizon: options.horizon,
-        limit: options.limit,
-    };
+    let checked = load(alloc, model)?;
+    let tree = accept(alloc, model, &checked)?;
+    let setup = set_up(alloc, &tree, model, inputs, groups, options.limit)?;
+    let job = setup.job(&tree, options);
     let bounds = Bounds {
         rounds: granted(options),
         capacity: options.capacity as usize,
     };
-    let ran = compiled_run(alloc, &job, &links, bounds, writer)?;
+    let ran = compiled_run(alloc, &job, &setup.links, bounds, writer)?;
     write_end(alloc, &ran, options.horizon, writer)
 }

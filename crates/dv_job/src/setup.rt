@@ -1,18 +1,22 @@
 //! Reads the partition and the inputs of a run.
 
-ghost use Rattle.std.specs.Prelude.{IfOk, IfErr};
-ghost use Rattle.dv_run.specs.Texts.{AreLinksOf};
+ghost use Rattle.std.specs.Prelude.{◌≡◌, IfOk, IfErr, None};
+ghost use Rattle.dv_check.specs.Refusals.{AreOfOneText, refusal_of};
+ghost use Rattle.dv_run.specs.Texts.{AreLinksOf, IsReady};
 ghost use Rattle.law_sound.specs.Jobs.{AllInputNumbers};
 ghost use Rattle.dv_syntax.specs.Trees.{file_of};
 ghost use Rattle.dv_job.specs.Job.{IsModelOf};
+ghost use Rattle.dv_job.specs.Loading.{parts_of};
 ghost use Rattle.dv_job.specs.Running.{IsPlanned};
 ghost use Rattle.dv_job.specs.Stepping.{AnswersSteps};
 
 use crate::ended::JobError;
 use crate::load::{load_groups, load_inputs};
+use crate::options::Options;
 use dv_bag::Inputs;
 use dv_flat::{LinkLists, flatten};
 use dv_partition::{Groups, Partition};
+use dv_run::TextJob;
 use dv_tree::Tree;
 use law_sound::numbers::inputs_are_of_numbers;
 use std::alloc::Global;
@@ -26,6 +30,32 @@ pub struct Setup {
     pub groups: Groups,
     /// The inputs of the root, by time.
     pub inputs: Inputs,
+}
+
+impl Setup {
+    /// The job of an accepted text, with the horizon and the microstep limit of options.
+    pub fn job<'s, 'c>(&'s self, tree: &'s Tree<'c>, options: &Options) -> TextJob<'s, 'c>
+        requires text { AreOfOneText tree.now.names (file_of tree.now.file) }
+        requires accepted { refusal_of (file_of tree.now.file) ≡ None }
+        requires numbers { AllInputNumbers self.now.inputs }
+        requires links { AreLinksOf (file_of tree.now.file) self.now.links }
+        ensures parts { parts_of result ≡ record {
+          tree = tree.now;
+          inputs = self.now.inputs;
+          groups = self.now.groups;
+          horizon = options.now.horizon;
+          limit = options.now.limit;
+        } }
+        ensures ready { IsReady result self.now.links }
+    {
+        TextJob {
+            tree,
+            inputs: &self.inputs,
+            groups: &self.groups,
+            horizon: options.horizon,
+            limit: options.limit,
+        }
+    }
 }
 
 /// Makes the links of an accepted text, and reads the partition and the inputs, for a run with this

@@ -1,19 +1,16 @@
 //! Runs a model by a list of steps of its processes.
 
 ghost use Rattle.std.specs.Prelude.{IfOk, IfErr};
-ghost use Rattle.dv_syntax.specs.Trees.{file_of};
-ghost use Rattle.dv_job.specs.Job.{IsModelOf};
 ghost use Rattle.dv_job.specs.Stepping.{AnswersSteps, HasSteppedText};
 
 use crate::ended::JobError;
 use crate::load::{accept, load};
 use crate::options::Options;
-use crate::setup::{Setup, set_up};
+use crate::setup::set_up;
 use dv_core::Step;
 use dv_partition::Partition;
 use dv_plan::Stepped;
-use dv_run::{TextJob, compiled_steps};
-use dv_tree::Tree;
+use dv_run::compiled_steps;
 use std::alloc::Global;
 
 /// Makes the steps of a list with the processes of the model of a text, from their start, with the
@@ -43,37 +40,8 @@ pub fn run_steps(
 {
     let checked = load(alloc, model)?;
     let tree = accept(alloc, model, &checked)?;
-    step_tree(alloc, &tree, model, inputs, groups, options, steps)
-}
-
-// Makes the steps with the processes of an accepted text, by its tree.
-fn step_tree(
-    alloc: Global,
-    tree: &Tree,
-    model: &[u8],
-    inputs: &[u8],
-    groups: Partition<'_>,
-    options: &Options,
-    steps: &[Step],
-) -> Result<Stepped, JobError>
-    requires accepted { IsModelOf model.now tree.now.names (file_of tree.now.file) }
-    ensures stepped { IfOk result (HasSteppedText model.now inputs.now groups.entry options.now
-        steps.now) }
-    ensures error { IfErr result (AnswersSteps model.now inputs.now groups.entry
-        options.now.limit) }
-{
-    let Setup {
-        links,
-        groups,
-        inputs,
-    } = set_up(alloc, tree, model, inputs, groups, options.limit)?;
-    let job = TextJob {
-        tree,
-        inputs: &inputs,
-        groups: &groups,
-        horizon: options.horizon,
-        limit: options.limit,
-    };
+    let setup = set_up(alloc, &tree, model, inputs, groups, options.limit)?;
+    let job = setup.job(&tree, options);
     let capacity = options.capacity as usize;
-    Ok(compiled_steps(alloc, &job, &links, steps, capacity)?)
+    Ok(compiled_steps(alloc, &job, &setup.links, steps, capacity)?)
 }

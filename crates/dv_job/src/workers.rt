@@ -1,6 +1,7 @@
 //! Runs a model in processes, by workers on threads.
 
 ghost use Rattle.std.specs.Prelude.{◌≡◌, ◌≢◌, ◌↔◌, IfOk, IfErr, IsSome};
+ghost use Rattle.dv_job.specs.Halts.{IsCutAs, cause_of};
 ghost use Rattle.dv_job.specs.Running.{EndsByWorkers, LeftByRun};
 ghost use Rattle.dv_job.specs.declared.ended.JobEnded.TheVariants.{Partial};
 ghost use Rattle.dv_stream.specs.declared.ran.Why.TheVariants.{Stopped};
@@ -8,11 +9,11 @@ ghost use Rattle.dv_stream.specs.declared.ran.Why.TheVariants.{Stopped};
 use crate::ended::{EndedByWorkers, JobEnded, JobError};
 use crate::load::{accept, load};
 use crate::options::Options;
-use crate::setup::{Setup, set_up};
+use crate::setup::set_up;
 use crate::written::write_end;
 use dv_bag::Bags;
 use dv_partition::Partition;
-use dv_run::{RanByWorkers, TextJob, Unwatched, Watch, WorkerBounds, compiled_workers};
+use dv_run::{RanByWorkers, Unwatched, Watch, WorkerBounds, compiled_workers};
 use dv_text::laws::a_trace_is_its_pieces;
 use std::io::Write;
 use std::sync::Wait;
@@ -49,8 +50,7 @@ pub fn run_by_workers<R: AllocGlobal + Threads + Wait + Sync, W: Write>(
 
 /// Runs as [`run_by_workers`] does, and calls `watch` before and after each turn of a process. If
 /// it stops the run, and no worker was out of memory, the answer is `Partial(Stopped)`, unless all
-/// clocks came to the end. A cause is returned exactly with this answer. Of several causes it is
-/// that of the worker with the least number.
+/// clocks came to the end. There is a cause exactly with this answer.
 ///
 /// # Errors
 ///
@@ -66,7 +66,8 @@ pub fn run_watched<R: AllocGlobal + Threads + Wait + Sync, G: Watch, W: Write>(
 ) -> Result<EndedByWorkers<G::Cause>, JobError>
     ensures ended { IfOk result (λ w. EndsByWorkers w.ended model.now inputs.now groups.entry
         options.now (W.contents writer.old) (W.contents writer.new)) }
-    ensures cause { IfOk result (λ w. IsSome w.cause ↔ (w.ended ≡ Partial Stopped)) }
+    ensures cut { IfOk result (λ w. IsCutAs w.halts.items w.ended) }
+    ensures cause { IfOk result (λ w. IsSome (cause_of w) ↔ (w.ended ≡ Partial Stopped)) }
     ensures error { IfErr result (λ e. LeftByRun e model.now inputs.now groups.entry
         options.now (W.contents writer.old) (W.contents writer.new)) }
 {
@@ -75,25 +76,21 @@ pub fn run_watched<R: AllocGlobal + Threads + Wait + Sync, G: Watch, W: Write>(
     let alloc = rt.alloc();
     let checked = load(alloc, model)?;
     let tree = accept(alloc, model, &checked)?;
-    let Setup {
-        links,
-        groups,
-        inputs,
-    } = set_up(alloc, &tree, model, inputs, groups, options.limit)?;
-    let job = TextJob {
-        tree: &tree,
-        inputs: &inputs,
-        groups: &groups,
-        horizon: options.horizon,
-        limit: options.limit,
-    };
+    let setup = set_up(alloc, &tree, model, inputs, groups, options.limit)?;
+    let job = setup.job(&tree, options);
     let bounds = WorkerBounds {
         workers: options.workers() as usize,
         capacity: options.capacity as usize,
     };
-    let RanByWorkers { ran, cause } = compiled_workers(
-        rt, alloc, &job, &links, bounds, watch, writer,
+    let RanByWorkers { ran, halts } = compiled_workers(
+        rt,
+        alloc,
+        &job,
+        &setup.links,
+        bounds,
+        watch,
+        writer,
     )?;
     let ended = write_end(alloc, &ran, options.horizon, writer)?;
-    Ok(EndedByWorkers { ended, cause })
+    Ok(EndedByWorkers { ended, halts })
 }

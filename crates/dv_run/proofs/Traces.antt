@@ -1,21 +1,18 @@
 -- What was written of a text that ran in processes: the lines of the text's own trace.
-use Rattle.std.proofs.Common.{◌≡◌, ◌≢◌, ℕ, ◌+◌, ◌<◌, ◌≤◌, inl, inr, Bool, true, nat_eq, List, length, Option, Some, None}
+use Rattle.std.proofs.Common.{◌≡◌, ◌≢◌, ℕ, ◌+◌, ◌<◌, ◌≤◌, inl, inr, true, nat_eq, List, length, Option, Some, None}
 use Rattle.std.proofs.Common.{Result, Ok, Err, IfOk, slice_index_or, refl, sym, ap, ◌∙◌, subst, arith}
 use Rattle.std.proofs.lemmas.Bool.{cases_lt}
-use Rattle.std.proofs.lemmas.Option.{slice_get-get_or, slice_get_within}
+use Rattle.std.proofs.lemmas.Option.{slice_get-get_or}
 use Rattle.std.specs.Prelude.{◌↔◌}
 use Rattle.std.specs.List.{slice_get}
 use Rattle.std.specs.Io.KnownBytes.{Appends}
 use Rattle.dv_time.specs.Time.{IsOfRun, end_of, rank}
 use Rattle.dv_time.specs.declared.time.Time.{Time}
-use Rattle.dv_bag.specs.Bag.{Counts}
 use Rattle.dv_bag.specs.declared.inputs.Input.{Input}
 use Rattle.dv_check.specs.Refusals.{AreOfOneText, refusal_of}
 use Rattle.dv_syntax.specs.Trees.{FileTree, file_of}
 use Rattle.dv_devs.specs.Clocks.{least_rank}
-use Rattle.dv_devs.specs.Network.{Network, trace_before}
-use Rattle.dv_devs.specs.NextTimes.{IsReady}
-use Rattle.dv_devs.specs.Parts.{part_before}
+use Rattle.dv_devs.specs.Network.{trace_before}
 use Rattle.dv_conservative.specs.Flat.{whole}
 use Rattle.dv_conservative.specs.World.{Channel, Job, Reply, World, new_world}
 use Rattle.dv_conservative.specs.World.{Step as Does}
@@ -34,7 +31,7 @@ use Rattle.law_rules.specs.Jobs.{job_by_rules}
 use Rattle.law_sound.specs.Members.{flat_of}
 use Rattle.dv_partition.specs.Groups.{owner_of}
 use Rattle.dv_text.specs.Names.{component_names, root_ports}
-use Rattle.dv_text.specs.Texts.{ComponentNames, instants_text, part_text}
+use Rattle.dv_text.specs.Texts.{instants_text, part_text}
 use Rattle.dv_text.specs.Writing.{AppendsBeginning}
 use Rattle.dv_text.proofs.Taking.{AppendsBeginning-nothing}
 use Rattle.dv_stream.specs.Clocks.{AreWithin}
@@ -50,38 +47,12 @@ use Rattle.dv_stream.proofs.Ended.{stalled_by_rounds}
 use Rattle.dv_stream.proofs.ToldClocks.{same_rank}
 use Rattle.dv_work.proofs.Lists.{at_index}
 use Rattle.dv_run.specs.Runs.{IsCutShort, IsPrinted, IsRunOf, IsStepped, lines_before}
-
--- ---- The laws on which it rests
-
-abbrev pub PartsOfTheText : Type 0
-PartsOfTheText =
-    (names : List (List ℕ)) (f : FileTree) (inputs : List Input) (limit n : ℕ) (who : ℕ → Bool)
-    → AreOfOneText names f → refusal_of f ≡ None
-    → part_before who limit (whole (flat_of limit f)) (outside f limit inputs) n
-    ≡ part_before who limit (network_of limit f) (outside f limit inputs) n
-
-abbrev pub AllParts : Type 0
-AllParts =
-    (limit : ℕ) (net : Network (List Counts)) (inputs : ℕ → List Counts) (n : ℕ) → length net.numbers ≡ length net.behaviours
-    → part_before (λ k. true) limit net inputs n ≡ trace_before limit net inputs n
-
-abbrev pub AreLines : Type 0
-AreLines =
-    (all : List ComponentNames) (outputs : List (List ℕ)) (limit : ℕ) (net : Network (List Counts)) (inputs : ℕ → List Counts) (n : ℕ)
-    → part_text all outputs (trace_before limit net inputs n) ≡ instants_text all outputs limit net inputs n
-
--- what is known of a text's networks
-pub record Laws (f : FileTree) (limit : ℕ) : Type 0 where
-  pub parts : PartsOfTheText
-  pub all : AllParts
-  pub lines : AreLines
-  pub flat : IsReady (whole (flat_of limit f))
-  pub ready : IsReady (network_of limit f)
+use Rattle.dv_run.specs.Traces.{PartsOfTheText, TraceLaws}
 
 -- ---- The flat model of a text has the text's lines
 
 module _ (names : List (List ℕ)) (f : FileTree) (played : List Input) (limit : ℕ) (text : AreOfOneText names f)
-    (accepted : refusal_of f ≡ None) (laws : Laws f limit) where
+    (accepted : refusal_of f ≡ None) (laws : TraceLaws f limit) where
   pub same_trace : (n : ℕ) → trace_before limit (whole (flat_of limit f)) (outside f limit played) n
       ≡ trace_before limit (network_of limit f) (outside f limit played) n
   same_trace n =
@@ -122,7 +93,7 @@ cut_before_end job clocks some within not_all = elim (cases_lt (least_rank job.l
 
 module _ (j : TextJob) (text : AreOfOneText j.tree.now.names (file_of j.tree.now.file)) (accepted : refusal_of (file_of j.tree.now.file)
     ≡ None)
-    (laws : Laws (file_of j.tree.now.file) j.limit) {old new : Option (List ℕ)} where
+    (laws : TraceLaws (file_of j.tree.now.file) j.limit) {old new : Option (List ℕ)} where
   -- up to the least of the clocks that were reached
   pub is_printed : (r : Ran) → IsWrittenTo (text_job j) j.tree.now old new r.written
       → rank j.limit r.written.mark ≡ least_rank j.limit r.clocks.items

@@ -2,3 +2,5 @@
 pub mod Runs
 -- A text as a job.
 pub mod Texts
+-- What the trace of a text rests on.
+pub mod Traces

@@ -14,18 +14,13 @@ ghost use Rattle.dv_time.specs.Time.{end_of};
 
 use crate::plan::plan_of;
 use crate::text_job::TextJob;
-use dv_bag::Bags;
+use crate::text_traces::traces_of;
 use dv_coded::{Bench, Components, components_of};
-use dv_devs::laws::parts::parts_are_of_the_trace;
 use dv_flat::LinkLists;
 use dv_gen::laws::texts_are_compilable;
-use dv_plain::laws::networks_of_texts;
 use dv_stream::{Bounds, Ran, stream_plan};
 use dv_text::WriteError;
-use dv_text::laws::a_trace_is_its_instants;
 use law_rules::laws::runs_by_programs_are_runs_by_rules;
-use law_sound::jobs::parts_of_the_flat_model_are_those_of_the_text;
-use law_sound::outside::what_leaves_a_flat_model_is_linear;
 use std::alloc::Global;
 use std::io::Write;
 
@@ -52,17 +47,11 @@ pub fn compiled_run<W: Write>(
         (file_of job.now.tree.now.file) job.now.inputs.now job.now.horizon job.now.limit
         (W.contents writer.old) (W.contents writer.new)) }
 {
-    // For the prover alone: the atomic models of an accepted text have programs; its flat model has
-    // its trace, whose lines are those of its instants; what its processes commit can be merged;
-    // what they do by programs they may do by rules; and each component is in a process.
+    // For the prover alone: the atomic models of an accepted text have programs, its flat model has
+    // its trace, and what its processes do by programs they may do by rules.
     texts_are_compilable();
-    parts_of_the_flat_model_are_those_of_the_text();
-    parts_are_of_the_trace::<Bags>();
-    networks_of_texts();
-    a_trace_is_its_instants::<Bags>();
-    what_leaves_a_flat_model_is_linear();
+    traces_of(job, links);
     runs_by_programs_are_runs_by_rules();
-    let _processes = job.groups.processes();
     let mut bench = Bench::new(alloc);
     let components = components_of(&mut bench, job.tree, job.limit)?;
     let ran = run_components(alloc, job, components, links, &mut bench, bounds, writer)?;
@@ -73,7 +62,7 @@ pub fn compiled_run<W: Write>(
 fn run_components<W: Write>(
     alloc: Global,
     job: &TextJob<'_, '_>,
-    components: Components,
+    all: Components,
     links: &LinkLists,
     bench: &mut Bench,
     bounds: Bounds,
@@ -81,7 +70,7 @@ fn run_components<W: Write>(
 ) -> Result<Ran, WriteError>
     requires ready { IsReady job.now links.now }
     requires components { AreComponentsOf (file_of job.now.tree.now.file) job.now.limit
-        components.models.items components.members.items components.responses.items }
+        all.models.items all.members.items all.responses.items }
     requires merges { IsMergeable (text_job job.now) }
     ensures some { IfOk result (λ _. 0 < (text_job job.now).processes) }
     ensures run { IfOk result (HasRunInRounds (text_job job.now) bounds.capacity bounds.rounds) }
@@ -94,11 +83,6 @@ fn run_components<W: Write>(
     ensures err { OnErr result (IsBegun (text_job job.now) job.now.tree.now
         (W.contents writer.old) (W.contents writer.new)) }
 {
-    let Components {
-        models,
-        members,
-        responses,
-    } = components;
-    let plan = plan_of(alloc, job, &models, members, responses, links)?;
+    let plan = plan_of(alloc, job, all.members, all.responses, &all.models, links)?;
     stream_plan(alloc, *job, plan, bench, bounds, job.tree, writer)
 }

@@ -32,11 +32,15 @@ pub mod steps;
 pub mod text_job;
 /// Makes the plan of a text.
 pub mod text_plan;
+/// What the trace of a text rests on.
+mod text_traces;
 /// Runs the compiled model of a text by workers.
 pub mod workers;
 
 pub use compiled::compiled_run;
-pub use dv_stream::{Bounds, Ran, RanByWorkers, RunEnded, Unwatched, Watch, Why};
+pub use dv_stream::{
+    Bounds, Halt, Ran, RanByWorkers, RunEnded, Unwatched, Watch, Why, first_cause,
+};
 pub use links::links_of;
 pub use responses::least_responses;
 pub use steps::compiled_steps;

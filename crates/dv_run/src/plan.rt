@@ -27,9 +27,9 @@ use std::alloc::{AllocError, Global};
 pub fn plan_of<'m>(
     alloc: Global,
     job: &TextJob<'_, '_>,
-    models: &'m [Programs],
     members: Vec<Member>,
     responses: Vec<Response>,
+    models: &'m [Programs],
     links: &LinkLists,
 ) -> Result<Plan<Lent<'m>>, AllocError>
     requires ready { IsReady job.now links.now }

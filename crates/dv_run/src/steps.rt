@@ -51,7 +51,7 @@ pub fn compiled_steps(
 fn step_components(
     alloc: Global,
     job: &TextJob<'_, '_>,
-    components: Components,
+    all: Components,
     links: &LinkLists,
     bench: &mut Bench,
     steps: &[Step],
@@ -59,14 +59,9 @@ fn step_components(
 ) -> Result<Stepped, AllocError>
     requires ready { IsReady job.now links.now }
     requires components { AreComponentsOf (file_of job.now.tree.now.file) job.now.limit
-        components.models.items components.members.items components.responses.items }
+        all.models.items all.members.items all.responses.items }
     ensures { IfOk result (HasStepped (text_job job.now) capacity steps.now) }
 {
-    let Components {
-        models,
-        members,
-        responses,
-    } = components;
-    let plan = plan_of(alloc, job, &models, members, responses, links)?;
+    let plan = plan_of(alloc, job, all.members, all.responses, &all.models, links)?;
     step_plan(alloc, *job, plan, bench, steps, capacity)
 }

@@ -1,29 +1,24 @@
 //! Runs the compiled model of a text by workers.
 
-ghost use Rattle.std.specs.Prelude.{◌≢◌, ◌↔◌, ◌<◌, ◌≡◌, IfOk, IsSome, OnErr, length};
+ghost use Rattle.std.specs.Prelude.{◌≢◌, ◌<◌, ◌≡◌, IfOk, OnErr, length};
 ghost use Rattle.dv_board.specs.Jobs.{IsMergeable};
 ghost use Rattle.dv_run.specs.Texts.{AreComponentsOf, IsReady, text_job};
 ghost use Rattle.dv_run.specs.Runs.{IsCutShort, IsPrinted};
-ghost use Rattle.dv_stream.specs.Endings.{HasRunByWorkers};
+ghost use Rattle.dv_stream.specs.Endings.{HasRunByWorkers, why_for};
 ghost use Rattle.dv_stream.specs.Written.{IsBegun, IsWrittenTo};
 ghost use Rattle.dv_syntax.specs.Trees.{file_of};
-ghost use Rattle.dv_stream.specs.declared.ran.RunEnded.TheVariants.{Cut};
-ghost use Rattle.dv_stream.specs.declared.ran.Why.TheVariants.{Rounds, Stopped};
+ghost use Rattle.dv_stream.specs.declared.ran.RunEnded.TheVariants.{Cut, Whole};
+ghost use Rattle.dv_stream.specs.declared.ran.Why.TheVariants.{Rounds};
 
 use crate::components::lone_components;
 use crate::plan::plan_of;
 use crate::text_job::TextJob;
-use dv_bag::Bags;
+use crate::text_traces::traces_of;
 use dv_coded::{Bench, Components};
-use dv_devs::laws::parts::parts_are_of_the_trace;
 use dv_flat::LinkLists;
 use dv_gen::laws::texts_are_compilable;
-use dv_plain::laws::networks_of_texts;
 use dv_stream::{RanByWorkers, Watch, Workers, stream_plan_by_workers};
 use dv_text::WriteError;
-use dv_text::laws::a_trace_is_its_instants;
-use law_sound::jobs::parts_of_the_flat_model_are_those_of_the_text;
-use law_sound::outside::what_leaves_a_flat_model_is_linear;
 use std::alloc::{AllocError, Global};
 use std::io::Write;
 use std::sync::Wait;
@@ -44,8 +39,7 @@ pub struct WorkerBounds {
 ///
 /// `watch` is called before and after each turn, and may stop the run for a cause. If it does, or
 /// if memory or a thread is refused to a worker, the run is cut, and the lines are those that were
-/// known then. A cause is returned exactly if the run ended stopped; of several causes it is that
-/// of the worker with the least number.
+/// known then, for the reason that the halts of the workers give.
 ///
 /// # Errors
 ///
@@ -69,21 +63,16 @@ pub fn compiled_workers<R: Threads + Wait + Sync, G: Watch, W: Write>(
         job.now.horizon job.now.limit
         (W.contents writer.old) (W.contents writer.new) r.ran) }
     ensures ended { IfOk result (λ r. r.ran.ended ≢ Cut Rounds) }
-    ensures cause { IfOk result (λ r. IsSome r.cause ↔ (r.ran.ended ≡ Cut Stopped)) }
+    ensures halts { IfOk result (λ r. r.ran.ended ≢ Whole
+        → r.ran.ended ≡ Cut (why_for r.halts.items)) }
     ensures err { OnErr result (IsCutShort job.now.tree.now.names
         (file_of job.now.tree.now.file) job.now.inputs.now job.now.horizon job.now.limit
         (W.contents writer.old) (W.contents writer.new)) }
 {
-    // For the prover alone: the atomic models of an accepted text have programs; its flat model has
-    // its trace, whose lines are those of its instants; what its processes commit can be merged;
-    // and each component is in a process.
+    // For the prover alone: the atomic models of an accepted text have programs, and its flat model
+    // has its trace.
     texts_are_compilable();
-    parts_of_the_flat_model_are_those_of_the_text();
-    parts_are_of_the_trace::<Bags>();
-    networks_of_texts();
-    a_trace_is_its_instants::<Bags>();
-    what_leaves_a_flat_model_is_linear();
-    let _processes = job.groups.processes();
+    traces_of(job, links);
     let components = lone_components(alloc, job.tree, job.limit)?;
     let works = benches_of(alloc, bounds.workers)?;
     let workers = Workers {
@@ -111,14 +100,14 @@ fn work_components<R: Threads + Wait + Sync, G: Watch, W: Write>(
     rt: &R,
     alloc: Global,
     job: &TextJob<'_, '_>,
-    components: Components,
+    all: Components,
     links: &LinkLists,
     workers: Workers<'_, Bench, G>,
     writer: &mut W,
 ) -> Result<RanByWorkers<G::Cause>, WriteError>
     requires ready { IsReady job.now links.now }
     requires components { AreComponentsOf (file_of job.now.tree.now.file) job.now.limit
-        components.models.items components.members.items components.responses.items }
+        all.models.items all.members.items all.responses.items }
     requires merges { IsMergeable (text_job job.now) }
     requires workers { 0 < length workers.works.items }
     requires capacity { 0 < workers.capacity }
@@ -128,11 +117,6 @@ fn work_components<R: Threads + Wait + Sync, G: Watch, W: Write>(
     ensures err { OnErr result (IsBegun (text_job job.now) job.now.tree.now
         (W.contents writer.old) (W.contents writer.new)) }
 {
-    let Components {
-        models,
-        members,
-        responses,
-    } = components;
-    let plan = plan_of(alloc, job, &models, members, responses, links)?;
+    let plan = plan_of(alloc, job, all.members, all.responses, &all.models, links)?;
     stream_plan_by_workers(rt, alloc, job, plan, workers, job.tree, writer)
 }

@@ -7,8 +7,6 @@ pub mod Alone
 pub mod Endings
 -- Clocks of a run.
 pub mod Clocks
--- What workers leave of a job.
-pub mod Workers
 -- ---- What serves proofs
 -- What is joined between rounds.
 pub mod Rounds

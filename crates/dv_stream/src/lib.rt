@@ -8,7 +8,8 @@
 //! the lines before some time.
 //!
 //! A [`Watch`] is called before and after each turn of a worker. It may delay the turn or stop the
-//! run for a cause, which is returned beside the `Ran`. It changes nothing else.
+//! run for a cause, which is among the halts of the workers, returned beside the `Ran`. It changes
+//! nothing else.
 //!
 //! `dv_run` makes the plan of a text, and `dv_job` writes the last line. That a run by workers
 //! comes to an end is tested, not proved.
@@ -37,7 +38,7 @@ pub mod workers;
 /// What was written of a trace.
 pub mod written;
 
-pub use dv_work::{Unwatched, Watch};
+pub use dv_work::{Halt, Unwatched, Watch, first_cause};
 pub use planned::{Workers, stream_plan_by_workers};
 pub use ran::{Ran, RanByWorkers, RunEnded, Why};
 pub use rounds::{Bounds, stream_plan};

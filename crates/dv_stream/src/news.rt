@@ -1,8 +1,9 @@
 //! Writes what workers post, while they run.
 
 ghost use Rattle.std.specs.Prelude.{◌≡◌, ◌≤◌, IfNone, IfOk, IfSome, OnErr, length};
-ghost use Rattle.dv_time.specs.Time.{IsOfRun, end_of, rank};
+ghost use Rattle.dv_time.specs.Time.{IsOfRun};
 ghost use Rattle.dv_board.specs.Clocks.{IsLeast};
+ghost use Rattle.dv_stream.specs.Clocks.{IsUpToEnd};
 ghost use Rattle.dv_stream.specs.Written.{Falters, GoesOn, IsBegun, IsWrittenTo};
 
 use crate::merged::Merger;
@@ -158,8 +159,7 @@ fn write_known<N: OfJob, W: Write>(
         (W.contents writer.new ≡ W.contents writer.old)) }
     ensures least { IfOk result (λ written. IfSome written (λ w.
         IsLeast w.mark backlog.now.clocks)) }
-    ensures within { IfOk result (λ written. IfSome written (λ w.
-        rank N.job.limit w.mark ≤ end_of N.job.limit N.job.horizon)) }
+    ensures within { IfOk result (λ written. IfSome written (λ w. IsUpToEnd N.job w.mark)) }
     ensures err { OnErr result (Falters N.job lines.old
         (W.contents writer.old) (W.contents writer.new) before) }
 {
@@ -187,14 +187,13 @@ pub(crate) fn write_joined<N: OfJob, W: Write>(
     writer: &mut W,
 ) -> Result<Option<Written>, WriteError>
     requires of_run { IsOfRun N.job.limit before.mark }
-    requires within { rank N.job.limit before.mark ≤ end_of N.job.limit N.job.horizon }
+    requires within { IsUpToEnd N.job before.mark }
     ensures tree { merger.new.lines ≡ merger.old.lines }
     ensures some { IfOk result (λ written. IfSome written (GoesOn N.job merger.old.lines
         (W.contents writer.old) (W.contents writer.new) before)) }
     ensures none { IfOk result (λ written. IfNone written
         (W.contents writer.new ≡ W.contents writer.old)) }
-    ensures within { IfOk result (λ written. IfSome written (λ after.
-        rank N.job.limit after.mark ≤ end_of N.job.limit N.job.horizon)) }
+    ensures within { IfOk result (λ written. IfSome written (λ after. IsUpToEnd N.job after.mark)) }
     ensures err { OnErr result (Falters N.job merger.old.lines
         (W.contents writer.old) (W.contents writer.new) before) }
 {
@@ -217,12 +216,11 @@ fn write_posted<N: OfJob, R: Wait, W: Write>(
     writer: &mut W,
 ) -> Result<Written, WriteError>
     requires of_run { IsOfRun N.job.limit before.mark }
-    requires within { rank N.job.limit before.mark ≤ end_of N.job.limit N.job.horizon }
+    requires within { IsUpToEnd N.job before.mark }
     ensures tree { merger.new.lines ≡ merger.old.lines }
     ensures ok { IfOk result (GoesOn N.job merger.old.lines
         (W.contents writer.old) (W.contents writer.new) before) }
-    ensures within { IfOk result (λ after.
-        rank N.job.limit after.mark ≤ end_of N.job.limit N.job.horizon) }
+    ensures within { IfOk result (λ after. IsUpToEnd N.job after.mark) }
     ensures err { OnErr result (Falters N.job merger.old.lines
         (W.contents writer.old) (W.contents writer.new) before) }
 {
@@ -257,8 +255,7 @@ pub fn write_news<N: OfJob, R: Wait, W: Write>(
     ensures tree { merger.new.lines ≡ merger.old.lines }
     ensures written { IfOk result (IsWrittenTo N.job merger.old.lines
         (W.contents writer.old) (W.contents writer.new)) }
-    ensures within { IfOk result (λ w.
-        rank N.job.limit w.mark ≤ end_of N.job.limit N.job.horizon) }
+    ensures within { IfOk result (λ w. IsUpToEnd N.job w.mark) }
     ensures err { OnErr result (IsBegun N.job merger.old.lines
         (W.contents writer.old) (W.contents writer.new)) }
 {

@@ -10,6 +10,7 @@ use crate::clocks::clocks_of;
 use crate::written::Written;
 use dv_core::{Ended, LogicalProcess, PlannedJob, World};
 use dv_time::Time;
+use dv_work::Halt;
 use std::alloc::{AllocError, Global};
 
 /// How a run ended.
@@ -44,13 +45,14 @@ pub struct Ran {
     pub written: Written,
 }
 
-/// How far a run by workers came, and the cause for which it was stopped.
+/// How far a run by workers came, and why its workers ended.
 #[derive(Drop)]
 pub struct RanByWorkers<C> {
     /// How far the run came.
     pub ran: Ran,
-    /// The cause for which the watch stopped the run, if it did.
-    pub cause: Option<C>,
+    /// Why each worker ended before its processes were done, or `None` if they are done: first the
+    /// workers that got no thread, then the others, by their numbers.
+    pub halts: Vec<Option<Halt<C>>>,
 }
 
 // How a run in rounds ended, by whether every clock is at the end. If memory is refused to a packet

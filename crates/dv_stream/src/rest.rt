@@ -1,17 +1,17 @@
 //! Writes what workers did not post, once they have ended.
 
-ghost use Rattle.std.specs.Prelude.{◌≡◌, ◌≢◌, ◌↔◌, ◌<◌, ◌≤◌, ℕ, IsSome, IsTrue, Some, if◌then◌else◌, length, replicate};
+ghost use Rattle.std.specs.Prelude.{◌≡◌, ◌↔◌, ◌<◌, ◌≤◌, ℕ, IsTrue, Some, if◌then◌else◌, length, replicate};
 ghost use Rattle.std.specs.Prelude.{slice_get, IfOk, OnErr};
 ghost use Rattle.std.specs.List.{All};
 ghost use Rattle.dv_board.specs.Posts.{IsPiece};
 ghost use Rattle.dv_conservative.specs.Events.{same_time};
 ghost use Rattle.dv_plan.specs.Clocks.{least_time};
-ghost use Rattle.dv_stream.specs.Endings.{by_workers, cause_of};
+ghost use Rattle.dv_stream.specs.Clocks.{IsUpToEnd};
+ghost use Rattle.dv_stream.specs.Endings.{why_for};
 ghost use Rattle.dv_stream.specs.Written.{Falters, GoesOn};
-ghost use Rattle.dv_time.specs.Time.{IsOfRun, end_of, rank};
+ghost use Rattle.dv_time.specs.Time.{IsOfRun};
 ghost use Rattle.dv_time.specs.declared.time.Time.{Time as MeantTime};
 ghost use Rattle.dv_stream.specs.declared.ran.RunEnded.TheVariants.{Cut, Whole};
-ghost use Rattle.dv_stream.specs.declared.ran.Why.TheVariants.{Rounds, Stopped};
 
 use crate::merged::Merger;
 use crate::news::write_joined;
@@ -24,7 +24,7 @@ use dv_proc::window::is_same;
 use dv_text::WriteError;
 use dv_text::laws::a_trace_is_its_pieces;
 use dv_time::Time;
-use dv_work::Ended;
+use dv_work::{Halt, lacked_memory, was_stopped};
 use dv_written::OfJob;
 use std::io::Write;
 use std::sync::Wait;
@@ -34,8 +34,8 @@ use std::sync::Wait;
 pub struct Left<N: OfJob, C> {
     /// What each process committed and did not post, by its number.
     pub rest: Vec<Piece<N>>,
-    /// How the run ended.
-    pub ended: Ended<C>,
+    /// Why each worker ended before its processes were done, or `None` if they are done.
+    pub halts: Vec<Option<Halt<C>>>,
 }
 
 /// Joins what is left on a board and what was not posted, and writes what is then known of the
@@ -54,12 +54,11 @@ pub fn write_rest<N: OfJob, R: Wait, W: Write>(
 ) -> Result<Written, WriteError>
     requires rest { All (IsPiece N.job) rest.items }
     requires of_run { IsOfRun N.job.limit before.mark }
-    requires within { rank N.job.limit before.mark ≤ end_of N.job.limit N.job.horizon }
+    requires within { IsUpToEnd N.job before.mark }
     ensures tree { merger.new.lines ≡ merger.old.lines }
     ensures ok { IfOk result (GoesOn N.job merger.old.lines
         (W.contents writer.old) (W.contents writer.new) before) }
-    ensures within { IfOk result (λ after.
-        rank N.job.limit after.mark ≤ end_of N.job.limit N.job.horizon) }
+    ensures within { IfOk result (λ after. IsUpToEnd N.job after.mark) }
     ensures err { OnErr result (Falters N.job merger.old.lines
         (W.contents writer.old) (W.contents writer.new) before) }
 {
@@ -97,21 +96,27 @@ pub fn all_are(clocks: &[Time], end: Time) -> bool
     clocks.iter().all(|clock| *clock == end)
 }
 
-/// How a run by workers ended, and the cause for which it was stopped; `is_whole` says whether its
-/// whole trace was written. If not, a run that ended whole or cancelled lacked memory for a piece:
-/// unless a write failed, the loop that writes stops the workers for this reason alone.
-pub fn ended_as<C: Drop>(ended: Ended<C>, is_whole: bool) -> (RunEnded, Option<C>)
-    ensures whole { (result.0 ≡ Whole) ↔ IsTrue is_whole }
-    ensures ended { result.0 ≡ by_workers is_whole ended }
-    ensures cause { result.1 ≡ cause_of is_whole ended }
-    ensures unstalled { result.0 ≢ Cut Rounds }
-    ensures is_told { IsSome result.1 ↔ (result.0 ≡ Cut Stopped) }
+/// Why a run by workers was cut: out of memory if a worker was, else stopped if the watch stopped a
+/// worker. Otherwise memory was refused to a piece: unless a write failed, the loop that writes
+/// stops the workers for this reason alone.
+fn why_cut<C>(halts: &[Option<Halt<C>>]) -> Why
+    ensures { result ≡ why_for halts.now }
+{
+    if lacked_memory(halts) {
+        return Why::Memory;
+    }
+    if was_stopped(halts) {
+        return Why::Stopped;
+    }
+    Why::Memory
+}
+
+/// How a run by workers ended; `is_whole` says whether its whole trace was written.
+pub fn ended_as<C>(halts: &[Option<Halt<C>>], is_whole: bool) -> RunEnded
+    ensures { result ≡ (if is_whole then Whole else Cut (why_for halts.now)) }
 {
     if is_whole {
-        return (RunEnded::Whole, None);
+        return RunEnded::Whole;
     }
-    match ended {
-        Ended::Stopped(cause) => (RunEnded::Cut(Why::Stopped), Some(cause)),
-        Ended::Whole | Ended::Cancelled | Ended::Memory => (RunEnded::Cut(Why::Memory), None),
-    }
+    RunEnded::Cut(why_cut(halts))
 }

@@ -14,11 +14,11 @@ ghost use Rattle.dv_core.specs.Worlds.{EndsAs, IsTrueToModel, kept_by, shown};
 ghost use Rattle.dv_lines.specs.Entries.{line_of};
 ghost use Rattle.dv_plan.specs.Beginning.{CanRun};
 ghost use Rattle.dv_plan.specs.Clocks.{least_time};
+ghost use Rattle.dv_stream.specs.Clocks.{IsUpToEnd};
 ghost use Rattle.dv_stream.specs.Endings.{HasRunInRounds};
-ghost use Rattle.dv_stream.specs.Rounds.{AreJoined};
+ghost use Rattle.dv_stream.specs.Rounds.{IsJoinedTo};
 ghost use Rattle.dv_stream.specs.Written.{Falters, GoesOn, IsBegun, IsWrittenTo};
 ghost use Rattle.dv_text.specs.Names.{tree_names};
-ghost use Rattle.dv_time.specs.Time.{end_of, rank};
 
 use crate::alone::stream_alone;
 use crate::merged::{Merger, write_merged};
@@ -64,13 +64,13 @@ fn join_one<N: OfJob, J: PlannedJob, P: ProcessHandsOver<N>>(
     requires job { N.job ≡ J.means world.old.job }
     requires process { process < N.job.processes }
     requires true_to_model { IsTrueToModel N.job (kept_by P.state world.old) }
-    requires joined { AreJoined N.job (map P.state world.old.processes.items)
-        (map P.handed world.old.processes.items) backlog.old.clocks }
+    requires joined { IsJoinedTo N.job P.state P.handed world.old
+        backlog.old.clocks }
     ensures job { world.new.job ≡ world.old.job }
     ensures kept { kept_by P.state world.new ≡ kept_by P.state world.old }
     ensures mark { backlog.new.mark ≡ backlog.old.mark }
-    ensures joined { OnOk result (AreJoined N.job (map P.state world.new.processes.items)
-        (map P.handed world.new.processes.items) backlog.new.clocks) }
+    ensures joined { OnOk result (IsJoinedTo N.job P.state P.handed world.new
+        backlog.new.clocks) }
     ensures clock { OnOk result ((x : P)
         → slice_get world.old.processes.items process ≡ Some x
         → backlog.new.clocks ≡ set backlog.old.clocks process (P.state x).position.clock) }
@@ -99,13 +99,13 @@ fn join_each<N: OfJob, J: PlannedJob, P: ProcessHandsOver<N>>(
     requires job { N.job ≡ J.means world.old.job }
     requires processes { processes ≡ N.job.processes }
     requires true_to_model { IsTrueToModel N.job (kept_by P.state world.old) }
-    requires joined { AreJoined N.job (map P.state world.old.processes.items)
-        (map P.handed world.old.processes.items) backlog.old.clocks }
+    requires joined { IsJoinedTo N.job P.state P.handed world.old
+        backlog.old.clocks }
     ensures job { world.new.job ≡ world.old.job }
     ensures kept { kept_by P.state world.new ≡ kept_by P.state world.old }
     ensures mark { backlog.new.mark ≡ backlog.old.mark }
-    ensures joined { OnOk result (AreJoined N.job (map P.state world.new.processes.items)
-        (map P.handed world.new.processes.items) backlog.new.clocks) }
+    ensures joined { OnOk result (IsJoinedTo N.job P.state P.handed world.new
+        backlog.new.clocks) }
     ensures clocks { OnOk result (backlog.new.clocks
         ≡ map (λ x. (P.state x).position.clock) world.new.processes.items) }
 {
@@ -125,15 +125,14 @@ fn write_all<N: OfJob, J: PlannedJob, W: Write>(
 ) -> Result<Written, WriteError>
     requires job { N.job ≡ J.means job.now }
     requires mark { merger.old.backlog.mark ≡ before.mark }
-    requires within { rank N.job.limit before.mark ≤ end_of N.job.limit N.job.horizon }
+    requires within { IsUpToEnd N.job before.mark }
     ensures tree { merger.new.lines ≡ merger.old.lines }
     ensures clocks { merger.new.backlog.clocks ≡ merger.old.backlog.clocks }
     ensures ok { IfOk result (GoesOn N.job merger.old.lines
         (W.contents writer.old) (W.contents writer.new) before) }
     ensures mark { IfOk result (λ after. merger.new.backlog.mark ≡ after.mark) }
     ensures least { IfOk result (λ after. IsLeast after.mark merger.new.backlog.clocks) }
-    ensures within { IfOk result (λ after.
-        rank N.job.limit after.mark ≤ end_of N.job.limit N.job.horizon) }
+    ensures within { IfOk result (λ after. IsUpToEnd N.job after.mark) }
     ensures err { OnErr result (Falters N.job merger.old.lines
         (W.contents writer.old) (W.contents writer.new) before) }
 {
@@ -158,20 +157,19 @@ fn advance<N: OfJob, J: PlannedJob, P: ProcessHandsOver<N>, W: Write>(
 ) -> Result<(Ended, Written), WriteError>
     requires job { N.job ≡ J.means world.old.job }
     requires processes { processes ≡ N.job.processes }
-    requires joined { AreJoined N.job (map P.state world.old.processes.items)
-        (map P.handed world.old.processes.items) merger.old.backlog.clocks }
+    requires joined { IsJoinedTo N.job P.state P.handed world.old
+        merger.old.backlog.clocks }
     requires mark { merger.old.backlog.mark ≡ before.mark }
-    requires within { rank N.job.limit before.mark ≤ end_of N.job.limit N.job.horizon }
+    requires within { IsUpToEnd N.job before.mark }
     ensures job { world.new.job ≡ world.old.job }
     ensures tree { merger.new.lines ≡ merger.old.lines }
     ensures rounds { IfOk result (λ r. EndsAs N.job rounds r.0
         (shown J.means P.state world.old) (shown J.means P.state world.new)) }
     ensures true_to_model { IsTrueToModel N.job (kept_by P.state world.new) }
-    ensures joined { IfOk result (λ _. AreJoined N.job (map P.state world.new.processes.items)
-        (map P.handed world.new.processes.items) merger.new.backlog.clocks) }
+    ensures joined { IfOk result (λ _. IsJoinedTo N.job P.state P.handed world.new
+        merger.new.backlog.clocks) }
     ensures mark { IfOk result (λ r. merger.new.backlog.mark ≡ r.1.mark) }
-    ensures within { IfOk result (λ r.
-        rank N.job.limit r.1.mark ≤ end_of N.job.limit N.job.horizon) }
+    ensures within { IfOk result (λ r. IsUpToEnd N.job r.1.mark) }
     ensures written { IfOk result (λ r. GoesOn N.job merger.old.lines
         (W.contents writer.old) (W.contents writer.new) before r.1) }
     ensures least { IfOk result (λ r. r.1.mark

@@ -4,14 +4,15 @@ ghost use Rattle.std.specs.Prelude.{◌≡◌, ◌<◌, ◌≤◌, length, IfOk,
 ghost use Rattle.dv_bag.specs.declared.entry.Entry.{Entry as MeantEntry};
 ghost use Rattle.dv_board.specs.Jobs.{IsMergeable};
 ghost use Rattle.dv_lines.specs.Entries.{line_of};
+ghost use Rattle.dv_stream.specs.Clocks.{IsUpToEnd};
 ghost use Rattle.dv_stream.specs.Endings.{HasRunByWorkers};
-ghost use Rattle.dv_stream.specs.Workers.{IsReportOf};
 ghost use Rattle.dv_stream.specs.Written.{IsBegun, IsWrittenTo};
 ghost use Rattle.dv_text.specs.Names.{tree_names};
 ghost use Rattle.dv_time.specs.Limits.{greatest_tick};
-ghost use Rattle.dv_time.specs.Time.{IsOfRun, end_of, rank};
+ghost use Rattle.dv_time.specs.Time.{IsOfRun};
 ghost use Rattle.dv_tree.specs.Tables.{Source};
 ghost use Rattle.dv_work.specs.Crews.{IsCrewFor};
+ghost use Rattle.dv_work.specs.Reached.{AreReached};
 
 use crate::merged::Merger;
 use crate::news::{Signals, write_news};
@@ -24,7 +25,7 @@ use dv_lines::TreeWords;
 use dv_text::WriteError;
 use dv_text::laws::a_trace_is_its_pieces;
 use dv_time::Time;
-use dv_work::{Crew, Ended, Report, Watch, run_streamed};
+use dv_work::{Crew, Halt, Report, Watch, run_streamed};
 use dv_written::OfJob;
 use std::alloc::{AllocError, Global};
 use std::io::Write;
@@ -58,13 +59,8 @@ struct CrewedJob<N: OfJob, P, K> {
 }
 
 // Runs a job by its crew, if it has not run yet. Signals when it begins, and when it has ended.
-fn run_posting<
-    N: OfJob + Send + Sync,
-    P: ProcessHandsOver<N> + Send,
-    G: Watch,
-    R: Threads + Wait + Sync,
->(
-    rt: &R,
+fn run_posting<N: OfJob + Send + Sync, P: ProcessHandsOver<N> + Send, G: Watch>(
+    rt: &(impl Threads + Wait + Sync),
     alloc: Global,
     crewed: &mut Option<CrewedJob<N, P, P::Work>>,
     watch: &G,
@@ -76,24 +72,17 @@ where
     requires crew { IfSome crewed.old (λ c. IsCrewFor N.job P.state P.handed P.valid c.crew) }
     requires bells { IfSome crewed.old (λ c.
         length c.crew.works.items ≤ length signals.now.bells.items) }
-    ensures { IfOk result (IsReportOf N.job) }
+    ensures { IfOk result (λ r. AreReached N.job r.rest.items) }
 {
     signals.begin(rt);
     let Some(CrewedJob { job, crew }) = crewed.take() else {
         signals.end(rt);
         return Err(AllocError);
     };
-    let report = run_streamed::<N, Until<N>, P, G, R>(
-        rt,
-        alloc,
-        &job,
-        crew,
-        watch,
-        signals.stream(),
-    );
+    let report = run_streamed(rt, alloc, &job, crew, watch, signals.stream());
     signals.end(rt);
     match report {
-        Ok(Report { rest, ended, .. }) => Ok(Left { rest, ended }),
+        Ok(Report { rest, halts, .. }) => Ok(Left { rest, halts }),
         Err(error) => Err(error),
     }
 }
@@ -114,8 +103,7 @@ trait WritesPosts<N: OfJob> {
         ensures tree { tree self.new ≡ tree self.old }
         ensures written { IfOk result (IsWrittenTo N.job (tree self.old)
             (W.contents writer.old) (W.contents writer.new)) }
-        ensures within { IfOk result (λ w.
-            rank N.job.limit w.mark ≤ end_of N.job.limit N.job.horizon) }
+        ensures within { IfOk result (λ w. IsUpToEnd N.job w.mark) }
         ensures err { OnErr result (IsBegun N.job (tree self.old)
             (W.contents writer.old) (W.contents writer.new)) };
 }
@@ -167,25 +155,23 @@ where
     ensures tree { M.tree merger.new ≡ M.tree merger.old }
     ensures written { IfOk result.0 (IsWrittenTo N.job (M.tree merger.old)
         (W.contents writer.old) (W.contents writer.new)) }
-    ensures within { IfOk result.0 (λ w.
-        rank N.job.limit w.mark ≤ end_of N.job.limit N.job.horizon) }
+    ensures within { IfOk result.0 (λ w. IsUpToEnd N.job w.mark) }
     ensures err { OnErr result.0 (IsBegun N.job (M.tree merger.old)
         (W.contents writer.old) (W.contents writer.new)) }
-    ensures report { IfOk result.1 (IsReportOf N.job) }
+    ensures report { IfOk result.1 (λ r. AreReached N.job r.rest.items) }
 {
     let mut crewed = Some(crewed);
     let mut run = move || -> Result<Left<N, G::Cause>, AllocError>
         requires crew { IfSome crewed (λ c. IsCrewFor N.job P.state P.handed P.valid c.crew) }
         requires bells { IfSome crewed (λ c.
             length c.crew.works.items ≤ length signals.now.bells.items) }
-        ensures { IfOk result (IsReportOf N.job) }
+        ensures { IfOk result (λ r. AreReached N.job r.rest.items) }
     { run_posting(rt, alloc, &mut crewed, watch, signals) };
     let mut write = || -> Result<Written, WriteError>
         ensures tree { M.tree merger.exit.now ≡ M.tree merger.entry.now }
         ensures written { IfOk result (IsWrittenTo N.job (M.tree merger.entry.now)
             (W.contents writer.entry.now) (W.contents writer.exit.now)) }
-        ensures within { IfOk result (λ w.
-            rank N.job.limit w.mark ≤ end_of N.job.limit N.job.horizon) }
+        ensures within { IfOk result (λ w. IsUpToEnd N.job w.mark) }
         ensures err { OnErr result (IsBegun N.job (M.tree merger.entry.now)
             (W.contents writer.entry.now) (W.contents writer.exit.now)) }
     { merger.write_posts(rt, signals, writer) };
@@ -248,10 +234,9 @@ fn run_and_write_rest<
     J: PlannedJob,
     P: ProcessHandsOver<N> + Send,
     G: Watch,
-    R: Threads + Wait + Sync,
     W: Write,
 >(
-    rt: &R,
+    rt: &(impl Threads + Wait + Sync),
     job: &J,
     crew: Crew<P, P::Work>,
     watch: &G,
@@ -262,9 +247,9 @@ fn run_and_write_rest<
 where
     P::Work: Send + Drop,
     P::Record: Send,
-    requires job { N.job ≡ J.means job.now }
     requires crew { IsCrewFor N.job P.state P.handed P.valid crew }
     requires bells { length crew.works.items ≤ length signals.now.bells.items }
+    requires job { N.job ≡ J.means job.now }
     requires some { 0 < N.job.processes }
     ensures run { IfOk result (HasRunByWorkers N.job) }
     ensures written { IfOk result (λ w. IsWrittenTo N.job merger.old.lines
@@ -281,23 +266,23 @@ where
     let crewed = CrewedJob { job: until, crew };
     let (written, report) = run_and_write(rt, merger.alloc, crewed, watch, signals, merger, writer);
     let written = written?;
-    let Left { rest, ended } = report?;
+    let Left { rest, halts } = report?;
     let written = write_rest(rt, &signals.board, merger, rest, written, writer)?;
-    let ran = ran_by_workers(job, merger, ended, written)?;
+    let ran = ran_by_workers(job, merger, halts, written)?;
     Ok(ran)
 }
 
-// The answer of a run by workers, from how it ended, what is joined and what was written of it.
+// The answer of a run by workers, from how they ended, what is joined and what was written of it.
 fn ran_by_workers<N: OfJob, J: PlannedJob, C: Drop>(
     job: &J,
     merger: &Merger<'_, N>,
-    ended: Ended<C>,
+    halts: Vec<Option<Halt<C>>>,
     written: Written,
 ) -> Result<RanByWorkers<C>, AllocError>
     requires job { N.job ≡ J.means job.now }
     requires some { 0 < N.job.processes }
     requires of_run { IsOfRun N.job.limit written.mark }
-    requires within { rank N.job.limit written.mark ≤ end_of N.job.limit N.job.horizon }
+    requires within { IsUpToEnd N.job written.mark }
     ensures run { IfOk result (HasRunByWorkers N.job) }
     ensures written { IfOk result (λ r. r.ran.written ≡ written) }
 {
@@ -307,11 +292,12 @@ fn ran_by_workers<N: OfJob, J: PlannedJob, C: Drop>(
         tick: job.horizon() + 1,
         micro: 0,
     };
-    let (ended, cause) = ended_as(ended, all_are(&clocks, end));
+    let is_whole = all_are(&clocks, end);
+    let ended = ended_as(&halts, is_whole);
     let ran = Ran {
         clocks,
         ended,
         written,
     };
-    Ok(RanByWorkers { ran, cause })
+    Ok(RanByWorkers { ran, halts })
 }

@@ -18,7 +18,15 @@ module _ {C : Type 0} where
   lacks_memory (Some halt.Memory) = true
   lacks_memory (Some (halt.Cause c)) = false
 
-  -- the cause for which the watch stopped a worker
+  -- whether the watch stopped a worker
+  abbrev pub is_caused : Option (Halt C) → Bool
+  is_caused None = false
+  is_caused (Some halt.Flag) = false
+  is_caused (Some halt.Stop) = false
+  is_caused (Some halt.Memory) = false
+  is_caused (Some (halt.Cause c)) = true
+
+  -- the cause for which it did
   abbrev pub cause_of : Option (Halt C) → Option C
   cause_of None = None
   cause_of (Some halt.Flag) = None
@@ -36,23 +44,22 @@ module _ {C : Type 0} where
   first_cause [] = None
   first_cause (h ∷ hs) = first_of (cause_of h) (first_cause hs)
 
-  -- Whole if every clock is at the end; else out of memory if a worker was; else stopped by the watch if there is a cause; else
-  -- cancelled if the caller's flag was raised. Anything else that keeps a clock from the end counts as out of memory, as a worker
-  -- without a thread does.
-  abbrev pub ended_by : (is_whole memory : Bool) → Option C → (is_stopped : Bool) → Ended C
-  ended_by true memory cause is_stopped = ended.Whole
-  ended_by false true cause is_stopped = ended.Memory
-  ended_by false false (Some c) is_stopped = ended.Stopped c
-  ended_by false false None true = ended.Cancelled
-  ended_by false false None false = ended.Memory
+-- Whole if every clock is at the end; else out of memory if a worker was; else stopped if the watch stopped one; else cancelled if the
+-- caller's flag was raised. Anything else that keeps a clock from the end counts as out of memory.
+abbrev pub ended_by : (is_whole memory is_caused is_stopped : Bool) → Ended
+ended_by true memory is_caused is_stopped = ended.Whole
+ended_by false true is_caused is_stopped = ended.Memory
+ended_by false false true is_stopped = ended.Stopped
+ended_by false false false true = ended.Cancelled
+ended_by false false false false = ended.Memory
 
-  -- how a run ended whose workers ended like this, by their numbers
-  abbrev pub ended_of : (is_whole : Bool) → List (Option (Halt C)) → (is_stopped : Bool) → Ended C
-  ended_of is_whole halts is_stopped = ended_by is_whole (list_any lacks_memory halts) (first_cause halts) is_stopped
+-- how a run ended whose workers ended like this
+abbrev pub ended_of : {C : Type 0} → (is_whole : Bool) → List (Option (Halt C)) → (is_stopped : Bool) → Ended
+ended_of is_whole halts is_stopped = ended_by is_whole (list_any lacks_memory halts) (list_any is_caused halts) is_stopped
 
 -- The run of a job ended like this: it is whole exactly if every clock is at the end.
 pub record EndsFor {N C : Type 0} (job : Job) (halts : List (Option (Halt C))) (is_stopped : Bool) (rest : List (Piece N))
-    (ended : Ended C) : Type 0 where
+    (ended : Ended) : Type 0 where
   pub is_whole : Bool
   pub whole : IsTrue is_whole ↔ ((p : ℕ) (x : Piece N) → slice_get rest p ≡ Some x → x.clock ≡ end_time job)
   pub is : ended ≡ ended_of is_whole halts is_stopped

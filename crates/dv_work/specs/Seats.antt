@@ -1,6 +1,7 @@
 -- What is known of a process that a worker owns, and of what it reports in the end.
 use Rattle.std.specs.Prelude.{⊤, ◌≡◌, ◌≢◌, ℕ, ◌<◌, ◌≤◌, nat_eq, Bool, true, false, List, [], ◌++◌, length, slice_get, None, Some}
-use Rattle.std.specs.List.{list_any}
+use Rattle.std.specs.Prelude.{OnErr, OnOk, Result}
+use Rattle.std.specs.List.{All, list_any}
 use Rattle.std.specs.Option.{is_some}
 use Rattle.dv_time.specs.Time.{IsOfRun, rank}
 use Rattle.dv_time.specs.declared.time.Time.{Time}
@@ -155,6 +156,20 @@ pub record Reports {P : Type 0} (job : Job) (state : P → ProcessState) (handed
   pub part : (state s.process).part
       ≡ part_before (owned job s.number) job.limit (whole job.flat) job.outside (rank job.limit (state s.process).position.clock)
   pub posted : HasHandedOver job s.number (state s.process) (handed s.process) s.posted
+
+-- a process after a step of its worker: it sits, or reports if the step failed
+pub record SitsIfOk {N P T E : Type 0} (job : Job) (state : P → ProcessState) (handed : P → Handed) (IsValid : P → Type 0)
+    (links : List (Link N)) (s : Seat P) (result : Result T E) : Type 0 where
+  pub ok : OnOk result (Sits job state handed IsValid links s)
+  pub err : OnErr result (Reports job state handed IsValid s)
+
+-- Processes after a post, which changes nothing that their worker waits for: all sit, and if all had told all, or held no packet, all
+-- still do.
+pub record StaySeated {N P : Type 0} (job : Job) (state : P → ProcessState) (handed : P → Handed) (IsValid : P → Type 0)
+    (links : List (Link N)) (before after : List (Seat P)) : Type 0 where
+  pub sits : All (Sits job state handed IsValid links) after
+  pub told : All (HasToldAll state) before → All (HasToldAll state) after
+  pub put : All HoldsNone before → All HoldsNone after
 
 -- all that a process committed was moved out of it, and nothing else changed
 pub record IsEmptied {P : Type 0} (state : P → ProcessState) (handed : P → Handed) (IsValid : P → Type 0) (before after : Seat P)

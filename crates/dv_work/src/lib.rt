@@ -143,6 +143,7 @@ pub use bell::{Bell, Flag, FlagView, Raised, bells_of};
 pub use crew::Crew;
 pub use lead::{Lead, Leads};
 pub use post::Stream;
-pub use report::{Ended, Report};
+pub use report::{Ended, Report, first_cause, lacked_memory, was_stopped};
 pub use run::run_streamed;
 pub use watch::{Unwatched, Watch};
+pub use worker::Halt;

@@ -2,7 +2,7 @@
 
 ghost use Rattle.std.specs.List.{All};
 ghost use Rattle.std.specs.Prelude.{◌≡◌, ◌%◌, true};
-ghost use Rattle.dv_work.specs.Seats.{HasToldAll, HoldsNone, Sits};
+ghost use Rattle.dv_work.specs.Seats.{HasToldAll, HoldsNone, Sits, StaySeated};
 
 use crate::bell::{Bell, Flag, FlagView};
 use crate::lead::Leads;
@@ -134,9 +134,7 @@ pub fn post_all<N: OfJob, P: ProcessHandsOver<N>, R: Wait>(
     seats: &mut [Seat<P>],
 ) -> Result<(), AllocError>
     requires { All (Sits N.job P.state P.handed P.valid floor.now.links.now) seats.old }
-    ensures sits { All (Sits N.job P.state P.handed P.valid floor.now.links.now) seats.new }
-    ensures told { All (HasToldAll P.state) seats.old → All (HasToldAll P.state) seats.new }
-    ensures put { All HoldsNone seats.old → All HoldsNone seats.new }
+    ensures { StaySeated N.job P.state P.handed P.valid floor.now.links.now seats.old seats.new }
 {
     let mut any_posted = false;
     for i in 0..seats.len() {

@@ -1,13 +1,13 @@
 //! How a run ended, and what was not posted.
 
-ghost use Rattle.std.specs.Prelude.{◌≡◌, ◌↔◌, ◌+◌, ◌++◌, ◌<◌, ◌||◌, ◌^◌, ℕ, [], ◌∷◌, IsTrue, length, map};
-ghost use Rattle.std.specs.Prelude.{IfNone, IfOk, IfSome, is_some, slice_get, Some};
-ghost use Rattle.std.specs.List.{All};
+ghost use Rattle.std.specs.Prelude.{◌≡◌, ◌↔◌, ◌+◌, ◌<◌, ◌^◌, ℕ, IsTrue, map};
+ghost use Rattle.std.specs.Prelude.{IfOk, IfSome, is_some, slice_get, Some};
+ghost use Rattle.std.specs.List.{All, list_any};
 ghost use Rattle.dv_board.specs.declared.posts.Piece.{Piece as MeantPiece};
 ghost use Rattle.dv_core.specs.Worlds.{end_time};
 ghost use Rattle.dv_work.specs.declared.report.Ended.TheVariants.{Whole};
 ghost use Rattle.dv_work.specs.Workers.{Reported};
-ghost use Rattle.dv_work.specs.Endings.{EndsFor, cause_of, ended_by, first_of, lacks_memory};
+ghost use Rattle.dv_work.specs.Endings.{EndsFor, cause_of, ended_by, first_cause, is_caused, lacks_memory};
 ghost use Rattle.dv_work.specs.Flags.{IsOfFlag};
 ghost use Rattle.dv_work.specs.Reached.{AreReached};
 ghost use Rattle.dv_work.specs.Seats.{Reports};
@@ -22,12 +22,12 @@ use dv_written::{OfJob, WrittenPart};
 use std::alloc::{AllocError, Global};
 
 /// How a run ended.
-#[derive(Drop)]
-pub enum Ended<C> {
+#[derive(Clone, Copy, PartialEq, Eq)]
+pub enum Ended {
     /// Every clock is at the end.
     Whole,
-    /// The watch stopped it, for this cause.
-    Stopped(C),
+    /// The watch stopped it, for the cause of a worker's halt.
+    Stopped,
     /// The caller raised the flag that stops it.
     Cancelled,
     /// No memory, or no thread for a worker.
@@ -39,8 +39,11 @@ pub enum Ended<C> {
 pub struct Report<'a, N: OfJob, C> {
     /// What each process committed and did not post, up to its clock, by its number.
     pub rest: Vec<Piece<N>>,
+    /// Why each worker ended before its processes were done, or `None` if they are done: first the
+    /// workers that got no thread, then the others, by their numbers.
+    pub halts: Vec<Option<Halt<C>>>,
     /// How the run ended.
-    pub ended: Ended<C>,
+    pub ended: Ended,
     /// The token that the caller raised the flag that stops the run, if it did.
     pub stopped: Option<Raised<'a>>,
 }
@@ -86,31 +89,42 @@ fn enter_all<N: OfJob, P: ProcessHandsOver<N>>(rest: &mut Vec<Piece<N>>, seats: 
     }
 }
 
-// Takes what the last worker of the list left.
-fn last_worked<N: OfJob, P: LogicalProcess, C: Drop>(
-    all: &mut Vec<Worked<P, C>>,
-) -> Option<Worked<P, C>>
-    requires { All (Reported N.job P.state P.handed P.valid) all.old.items }
-    ensures one { IfSome result (Reported N.job P.state P.handed P.valid) }
-    ensures rest { All (Reported N.job P.state P.handed P.valid) all.new.items }
-    ensures count { IfSome result (λ _. length all.new.items + 1 ≡ length all.old.items) }
-    ensures items { IfSome result (λ worked. all.old.items ≡ all.new.items ++ worked ∷ []) }
-    ensures none { IfNone result (all.old.items ≡ []) }
+/// Whether a worker ended out of memory.
+pub fn lacked_memory<C>(halts: &[Option<Halt<C>>]) -> bool
+    ensures { result ≡ list_any lacks_memory halts.now }
 {
-    all.pop()
+    halts.iter().any(|halt| matches!(halt, Some(Halt::Memory)))
 }
 
-// Notes why a worker ended whose number is less than those noted so far: whether one lacked memory,
-// and the cause of the first worker that has one.
-fn keep_halt<C: Drop>(halt: Option<Halt<C>>, memory: &mut bool, cause: &mut Option<C>)
-    ensures memory { memory.new ≡ (lacks_memory halt || memory.old) }
-    ensures cause { cause.new ≡ first_of (cause_of halt) cause.old }
+/// Whether the watch stopped a worker.
+pub fn was_stopped<C>(halts: &[Option<Halt<C>>]) -> bool
+    ensures { result ≡ list_any is_caused halts.now }
+{
+    halts
+        .iter()
+        .any(|halt| matches!(halt, Some(Halt::Cause(_))))
+}
+
+// The cause for which the watch stopped a worker, if it did.
+fn cause_of<C: Drop>(halt: Option<Halt<C>>) -> Option<C>
+    ensures { result ≡ cause_of halt }
 {
     match halt {
-        Some(Halt::Memory) => *memory = true,
-        Some(Halt::Cause(one)) => *cause = Some(one),
-        _ => {}
+        Some(Halt::Cause(cause)) => Some(cause),
+        Some(Halt::Flag | Halt::Stop | Halt::Memory) | None => None,
     }
+}
+
+/// The cause for which the watch stopped the first worker that it stopped, if it stopped one.
+pub fn first_cause<C: Drop>(halts: Vec<Option<Halt<C>>>) -> Option<C>
+    ensures { result ≡ first_cause halts.items }
+{
+    for halt in halts {
+        if let Some(cause) = cause_of(halt) {
+            return Some(cause);
+        }
+    }
+    None
 }
 
 // Whether all pieces end at a time.
@@ -121,12 +135,12 @@ fn all_reach<N: OfJob>(rest: &[Piece<N>], end: Time) -> bool
     rest.iter().all(|piece| piece.clock == end)
 }
 
-// How a run ended: whole, or out of memory if a worker was, or stopped if there is a cause, or
+// How a run ended: whole, or out of memory if a worker was, or stopped if the watch stopped one, or
 // cancelled if the caller raised its flag. Nothing else ends a run; if it did, it would count as
 // out of memory, which claims least.
-fn how_ended<C: Drop>(is_whole: bool, memory: bool, cause: Option<C>, is_stopped: bool) -> Ended<C>
+fn how_ended(is_whole: bool, memory: bool, is_caused: bool, is_stopped: bool) -> Ended
     ensures whole { (result ≡ Whole) ↔ IsTrue is_whole }
-    ensures ended { result ≡ ended_by is_whole memory cause is_stopped }
+    ensures ended { result ≡ ended_by is_whole memory is_caused is_stopped }
 {
     if is_whole {
         return Ended::Whole;
@@ -134,19 +148,21 @@ fn how_ended<C: Drop>(is_whole: bool, memory: bool, cause: Option<C>, is_stopped
     if memory {
         return Ended::Memory;
     }
-    match cause {
-        Some(cause) => Ended::Stopped(cause),
-        None if is_stopped => Ended::Cancelled,
-        None => Ended::Memory,
+    if is_caused {
+        return Ended::Stopped;
     }
+    if is_stopped {
+        return Ended::Cancelled;
+    }
+    Ended::Memory
 }
 
 /// Makes the report of all workers of a job. If the run is not whole, it ended out of memory if a
-/// worker was, else for the cause of the first worker that has one, else because `stop` was raised.
+/// worker was, else stopped if the watch stopped a worker, else because `stop` was raised.
 ///
 /// # Errors
 ///
-/// No memory for the list of pieces.
+/// No memory for the lists of pieces and halts.
 pub fn report_of<'a, N: OfJob, J: PlannedJob, P: ProcessHandsOver<N>, C: Drop>(
     alloc: Global,
     job: &J,
@@ -162,18 +178,17 @@ pub fn report_of<'a, N: OfJob, J: PlannedJob, P: ProcessHandsOver<N>, C: Drop>(
     ensures whole { IfOk result (λ r. (r.ended ≡ Whole)
         ↔ ((p : ℕ) (x : MeantPiece N) → slice_get r.rest.items p ≡ Some x
         → x.clock ≡ end_time N.job)) }
-    ensures ended { IfOk result (λ r. EndsFor N.job (map (λ worked. worked.halt) all.items)
+    ensures halts { IfOk result (λ r. r.halts.items ≡ map (λ worked. worked.halt) all.items) }
+    ensures ended { IfOk result (λ r. EndsFor N.job r.halts.items
         (is_some r.stopped) r.rest.items r.ended) }
     ensures stopped { IfOk result (λ r. IfSome r.stopped (IsOfFlag stop.entry.flag.now)) }
 {
-    let mut left = all;
     let mut rest = nothing::<N>(alloc, processes)?;
-    let mut memory = false;
-    let mut cause = None;
-    while let Some(worked) = last_worked::<N, P, C>(&mut left) {
+    let mut halts = Vec::with_capacity(alloc, all.len())?;
+    for worked in all {
         let Worked { seats, halt } = worked;
         enter_all::<N, P>(&mut rest, seats);
-        keep_halt(halt, &mut memory, &mut cause);
+        halts.push(halt)?;
     }
     let end = Time {
         tick: job.horizon() + 1,
@@ -181,9 +196,12 @@ pub fn report_of<'a, N: OfJob, J: PlannedJob, P: ProcessHandsOver<N>, C: Drop>(
     };
     let is_whole = all_reach(&rest, end);
     let stopped = stop.raised();
-    let ended = how_ended(is_whole, memory, cause, stopped.is_some());
+    let memory = lacked_memory(&halts);
+    let is_caused = was_stopped(&halts);
+    let ended = how_ended(is_whole, memory, is_caused, stopped.is_some());
     Ok(Report {
         rest,
+        halts,
         ended,
         stopped,
     })

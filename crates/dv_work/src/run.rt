@@ -1,11 +1,12 @@
 //! Runs processes by workers.
 
-ghost use Rattle.std.specs.Prelude.{◌≡◌, ◌<◌, ◌≤◌, ◌↔◌, ◌+◌, ℕ, length, slice_get, IfErr, IfOk, IfSome, IsSome, Some};
+ghost use Rattle.std.specs.Prelude.{◌≡◌, ◌<◌, ◌≤◌, ◌↔◌, ◌+◌, ℕ, length, slice_get, IfErr, IfOk, IfSome, IsSome, Some, is_some};
 ghost use Rattle.std.specs.List.{All};
 ghost use Rattle.dv_board.specs.declared.posts.Piece.{Piece as MeantPiece};
 ghost use Rattle.dv_core.specs.Worlds.{end_time};
 ghost use Rattle.dv_work.specs.declared.report.Ended.TheVariants.{Cancelled, Whole};
 ghost use Rattle.dv_work.specs.Crews.{IsCrewFor};
+ghost use Rattle.dv_work.specs.Endings.{EndsFor};
 ghost use Rattle.dv_work.specs.Workers.{Reported, Seated};
 ghost use Rattle.dv_work.specs.Flags.{IsOfFlag};
 ghost use Rattle.dv_work.specs.Reached.{AreReached};
@@ -44,16 +45,9 @@ type Handle<N, P, C> = PromisedHandle<Worked<P, C>, Kept<N, P>>;
 
 // Starts a thread for a worker. If no thread can be made, it raises the flag, at which all workers
 // end, and counts this as out of memory.
-fn start<
-    's,
-    E,
-    N: OfJob + Send + Sync + 's,
-    P: ProcessHandsOver<N> + Send + 's,
-    G: Watch,
-    R: Threads + Wait + Sync,
->(
+fn start<'s, E, N: OfJob + Send + Sync + 's, P: ProcessHandsOver<N> + Send + 's, G: Watch>(
     scope: &'s Scope<'s, E>,
-    rt: &'s R,
+    rt: &'s (impl Threads + Wait + Sync),
     floor: &'s Floor<'s, N>,
     watch: &'s G,
     number: usize,
@@ -130,16 +124,9 @@ fn join_last<N: OfJob, P: LogicalProcess, C: Drop, R: Threads>(
 }
 
 // Starts a thread for each worker, and joins them all.
-fn start_and_join<
-    's,
-    E,
-    N: OfJob + Send + Sync + 's,
-    P: ProcessHandsOver<N> + Send + 's,
-    G: Watch,
-    R: Threads + Wait + Sync,
->(
+fn start_and_join<'s, E, N: OfJob + Send + Sync + 's, P: ProcessHandsOver<N> + Send + 's, G: Watch>(
     scope: &'s Scope<'s, E>,
-    rt: &'s R,
+    rt: &'s (impl Threads + Wait + Sync),
     alloc: Global,
     floor: &'s Floor<'s, N>,
     watch: &'s G,
@@ -169,13 +156,8 @@ where
 }
 
 // Runs the processes of each worker on a thread of its own.
-fn run_all<
-    N: OfJob + Send + Sync,
-    P: ProcessHandsOver<N> + Send,
-    G: Watch,
-    R: Threads + Wait + Sync,
->(
-    rt: &R,
+fn run_all<N: OfJob + Send + Sync, P: ProcessHandsOver<N> + Send, G: Watch>(
+    rt: &(impl Threads + Wait + Sync),
     alloc: Global,
     floor: &Floor<'_, N>,
     watch: &G,
@@ -260,8 +242,9 @@ where
 /// run is then reported cancelled, unless it is whole, out of memory or stopped by `watch`.
 ///
 /// For any `watch`, any leads and any timing of the threads, each piece is what its process
-/// committed in that time. The run is reported whole exactly if every clock is at the end, and
-/// cancelled only with a token that `stop` was raised, which no worker can do.
+/// committed in that time. The run is reported whole exactly if every clock is at the end; else its
+/// ending follows from the halts of its workers. It is cancelled only with a token that `stop` was
+/// raised, which no worker can do.
 ///
 /// # Errors
 ///
@@ -291,6 +274,8 @@ where
     ensures whole { IfOk result (λ r. (r.ended ≡ Whole)
         ↔ ((p : ℕ) (x : MeantPiece N) → slice_get r.rest.items p ≡ Some x
         → x.clock ≡ end_time (J.means job.now))) }
+    ensures ended { IfOk result (λ r. EndsFor (J.means job.now) r.halts.items
+        (is_some r.stopped) r.rest.items r.ended) }
     ensures cancelled { IfOk result (λ r. r.ended ≡ Cancelled → IsSome r.stopped) }
     ensures stopped { IfOk result (λ r. IfSome r.stopped (IsOfFlag stream.entry.stop.flag.now)) }
 {

@@ -1,11 +1,12 @@
 //! A worker: it visits its processes until they are done, and waits at its bell if nothing moved.
 
-ghost use Rattle.std.specs.Prelude.{◌≡◌, ◌≢◌, ◌<◌, ◌+◌, ◌↔◌, ◌⊎◌, false, true, length, None, IfOk, OnErr, OnOk};
+ghost use Rattle.std.specs.Prelude.{◌≡◌, ◌≢◌, ◌<◌, ◌+◌, ◌↔◌, ◌⊎◌, false, true, length, None, IfOk, OnOk};
 ghost use Rattle.std.specs.List.{All};
 ghost use Rattle.dv_proc.specs.declared.process.Turned.TheVariants.{Done, Moved};
 ghost use Rattle.dv_work.specs.Workers.{Reported, Seated};
 ghost use Rattle.dv_work.specs.Seats.{HasEvents, HasToldAll, HasToldAtFirst, HoldsNone, IsNull, Reports, Sits};
 ghost use Rattle.dv_work.specs.Seats.{EachKeepsNoneBack, KeepsNoneBack, KeepsNoneBackAt, NoneIsNew, OthersStay};
+ghost use Rattle.dv_work.specs.Seats.{SitsIfOk, StaySeated};
 
 use crate::bell::Bell;
 use crate::post::{Pace, is_any_long, post_all};
@@ -46,8 +47,7 @@ fn take_all<N: OfJob, P: LogicalProcess, R: Wait>(
     seat: &mut Seat<P>,
 ) -> Result<bool, AllocError>
     requires { Sits N.job P.state P.handed P.valid floor.now.links.now seat.old }
-    ensures ok { OnOk result (Sits N.job P.state P.handed P.valid floor.now.links.now seat.new) }
-    ensures err { OnErr result (Reports N.job P.state P.handed P.valid seat.new) }
+    ensures sits { SitsIfOk N.job P.state P.handed P.valid floor.now.links.now seat.new result }
     ensures outs { seat.new.outs ≡ seat.old.outs }
 {
     let mut moved = false;
@@ -131,8 +131,7 @@ fn turn_if_near<N: OfJob, P: LogicalProcess, G: Watch>(
     work: &mut P::Work,
 ) -> Result<Turned, Halt<G::Cause>>
     requires { Sits N.job P.state P.handed P.valid floor.now.links.now seat.old }
-    ensures ok { OnOk result (Sits N.job P.state P.handed P.valid floor.now.links.now seat.new) }
-    ensures err { OnErr result (Reports N.job P.state P.handed P.valid seat.new) }
+    ensures sits { SitsIfOk N.job P.state P.handed P.valid floor.now.links.now seat.new result }
     ensures outs { seat.new.outs ≡ seat.old.outs }
 {
     if !seat.may_turn(floor) {
@@ -172,8 +171,7 @@ fn visit<N: OfJob, P: LogicalProcess, G: Watch, R: Wait>(
     work: &mut P::Work,
 ) -> Result<Turned, Halt<G::Cause>>
     requires { Sits N.job P.state P.handed P.valid floor.now.links.now seat.old }
-    ensures ok { OnOk result (Sits N.job P.state P.handed P.valid floor.now.links.now seat.new) }
-    ensures err { OnErr result (Reports N.job P.state P.handed P.valid seat.new) }
+    ensures sits { SitsIfOk N.job P.state P.handed P.valid floor.now.links.now seat.new result }
     ensures told { IfOk result (λ t. t ≢ Moved → HasToldAll P.state seat.new) }
     ensures done { IfOk result (λ t. t ≡ Done → HoldsNone seat.new) }
     ensures nulls { tells ≡ true
@@ -280,9 +278,7 @@ fn post_after<N: OfJob, P: ProcessHandsOver<N>, R: Wait>(
     seats: &mut [Seat<P>],
 ) -> Result<(), AllocError>
     requires { All (Sits N.job P.state P.handed P.valid floor.now.links.now) seats.old }
-    ensures sits { All (Sits N.job P.state P.handed P.valid floor.now.links.now) seats.new }
-    ensures told { All (HasToldAll P.state) seats.old → All (HasToldAll P.state) seats.new }
-    ensures put { All HoldsNone seats.old → All HoldsNone seats.new }
+    ensures { StaySeated N.job P.state P.handed P.valid floor.now.links.now seats.old seats.new }
 {
     let is_long = is_any_long::<N, P>(seats);
     pace.adapt(is_long);

@@ -29,13 +29,8 @@ const LAST_STOP: u64 = 20;
 // Whether a run ended whole, and has this trace.
 fn is_trace<C>(ended: &Result<EndedByWorkers<C>, JobError>, written: &[u8], trace: &[u8]) -> bool {
     match ended {
-        Ok(
-            EndedByWorkers {
-                ended: JobEnded::Whole,
-                cause: None,
-            },
-        ) => written == trace,
-        _ => false,
+        Ok(ended) => ended.ended == JobEnded::Whole && written == trace,
+        Err(_) => false,
     }
 }
 
@@ -108,13 +103,12 @@ fn is_stopped<R: AllocGlobal + Abort + Clock + Threads + Wait + Sync>(
     let mut bytes = Vec::new(rt.alloc());
     let ended = run.returns(rt, &turns, &mut bytes);
     match ended {
-        Ok(
-            EndedByWorkers {
-                ended: JobEnded::Partial(Why::Stopped),
-                cause: Some(turn),
-            },
-        ) => turn == stop,
-        _ => false,
+        Ok(ended) => {
+            ended.ended == JobEnded::Partial(Why::Stopped)
+                && ended.halts.len() == workers as usize
+                && ended.into_cause() == Some(stop)
+        }
+        Err(_) => false,
     }
 }
 

@@ -72,15 +72,12 @@ impl Watch for StopsBoth {
 }
 
 // Whether a run was stopped at a moment.
-fn is_stopped_at(ended: &Result<EndedByWorkers<Moment>, JobError>, moment: Moment) -> bool {
+fn is_stopped_at(ended: Result<EndedByWorkers<Moment>, JobError>, moment: Moment) -> bool {
     match ended {
-        Ok(
-            EndedByWorkers {
-                ended: JobEnded::Partial(Why::Stopped),
-                cause: Some(cause),
-            },
-        ) => *cause == moment,
-        _ => false,
+        Ok(ended) => {
+            ended.ended == JobEnded::Partial(Why::Stopped) && ended.into_cause() == Some(moment)
+        }
+        Err(_) => false,
     }
 }
 
@@ -92,7 +89,7 @@ fn tells_moment<R: AllocGlobal + Threads + Wait + Sync>(
 ) -> bool {
     let mut bytes = Vec::new(rt.alloc());
     let ended = run_to_a_cause(rt, model, 2, &StopsAt { moment }, &mut bytes);
-    is_stopped_at(&ended, moment)
+    is_stopped_at(ended, moment)
 }
 
 // Whether a run by two workers, both of which are stopped, returns the moment of worker 0, whose
@@ -109,7 +106,7 @@ fn tells_first<R: AllocGlobal + Threads + Wait + Sync>(rt: &R, model: &Model<'_>
         process: 0,
         clock: Time::ZERO,
     };
-    !both.failed.load(Ordering::SeqCst) && is_stopped_at(&ended, moment)
+    !both.failed.load(Ordering::SeqCst) && is_stopped_at(ended, moment)
 }
 
 /// Whether stopped runs return these causes. Worker 0 owns the processes 0 and 2, and worker 1 owns

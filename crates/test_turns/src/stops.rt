@@ -111,8 +111,9 @@ fn stops<R: AllocGlobal + Threads + Wait + Sync>(
     let mut bytes = Vec::new(rt.alloc());
     let ended = run_to_a_cause(rt, model, workers, &stopping, &mut bytes);
     let was_asked = before <= stopping.turns.load(Ordering::SeqCst);
-    if !was_asked || before > FIRST_TURNS && is_whole(model, &ended, &bytes) {
-        return is_whole(model, &ended, &bytes);
+    let is_whole = is_whole(model, &ended, &bytes);
+    if !was_asked || before > FIRST_TURNS && is_whole {
+        return is_whole;
     }
     let (Ok(text), Ok(trace)) = (
         str::from_utf8(bytes.as_slice()),
@@ -120,31 +121,28 @@ fn stops<R: AllocGlobal + Threads + Wait + Sync>(
     ) else {
         return false;
     };
-    is_stopped(&ended, before) && is_cut(text, trace)
+    is_stopped(ended, before) && is_cut(text, trace)
 }
 
-// Whether a run is whole, and no cause is returned.
+// Whether a run is whole.
 fn is_whole(
     model: &Model<'_>,
     ended: &Result<EndedByWorkers<u64>, JobError>,
     bytes: &[u8],
 ) -> bool {
     match ended {
-        Ok(EndedByWorkers { ended, cause: None }) => model.is_trace(&Ok(*ended), bytes),
-        _ => false,
+        Ok(ended) => model.is_trace(&Ok(ended.ended), bytes),
+        Err(_) => false,
     }
 }
 
 // Whether a run was stopped before the turn with this number.
-fn is_stopped(ended: &Result<EndedByWorkers<u64>, JobError>, before: u64) -> bool {
+fn is_stopped(ended: Result<EndedByWorkers<u64>, JobError>, before: u64) -> bool {
     match ended {
-        Ok(
-            EndedByWorkers {
-                ended: JobEnded::Partial(Why::Stopped),
-                cause: Some(turn),
-            },
-        ) => *turn == before,
-        _ => false,
+        Ok(ended) => {
+            ended.ended == JobEnded::Partial(Why::Stopped) && ended.into_cause() == Some(before)
+        }
+        Err(_) => false,
     }
 }
 

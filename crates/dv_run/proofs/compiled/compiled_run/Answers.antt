@@ -1,4 +1,4 @@
-use Rattle.std.proofs.Common.{◌≡◌, ℕ, ◌<◌, length, sym, ap, subst, ◌∙◌}
+use Rattle.std.proofs.Common.{◌≡◌, ◌<◌, length, sym, ap, subst, ◌∙◌}
 use Rattle.dv_devs.specs.Clocks.{least_rank}
 use Rattle.dv_time.specs.Time.{rank}
 use Rattle.dv_partition.specs.Groups.{owner_of}
@@ -7,8 +7,7 @@ use Rattle.dv_text.proofs.Taking.{OnErr-always}
 use Rattle.dv_plan.specs.Clocks.{least_time}
 use Rattle.dv_plan.proofs.LeastClock.{least_time_rank}
 use Rattle.dv_stream.specs.Clocks.{AreWithin}
-use Rattle.dv_run.proofs.Merging.{Leaves, merges}
-use Rattle.dv_run.proofs.Traces.{Laws, each_clock, is_cut_short, is_printed, is_run, nothing_printed, ran_of_run}
+use Rattle.dv_run.proofs.Traces.{each_clock, is_cut_short, is_printed, is_run, nothing_printed, ran_of_run}
 use Rattle.dv_run.proofs.Traces.{ran_within, some_clocks}
 use Rattle.dv_run.proofs.compiled.compiled_run.Goals as goal
 
@@ -28,21 +27,6 @@ run_components-requires-clause-components g c = record {
   short = c.in_ok-components.ensures.short;
 }
 
-pub run_components-requires-clause-merges : goal.run_components-requires-clause-merges
-run_components-requires-clause-merges g c =
-    let j = c.args.job.now in
-    let f = file_of j.tree.now.file in
-    let leaves : Leaves f j.limit = record {
-      ready = c.what_leaves_a_flat_model_is_linear.ensures.ready j.limit f;
-      rise = c.what_leaves_a_flat_model_is_linear.ensures.numbers j.limit f;
-      outputs = c.what_leaves_a_flat_model_is_linear.ensures.outputs j.limit f;
-      linear = c.what_leaves_a_flat_model_is_linear.ensures.linear j.limit f;
-      bags = λ names inputs n. c.what_leaves_a_flat_model_is_linear.ensures.bags names f inputs j.limit n;
-    } in
-    let owned : (k : ℕ) → owner_of j.groups.now k < j.groups.now.processes =
-    λ k. subst (λ (n : ℕ). owner_of j.groups.now k < n) c.processes-processes.ensures.exact (c.processes-processes.ensures.owned k) in
-    merges j c.requires.text c.requires.accepted leaves owned
-
 pub returns-in_err-components-clause-err : goal.returns-in_err-components-clause-err
 returns-in_err-components-clause-err g c =
     let j = c.args.job.now in
@@ -52,28 +36,13 @@ returns-in_err-components-clause-err g c =
 pub returns-in_err-ran-clause-err : goal.returns-in_err-ran-clause-err
 returns-in_err-ran-clause-err g c =
     let j = c.args.job.now in
-    let f = file_of j.tree.now.file in
-    let laws : Laws f j.limit = record {
-      parts = c.parts_of_the_flat_model_are_those_of_the_text.ensures.part;
-      all = c.parts_are_of_the_trace.ensures.all;
-      lines = c.a_trace_is_its_instants.ensures.lines;
-      flat = c.what_leaves_a_flat_model_is_linear.ensures.ready j.limit f;
-      ready = c.networks_of_texts.ensures.ready j.limit f;
-    } in
-    OnErr-always _ (is_cut_short j c.requires.text c.requires.accepted laws {old = g.W.Write.contents c.args.writer.now}
+    OnErr-always _ (is_cut_short j c.requires.text c.requires.accepted c.traces_of.ensures.laws {old = g.W.Write.contents c.args.writer.now}
     {new = g.W.Write.contents c.run_components.new.writer} c.in_err-ran.ensures.err)
 
 pub returns-clause-run : goal.returns-clause-run
 returns-clause-run g c =
     let j = c.args.job.now in
     let f = file_of j.tree.now.file in
-    let laws : Laws f j.limit = record {
-      parts = c.parts_of_the_flat_model_are_those_of_the_text.ensures.part;
-      all = c.parts_are_of_the_trace.ensures.all;
-      lines = c.a_trace_is_its_instants.ensures.lines;
-      flat = c.what_leaves_a_flat_model_is_linear.ensures.ready j.limit f;
-      ready = c.networks_of_texts.ensures.ready j.limit f;
-    } in
     let capacity = c.args.bounds.capacity in
     let rounds = c.args.bounds.rounds in
     let r = c.in_ok-ran.ran in
@@ -87,7 +56,7 @@ returns-clause-run g c =
     ∙ ap (λ ts. least_rank j.limit ts.items) (sym so.clocks) in
     is_run j capacity rounds done so.run {old = g.W.Write.contents c.args.writer.now}
     {new = g.W.Write.contents c.run_components.new.writer} r so.clocks so.ended
-    (is_printed j c.requires.text c.requires.accepted laws r is.written mark
+    (is_printed j c.requires.text c.requires.accepted c.traces_of.ensures.laws r is.written mark
     (subst (λ ts. 0 < length ts.items) (sym so.clocks) some) (each_clock j capacity rounds done so.run r so.clocks)
     (subst (λ ts. AreWithin j.horizon j.limit ts.items) (sym so.clocks) (ran_within j capacity rounds done so.run)) so.whole)
     is.enough

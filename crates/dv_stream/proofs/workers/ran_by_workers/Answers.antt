@@ -1,4 +1,4 @@
-use Rattle.std.proofs.Common.{◌≡◌, ℕ, ◌+◌, ◌<◌, ◌≤◌, List, length, Some, sym, ap, subst, ◌∙◌, arith}
+use Rattle.std.proofs.Common.{◌≡◌, ℕ, ◌+◌, ◌<◌, ◌≤◌, if◌then◌else◌, List, length, Some, sym, ap, subst, ◌∙◌, arith}
 use Rattle.std.specs.List.{slice_get}
 use Rattle.dv_time.specs.Time.{IsOfRun, end_of, rank}
 use Rattle.dv_time.specs.declared.time.Time.{Time}
@@ -6,6 +6,9 @@ use Rattle.dv_conservative.specs.World.{Job}
 use Rattle.dv_core.specs.Worlds.{end_time}
 use Rattle.dv_devs.specs.Clocks.{least_rank}
 use Rattle.dv_stream.specs.Clocks.{AreWithin}
+use Rattle.dv_stream.specs.Endings.{why_for}
+use Rattle.dv_stream.specs.declared.ran.RunEnded.TheVariants.{Cut, Whole}
+use Rattle.dv_stream.proofs.Ended.{whole_if, whole_of, whole_or_cut}
 use Rattle.dv_stream.proofs.ToldClocks.{told_all, told_count, told_least, told_some}
 use Rattle.dv_stream.proofs.workers.ran_by_workers.Goals as goal
 
@@ -28,6 +31,10 @@ returns-clause-run g c =
     let mark = c.args.written.mark in
     let told = c.clocks_at-clocks.result.items in
     let told_is = c.clocks_at-clocks.ensures in
+    let whole = c.all_are-is_whole.result in
+    let why = why_for c.args.halts.items in
+    let told_as : c.ended_as-ended.result ≡ (if whole then Whole else Cut why)
+    = c.ended_as-ended.ensures ∙ ap (λ hs. if whole then Whole else Cut (why_for hs)) c.deref-2.ensures.value in
     let end : Time = record { tick = c.horizon.result + 1; micro = 0 } in
     let is : end ≡ end_time job
     = ap (λ (n : ℕ). let t : Time = record { tick = n + 1; micro = 0 } in t)
@@ -42,11 +49,10 @@ returns-clause-run g c =
           (told_all (λ (t : Time). IsOfRun job.limit t × (rank job.limit t ≤ end_of job.limit job.horizon)) times mark
           (λ k d lt. (kept.of_run k d lt, kept.within k d lt)) (c.requires.of_run, c.requires.within));
       whole = (
-        λ whole. subst (AllAt told) is (subst (λ (ts : List Time). AllAt ts end) c.deref.ensures.value
-            (c.all_are.ensures.0 (c.ended_as-ended.ensures.whole.0 whole))),
-        λ all. c.ended_as-ended.ensures.whole.1 (c.all_are.ensures.1 (subst (λ (ts : List Time). AllAt ts end) (sym c.deref.ensures.value)
+        λ is_whole. subst (AllAt told) is (subst (λ (ts : List Time). AllAt ts end) c.deref.ensures.value
+            (c.all_are-is_whole.ensures.0 (whole_of whole why (sym told_as ∙ is_whole)))),
+        λ all. told_as ∙ whole_if whole why (c.all_are-is_whole.ensures.1 (subst (λ (ts : List Time). AllAt ts end) (sym c.deref.ensures.value)
             (subst (AllAt told) (sym is) all))),
       );
-      ended = c.ended_as-ended.ensures.unstalled;
-      cause = c.ended_as-ended.ensures.is_told;
+      cut = λ cut. told_as ∙ whole_or_cut whole why (λ is_whole. cut (told_as ∙ is_whole));
     }

@@ -4,7 +4,7 @@ use Rattle.std.proofs.lemmas.Option.{slice_get-get_or}
 use Rattle.dv_time.specs.Time.{end_of, rank}
 use Rattle.dv_text.proofs.Taking.{OnErr-always}
 use Rattle.dv_stream.specs.Written.{Falters, GoesOn, IsBegun, IsWrittenTo}
-use Rattle.dv_stream.specs.Workers.{IsReportOf}
+use Rattle.dv_work.specs.Reached.{AreReached}
 use Rattle.dv_stream.proofs.Writing.{begun_from, begun_to, of_ok, written_further}
 use Rattle.dv_stream.proofs.workers.run_and_write_rest.Goals as goal
 
@@ -29,8 +29,8 @@ returns-in_err-rest-clause-err g c =
 pub write_rest-requires-clause-rest : goal.write_rest-requires-clause-rest
 write_rest-requires-clause-rest g c =
     let r = c.in_ok-rest.field-0 in
-    let report = of_ok (IsReportOf g.N.OfJob.job) _ r c.in_ok-rest.was c.run_and_write-written.ensures.report in
-    λ k d lt. report.reached.each k (slice_index_or r.rest.items k d) (slice_get-get_or r.rest.items k d lt)
+    let report = of_ok (λ l. AreReached g.N.OfJob.job l.rest.items) _ r c.in_ok-rest.was c.run_and_write-written.ensures.report in
+    λ k d lt. report.each k (slice_index_or r.rest.items k d) (slice_get-get_or r.rest.items k d lt)
 
 pub write_rest-requires-clause-of_run : goal.write_rest-requires-clause-of_run
 write_rest-requires-clause-of_run g c =

@@ -1,33 +1,48 @@
-use Rattle.std.proofs.Common.{◌≡◌, ℕ, ◌+◌, Bool, ◌||◌, List, [], ◌∷◌, ◌++◌, append-nil, Some, refl, sym, ap, subst, ◌∙◌}
-use Rattle.std.specs.List.{list_any, slice_get}
+use Rattle.std.proofs.Common.{◌≡◌, ℕ, ◌+◌, [], ◌∷◌, ◌++◌, List, Some, sym, ap, subst, ◌∙◌}
+use Rattle.std.specs.List.{All, list_any, slice_get}
+use Rattle.std.specs.Vec.Iter.{into_iter_items}
+use Rattle.std.proofs.lemmas.Iterator.Adapters.{YieldsList-from_vec}
+use Rattle.std.proofs.lemmas.Iterator.Consumers.{YieldsList-end}
+use Rattle.std.proofs.lemmas.List.{map-append, map-id}
+use Rattle.std.proofs.lemmas.List.Elements.{All-head, All-rest, All-same}
 use Rattle.dv_time.specs.declared.time.Time.{Time}
 use Rattle.dv_board.specs.declared.posts.Piece.{Piece}
 use Rattle.dv_conservative.specs.World.{Job}
 use Rattle.dv_core.specs.Worlds.{end_time}
-use Rattle.dv_work.specs.Endings.{cause_of, ended_by, ended_of, first_cause, first_of, lacks_memory}
-use Rattle.dv_work.proofs.Endings.{halts_of, one_kept}
+use Rattle.dv_work.specs.Endings.{ended_by, is_caused, lacks_memory}
+use Rattle.dv_work.specs.Workers.{Reported}
+use Rattle.dv_work.specs.declared.worker.Worked.{Worked}
+use Rattle.dv_work.proofs.Endings.{halts_of}
 use Rattle.dv_work.proofs.report.report_of.Goals as goal
 
-pub loop-worked-init : goal.loop-worked-init
-loop-worked-init g c = (
-  c.requires.reported,
-  c.in_ok-rest.ensures,
-  ([], sym (append-nil (halts_of c.args.all.items)), refl, refl),
-)
+pub enter_all-requires-clause-seats : goal.enter_all-requires-clause-seats
+enter_all-requires-clause-seats g c =
+    let R : Worked g.row.P.Denot g.row.C.Denot → Type 0
+    = λ w. Reported g.N.OfJob.job g.P.LogicalProcess.state g.P.LogicalProcess.handed g.P.LogicalProcess.valid w in
+    let here : R c.in-Some.worked
+    = All-head R c.in-Some.worked (into_iter_items c.next.new.self)
+    (All-same R _ (into_iter_items c.loop-worked.worked-iterator) (sym c.in-Some.ensures.steps.0) c.loop-worked.invariant.0) in
+    here.reports
 
 pub loop-worked-preserved : goal.loop-worked-preserved
 loop-worked-preserved g c =
-    let kept = c.loop-worked.invariant.2 in
+    let R : Worked g.row.P.Denot g.row.C.Denot → Type 0
+    = λ w. Reported g.N.OfJob.job g.P.LogicalProcess.state g.P.LogicalProcess.handed g.P.LogicalProcess.valid w in
     let w = c.in-Some.worked in (
-      c.in-Some.ensures.rest,
+      All-rest R w (into_iter_items c.next.new.self) (into_iter_items c.loop-worked.worked-iterator) c.in-Some.ensures.steps.0
+          c.loop-worked.invariant.0,
       c.enter_all.ensures,
-      (
-        w.halt ∷ kept.0,
-        one_kept c.args.all.items c.loop-worked.left.items c.last_worked.new.all.items w kept.0 kept.1 c.in-Some.ensures.items,
-        c.keep_halt.ensures.memory ∙ ap (λ (b : Bool). lacks_memory w.halt || b) kept.2,
-        c.keep_halt.ensures.cause ∙ ap (first_of (cause_of w.halt)) kept.3,
-      ),
+      c.in_ok-push.ensures.items ∙ ap (λ l. l ++ w.halt ∷ []) c.loop-worked.invariant.2
+          ∙ sym (map-append (λ (z : Worked g.row.P.Denot g.row.C.Denot). z.halt) c.loop-worked.yielded (w ∷ [])),
     )
+
+pub returns-clause-halts : goal.returns-clause-halts
+returns-clause-halts g c =
+    let gives = c.into_iter-worked-iterator.ensures.into_iter_gives in
+    let all = YieldsList-from_vec c.args.all.items gives.0 (gives.1 ∙ c.args.all.ok.0) in
+    let end = YieldsList-end all c.loop-worked.yielded c.loop-worked.worked-iterator c.loop-worked.yielded_by c.next.result c.next.new.self
+    c.in-None.is c.next.ensures.steps in
+    c.loop-worked.invariant.2 ∙ ap halts_of (sym (map-id c.loop-worked.yielded) ∙ end.0)
 
 pub returns-clause-whole : goal.returns-clause-whole
 returns-clause-whole g c =
@@ -54,19 +69,18 @@ returns-clause-ended g c =
     (c.horizon.ensures.is ∙ ap (λ (j : Job). j.horizon) (sym c.requires.job)) in
     let tells = c.all_reach-is_whole.ensures in
     let same = c.deref.ensures.value in
-    let kept = c.loop-worked.invariant.2 in
-    let none : halts_of c.args.all.items ≡ kept.0
-    = kept.1 ∙ ap (λ l. halts_of l ++ kept.0) c.in_default.ensures.none in
+    let whole = c.all_reach-is_whole.result in
+    let halts = c.loop-worked.halts.items in
     record {
-      is_whole = c.all_reach-is_whole.result;
+      is_whole = whole;
       whole = (
-        (λ whole. subst (λ (e : Time). All e c.loop-worked.rest.items) is (subst (All end) same (tells.0 whole))),
+        (λ w. subst (λ (e : Time). All e c.loop-worked.rest.items) is (subst (All end) same (tells.0 w))),
         λ all. tells.1 (subst (All end) (sym same) (subst (λ (e : Time). All e c.loop-worked.rest.items) (sym is) all)),
       );
       is = c.how_ended-ended.ensures.ended
-          ∙ ap (λ m. ended_by c.all_reach-is_whole.result m c.loop-worked.cause c.is_some.result)
-          (kept.2 ∙ ap (list_any lacks_memory) (sym none))
-          ∙ ap (λ o. ended_by c.all_reach-is_whole.result (list_any lacks_memory (halts_of c.args.all.items)) o c.is_some.result)
-          (kept.3 ∙ ap first_cause (sym none))
-          ∙ ap (λ b. ended_of c.all_reach-is_whole.result (halts_of c.args.all.items) b) c.is_some.ensures;
+          ∙ ap (λ m. ended_by whole m c.was_stopped-is_caused.result c.is_some.result)
+          (c.lacked_memory-memory.ensures ∙ ap (list_any lacks_memory) c.deref-2.ensures.value)
+          ∙ ap (λ k. ended_by whole (list_any lacks_memory halts) k c.is_some.result)
+          (c.was_stopped-is_caused.ensures ∙ ap (list_any is_caused) c.deref-3.ensures.value)
+          ∙ ap (λ b. ended_by whole (list_any lacks_memory halts) (list_any is_caused halts) b) c.is_some.ensures;
     }

@@ -1,9 +1,10 @@
 use Rattle.std.proofs.Common.{◌≡◌, ◌↔◌, ℕ, sym, subst}
-use Rattle.std.specs.Prelude.{IfOk, Some, slice_get}
+use Rattle.std.specs.Prelude.{IfOk, Some, is_some, slice_get}
 use Rattle.dv_board.specs.declared.posts.Piece.{Piece}
 use Rattle.dv_conservative.specs.World.{Job}
 use Rattle.dv_core.specs.Worlds.{end_time}
 use Rattle.dv_work.specs.Crews.{IsCrewFor}
+use Rattle.dv_work.specs.Endings.{EndsFor}
 use Rattle.dv_work.specs.declared.report.Ended.TheVariants.{Whole}
 use Rattle.dv_work.proofs.Endings.{cancelled_if_ok}
 use Rattle.dv_work.proofs.run.run_streamed.Goals as goal
@@ -20,4 +21,9 @@ returns-clause-whole g c =
     c.requires.job c.report_of.ensures.whole
 
 pub returns-clause-cancelled : goal.returns-clause-cancelled
-returns-clause-cancelled g c = cancelled_if_ok g.N.OfJob.job _ c.report_of.result c.report_of.ensures.ended
+returns-clause-cancelled g c = cancelled_if_ok g.N.OfJob.job c.report_of.result c.report_of.ensures.ended
+
+pub returns-clause-ended : goal.returns-clause-ended
+returns-clause-ended g c =
+    subst (λ (job : Job). IfOk c.report_of.result (λ r. EndsFor job r.halts.items (is_some r.stopped) r.rest.items r.ended))
+    c.requires.job c.report_of.ensures.ended

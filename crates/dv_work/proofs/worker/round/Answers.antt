@@ -14,7 +14,7 @@ returns-in-Err-clause-all g c =
     = λ s. Sits g.N.OfJob.job g.P.LogicalProcess.state g.P.LogicalProcess.handed g.P.LogicalProcess.valid c.args.floor.now.links.now s in
     let R : Seat g.row.P.Denot → Type 0
     = λ s. Reports g.N.OfJob.job g.P.LogicalProcess.state g.P.LogicalProcess.handed g.P.LogicalProcess.valid s in
-    All-set R c.loop-i.seats c.loop-i.i c.visit.new.seat c.in-Err.ensures.err
+    All-set R c.loop-i.seats c.loop-i.i c.visit.new.seat c.in-Err.ensures.sits.err
     (All-weaker S R
     (λ s sits. reports g.N.OfJob.job g.P.LogicalProcess.state g.P.LogicalProcess.handed g.P.LogicalProcess.valid c.args.floor.now.links.now
     s sits)
@@ -28,7 +28,7 @@ loop-i-preserved g c =
     let H : Seat g.row.P.Denot → Type 0 = λ s. HoldsNone s in
     let within : c.loop-i.i < length c.loop-i.seats = omega (arith, c.loop-i-test.true, c.loop-i.auto.seats, c.loop-i.auto.i-end) in
     let read = slice_get-get_or c.loop-i.seats c.loop-i.i c.index-seats-i.result within in (
-      All-set S c.loop-i.seats c.loop-i.i c.visit.new.seat c.in-Ok.ensures.ok c.loop-i.invariant.0,
+      All-set S c.loop-i.seats c.loop-i.i c.visit.new.seat c.in-Ok.ensures.sits.ok c.loop-i.invariant.0,
       λ still.
           let both = c.of_both-all.ensures.still still in
           first_more T c.loop-i.seats c.loop-i.i c.visit.new.seat within (c.loop-i.invariant.1 both.0) (c.in-Ok.ensures.told both.1),
