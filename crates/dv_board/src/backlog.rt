@@ -2,11 +2,11 @@
 
 ghost use Rattle.std.specs.Prelude.{◌≡◌, ◌<◌, ◌≤◌, IfErr, IfNone, IfOk, IfSome, OnErr, OnOk, OnSome, length, map, replicate, set};
 ghost use Rattle.std.specs.List.{All};
-ghost use Rattle.dv_time.specs.Time.{IsOfRun, end_of, rank};
-ghost use Rattle.dv_time.specs.declared.time.Time.{Time as MeantTime};
 ghost use Rattle.dv_bag.specs.Part.{before, since};
 ghost use Rattle.dv_conservative.specs.Process.{first_time};
 ghost use Rattle.dv_merge.specs.Whole.{ArePartsOf};
+ghost use Rattle.dv_time.specs.Time.{IsOfRun, end_of, rank};
+ghost use Rattle.dv_time.specs.declared.time.Time.{Time as MeantTime};
 ghost use Rattle.dv_board.specs.Answers.{IsCutAt, IsRefused};
 ghost use Rattle.dv_board.specs.Backlogs.{clock_of, clocks_with};
 ghost use Rattle.dv_board.specs.Clocks.{IsLeast, IsNoLater, later};

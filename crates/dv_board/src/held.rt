@@ -1,9 +1,9 @@
 //! What a backlog keeps of one process.
 
 ghost use Rattle.std.specs.Prelude.{◌≡◌, ◌++◌, [], ◌∷◌, true, IfOk, OnOk, OnErr};
-ghost use Rattle.dv_time.specs.Time.{is_before};
 ghost use Rattle.dv_bag.specs.Part.{before, nothing, since};
 ghost use Rattle.dv_conservative.specs.Process.{first_time};
+ghost use Rattle.dv_time.specs.Time.{is_before};
 ghost use Rattle.dv_board.specs.Posts.{IsPiece};
 ghost use Rattle.dv_board.specs.Stretches.{AreByTime, AreInTurn, ended_past, is_joined, joined_in_turn, nothing_held};
 ghost use Rattle.dv_board.specs.Stretches.{part_of, rest_of, start_past, with_piece};

@@ -3,14 +3,14 @@
 
 ghost use Rattle.std.specs.Prelude.{◌≡◌, ℕ, true, Ok, Some};
 ghost use Rattle.std.specs.List.{All};
-ghost use Rattle.dv_syntax.specs.Trees.{AtomicTree};
-ghost use Rattle.dv_syntax.specs.declared.tree.RuleSort.TheVariants.{External};
 ghost use Rattle.dv_bag.specs.Arrivals.{Arrivals};
 ghost use Rattle.dv_bag.specs.Numbers.{HoldsNumbers};
 ghost use Rattle.dv_bag.specs.declared.state.State.{State};
 ghost use Rattle.dv_bag.specs.declared.state.Effect.{Effect};
 ghost use Rattle.dv_eval.specs.Meaning.{effect_of, hold_of};
 ghost use Rattle.dv_eval.specs.Scope.{hold_ticks, phase_name, rule_body, scope_of};
+ghost use Rattle.dv_syntax.specs.Trees.{AtomicTree};
+ghost use Rattle.dv_syntax.specs.declared.tree.RuleSort.TheVariants.{External};
 ghost use Rattle.law_accepted.specs.Fitting.{fits, in_phase};
 ghost use Rattle.dv_bound.specs.Response.{IsNotBelow, external_gotos, response_of};
 

@@ -2,11 +2,11 @@
 
 ghost use Rattle.std.specs.Prelude.{◌≡◌, ◌<◌, ◌^◌, ℕ, None, Some, IfOk, OnOk, map};
 ghost use Rattle.std.specs.List.{flat_map};
+ghost use Rattle.dv_bag.specs.Responses.{ticks_of};
+ghost use Rattle.dv_eval.specs.Scope.{hold_ticks, scope_of};
 ghost use Rattle.dv_syntax.specs.Trees.{Statements, atomic_of, hold_of, rule_of, statement_before, statements_of};
 ghost use Rattle.dv_syntax.specs.Trees.{ticks_of as expression_of_ticks};
-ghost use Rattle.dv_eval.specs.Scope.{hold_ticks, scope_of};
 ghost use Rattle.law_accepted.specs.Gotos.{gotos_in};
-ghost use Rattle.dv_bag.specs.Responses.{ticks_of};
 ghost use Rattle.dv_bound.specs.Response.{external_gotos_in, hold_response, response_of, ticks_in};
 ghost use Rattle.dv_bound.specs.Short.{AreShort, IsShort};
 ghost use Rattle.dv_bound.specs.Soonest.{response_in, soonest, with_response};

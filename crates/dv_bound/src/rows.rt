@@ -1,8 +1,8 @@
 //! Worked rows: models with their responses, computed in the definitions.
 
 ghost use Rattle.std.specs.Prelude.{◌≡◌, ◌+ℤ◌, pos, None, Some};
-ghost use Rattle.dv_syntax.specs.Trees.{Done, Parens};
 ghost use Rattle.dv_eval.specs.Edges.{greatest, number};
+ghost use Rattle.dv_syntax.specs.Trees.{Done, Parens};
 ghost use Rattle.dv_bound.specs.Response.{least_number};
 ghost use Rattle.dv_bound.specs.Rows.{low_in_server, the_drift, either, for_each, goto, minus, plus, response_by, response_to};
 ghost use Rattle.dv_bound.specs.Rows.{the_load, first_in_line, jobs_waiting, least_job, line_waiting};

@@ -1,11 +1,11 @@
 //! The checks of an atomic model.
 
 ghost use Rattle.std.specs.Prelude.{◌≡◌, map, Some, None, IfOk, IsTrue, OnOk};
-ghost use Rattle.dv_syntax.specs.Trees.{atomic_of, phases_of, rule_of, ticks_of};
 ghost use Rattle.std.specs.Option.{option_copied};
 ghost use Rattle.dv_eval.specs.Scope.{hold_ticks, scope_of, start_state, state_variables_in, ticks_found};
 ghost use Rattle.dv_eval.specs.Meaning.{hold_of};
 ghost use Rattle.dv_lex.specs.declared.error.RefusalNumber.TheVariants.{E6, E10};
+ghost use Rattle.dv_syntax.specs.Trees.{atomic_of, phases_of, rule_of, ticks_of};
 ghost use Rattle.dv_check.specs.Findings.{with_refusals};
 ghost use Rattle.dv_check.specs.Holds.{NeverFaults};
 ghost use Rattle.dv_check.specs.Names.{excess, refusal_if, repeats};

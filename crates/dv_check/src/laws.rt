@@ -3,10 +3,10 @@
 
 ghost use Rattle.std.specs.Prelude.{◌≡◌, ℕ, ◌≤◌, true, false, List, Some, None, [], ◌∷◌, Contains};
 ghost use Rattle.std.specs.List.{All};
+ghost use Rattle.dv_bag.specs.declared.discipline.Change.TheVariants.{Add, Drop, Push};
 ghost use Rattle.dv_lex.specs.Order.{first_refusal, precedes};
 ghost use Rattle.dv_lex.specs.declared.error.Refusal.{Refusal};
 ghost use Rattle.dv_lex.specs.declared.error.RefusalNumber.TheVariants as number;
-ghost use Rattle.dv_bag.specs.declared.discipline.Change.TheVariants.{Add, Drop, Push};
 ghost use Rattle.dv_syntax.specs.Trees.{Assign, Binary, Call, Changes, CoupledModel, CoupledTree, Does, Done, Elapsed, FileTree, If};
 ghost use Rattle.dv_syntax.specs.Trees.{Named, Times, TruthValue};
 ghost use Rattle.dv_syntax.specs.declared.tree.BagCall.TheVariants.{Front, Size, Sum};

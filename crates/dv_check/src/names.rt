@@ -1,8 +1,8 @@
 //! The names in the lists of an atomic model.
 
 ghost use Rattle.std.specs.Prelude.{◌≡◌, map, filter_map, IfOk};
-ghost use Rattle.dv_syntax.specs.Trees.{hold_of, phases_of, rule_of};
 ghost use Rattle.dv_eval.specs.Scope.{phases_in, state_variables_in};
+ghost use Rattle.dv_syntax.specs.Trees.{hold_of, phases_of, rule_of};
 ghost use Rattle.dv_check.specs.Rules.{first_phases, held_phase, held_phases, name_of_declaration, name_of_state_variable};
 ghost use Rattle.dv_check.specs.Rules.{port_of, ports_in, ruled_phase, ruled_phases};
 

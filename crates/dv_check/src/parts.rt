@@ -2,9 +2,9 @@
 
 ghost use Rattle.std.specs.Prelude.{◌≡◌, ◌&&◌, map, IfOk};
 ghost use Rattle.std.specs.Option.{option_copied};
+ghost use Rattle.dv_lex.specs.declared.error.RefusalNumber.TheVariants.{E13};
 ghost use Rattle.dv_syntax.specs.Trees.{coupled_of};
 ghost use Rattle.dv_check.specs.Findings.{with_refusals};
-ghost use Rattle.dv_lex.specs.declared.error.RefusalNumber.TheVariants.{E13};
 ghost use Rattle.dv_check.specs.Names.{refusal_if};
 ghost use Rattle.dv_check.specs.Tables.{value_for};
 ghost use Rattle.dv_check.specs.Rules.{sort_in};

@@ -2,8 +2,8 @@
 
 ghost use Rattle.std.specs.Prelude.{◌≡◌, IfOk};
 ghost use Rattle.std.specs.Option.{option_copied};
-ghost use Rattle.dv_syntax.specs.Trees.{expression_of, ticks_of};
 ghost use Rattle.dv_eval.specs.Scope.{state_variables_in};
+ghost use Rattle.dv_syntax.specs.Trees.{expression_of, ticks_of};
 ghost use Rattle.dv_check.specs.Names.{first_of};
 ghost use Rattle.dv_check.specs.Tables.{value_for};
 ghost use Rattle.dv_check.specs.Rules.{domain_of_state_variable, is_in_range, is_start_known, is_start_known_by, names_only};

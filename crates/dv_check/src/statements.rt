@@ -1,8 +1,8 @@
 //! The statements of rules.
 
 ghost use Rattle.std.specs.Prelude.{◌≡◌, not};
-ghost use Rattle.dv_syntax.specs.Trees.{expression_of, statement_before, Statements, statements_of};
 ghost use Rattle.dv_lex.specs.declared.error.RefusalNumber.TheVariants.{E9};
+ghost use Rattle.dv_syntax.specs.Trees.{expression_of, statement_before, Statements, statements_of};
 ghost use Rattle.dv_check.specs.Findings.{with_refusals};
 ghost use Rattle.dv_check.specs.Names.{refusal_if};
 ghost use Rattle.dv_check.specs.Rules.{assignment_refusals, change_refusals, changed_refusals, command_name_refusals, is_output_rule};

@@ -7,9 +7,9 @@ ghost use Rattle.dv_bag.specs.Collections.{count_in, edited, makes_more, without
 ghost use Rattle.dv_bag.specs.Effects.{with_collection};
 ghost use Rattle.dv_bag.specs.Reading.{HasHeldAt, held_at};
 ghost use Rattle.dv_bag.specs.declared.state.Datum.TheVariants as datum;
+ghost use Rattle.dv_bag.specs.Limits.{greatest_count};
 ghost use Rattle.dv_code.specs.Machine.{first_effect};
 ghost use Rattle.dv_code.specs.Operations.{going, storing, with_sent};
-ghost use Rattle.dv_bag.specs.Limits.{greatest_count};
 
 use crate::shape::Shape;
 use dv_bag::{Change, Effect, Sent, State};

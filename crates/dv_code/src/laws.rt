@@ -5,6 +5,10 @@ ghost use Rattle.dv_bag.specs.Arrivals.{AreFew, Arrivals};
 ghost use Rattle.dv_bag.specs.Bag.{Counts};
 ghost use Rattle.dv_bag.specs.declared.state.State.{State};
 ghost use Rattle.dv_bag.specs.declared.value.ValueType.{ValueType};
+ghost use Rattle.dv_bag.specs.declared.fault.Fault.{Fault};
+ghost use Rattle.dv_bag.specs.declared.fault.RuleError.TheVariants as error;
+ghost use Rattle.dv_bag.specs.declared.state.Effect.{Effect};
+ghost use Rattle.dv_bag.specs.Limits.{greatest_count};
 ghost use Rattle.dv_code.specs.Shape.{AreSmall, Fits, Shape};
 ghost use Rattle.dv_code.specs.Machine.{Outcome, Stuck, begins, first_effect, run};
 ghost use Rattle.dv_code.specs.Operations.{going};
@@ -13,11 +17,7 @@ ghost use Rattle.dv_code.specs.declared.short.Short.TheVariants.{Goes, Nothing};
 ghost use Rattle.dv_code.specs.Runs.{Ends, GivesEffect, GivesNumber, GivesSent, IsOver};
 ghost use Rattle.dv_code.specs.Outcomes.{effect_by, number_by, outcome_of};
 ghost use Rattle.dv_code.specs.Valid.{EndsWell, IsSafe, IsValid, Program};
-ghost use Rattle.dv_bag.specs.declared.fault.Fault.{Fault};
-ghost use Rattle.dv_bag.specs.declared.fault.RuleError.TheVariants as error;
-ghost use Rattle.dv_bag.specs.declared.state.Effect.{Effect};
 ghost use Rattle.dv_code.specs.declared.instruction.Instruction.{Instruction};
-ghost use Rattle.dv_bag.specs.Limits.{greatest_count};
 
 /// A valid program is never stuck, from any state that fits and whatever has arrived.
 pub fn valid_programs_are_never_stuck()

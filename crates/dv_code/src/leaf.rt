@@ -6,10 +6,10 @@ ghost use Rattle.dv_bag.specs.Arithmetic.{number_or_empty};
 ghost use Rattle.dv_bag.specs.Bag.{least, most, total};
 ghost use Rattle.dv_bag.specs.declared.fault.Fault.{Fault as Meant};
 ghost use Rattle.dv_bag.specs.declared.value.Value.TheVariants.{Number, Truth};
+ghost use Rattle.dv_bag.specs.Limits.{greatest_count};
 ghost use Rattle.dv_code.specs.Machine.{items_of};
 ghost use Rattle.dv_code.specs.Operations.{collection_of, flag_in, front_in, held_in, leaf_value, number_in, number_of, size_in, sum_in};
 ghost use Rattle.dv_code.specs.Turns.{turns_of};
-ghost use Rattle.dv_bag.specs.Limits.{greatest_count};
 
 use crate::instruction::{Leaf, Source};
 use crate::open_loop::OpenLoop;

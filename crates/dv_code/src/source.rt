@@ -4,8 +4,8 @@ ghost use Rattle.std.specs.Prelude.{◌≡◌, ◌≢◌, ◌≤◌, [], None, S
 ghost use Rattle.std.specs.Option.{option_copied};
 ghost use Rattle.dv_bag.specs.Bag.{total};
 ghost use Rattle.dv_bag.specs.Collections.{count_in};
-ghost use Rattle.dv_code.specs.Operations.{bag_of, held_in};
 ghost use Rattle.dv_bag.specs.Limits.{greatest_count};
+ghost use Rattle.dv_code.specs.Operations.{bag_of, held_in};
 
 use crate::instruction::Source;
 use dv_bag::{Arrivals, Bag, Collection, DatumView, State};

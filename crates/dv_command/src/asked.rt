@@ -1,12 +1,12 @@
 //! From words and their parts to requests.
 
 ghost use Rattle.std.specs.Prelude.{◌≡◌, ◌≤◌, ◌∷◌, [], IfOk, map, option_map, string_bytes};
+ghost use Rattle.dv_time.specs.Limits.{greatest_limit, greatest_tick};
 ghost use Rattle.dv_command.specs.Asked.{Asks, AsksBehind, AsksCheck, AsksCode, AsksDriving, AsksHorizon, AsksMicrosteps};
 ghost use Rattle.dv_command.specs.Asked.{AsksModel, AsksRun, AsksWith, IfAnswered, IsAnswer, IsFitting, IsVersion, is_version};
 ghost use Rattle.dv_command.specs.Subcommands.{subcommand_named};
 ghost use Rattle.dv_command.specs.Steps.{said_in};
 ghost use Rattle.dv_command.specs.Words.{values};
-ghost use Rattle.dv_time.specs.Limits.{greatest_limit, greatest_tick};
 
 use crate::divided::{graph_in, partition_in, plan_in};
 use crate::given::{count_in, flag_in, owned_text_in, values};

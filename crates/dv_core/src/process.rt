@@ -5,12 +5,12 @@ ghost use Rattle.dv_bag.specs.Part.{joined};
 ghost use Rattle.dv_conservative.specs.Process.{refusal_of};
 ghost use Rattle.dv_conservative.specs.World.{Job};
 ghost use Rattle.dv_proc.specs.Packets.{meant_packet};
-ghost use Rattle.dv_core.specs.ProcessState.{IsReceived, IsSent, IsTurned, ProcessState};
 ghost use Rattle.dv_proc.specs.Midway.{meant_turned};
 ghost use Rattle.dv_proc.specs.Refusals.{meant_refusal};
 ghost use Rattle.dv_record.specs.Told.{Handed};
-ghost use Rattle.dv_written.specs.Rest.{rest_length};
 ghost use Rattle.dv_time.specs.Limits.{greatest_tick};
+ghost use Rattle.dv_written.specs.Rest.{rest_length};
+ghost use Rattle.dv_core.specs.ProcessState.{IsReceived, IsSent, IsTurned, ProcessState};
 
 use dv_proc::{Packet, Refused, Turned};
 use dv_record::Record;

@@ -2,11 +2,11 @@
 
 ghost use Rattle.std.specs.Prelude.{◌≡◌, ◌≢◌, ◌+◌, ◌^◌, ◌≤◌, ◌<◌, ℕ, ◌↔◌, IsTrue, IfOk, OnErr, OnOk, map, [], length};
 ghost use Rattle.std.specs.Prelude.{replicate, slice_get, slice_set, Some, vec_len, true, false};
-ghost use Rattle.dv_time.specs.Time.{end_of};
 ghost use Rattle.dv_bag.specs.Part.{joined};
 ghost use Rattle.dv_conservative.specs.Rounds.{IsDriven, moves_from, round};
 ghost use Rattle.dv_conservative.specs.World.{new_world};
 ghost use Rattle.dv_proc.specs.Packets.{meant_packets};
+ghost use Rattle.dv_time.specs.Time.{end_of};
 ghost use Rattle.dv_core.specs.Worlds.{AreMadeFor, AreTheTrace, EndsAs, IsCut, IsRunWithProgress, IsTrueToModel, IsWhole};
 ghost use Rattle.dv_core.specs.Worlds.{kept_by, shown, with_replies};
 ghost use Rattle.dv_core.specs.Standing.{Continues, IsStepped, Stands};

@@ -3,11 +3,11 @@
 ghost use Rattle.std.specs.Prelude.{◌≡◌, ◌≤◌, option_map, IfSome};
 ghost use Rattle.dv_bag.specs.Collections.{count_in};
 ghost use Rattle.dv_bag.specs.Reading.{HoldsFew, datum_of};
+ghost use Rattle.dv_bag.specs.Limits.{greatest_count};
 ghost use Rattle.dv_syntax.specs.Trees.{expression_of};
 ghost use Rattle.dv_eval.specs.Contexts.{collection_seen, moment_of};
 ghost use Rattle.dv_eval.specs.Meaning.{call_result, datum_of_name, is_decided, meaning, number_of, operator_result};
 ghost use Rattle.dv_eval.specs.Meaning.{prefix_result, same, truth_of, value_of_name};
-ghost use Rattle.dv_bag.specs.Limits.{greatest_count};
 
 use crate::collection::{CollectionView, collection_of_name};
 use crate::moment::Moment;

@@ -1,13 +1,13 @@
 //! Laws of the language. Each function states a law in its contract; its body does nothing.
 
 ghost use Rattle.std.specs.Prelude.{◌≡◌, true, false, pos, negsuc, [], ◌∷◌, Ok, Err};
+ghost use Rattle.dv_bag.specs.declared.discipline.Change.TheVariants.{Add, Drop, Push};
+ghost use Rattle.dv_bag.specs.declared.fault.Fault.TheVariants as fault;
+ghost use Rattle.dv_bag.specs.declared.value.Value.TheVariants as outcome;
 ghost use Rattle.dv_syntax.specs.Trees.{Binary, Call, Changes, Done, Elapsed, Prefixed, Times};
 ghost use Rattle.dv_syntax.specs.declared.tree.BagCall.TheVariants as call;
 ghost use Rattle.dv_syntax.specs.declared.tree.Prefix.TheVariants as prefix;
 ghost use Rattle.dv_syntax.specs.declared.tree.Operator.TheVariants as operator;
-ghost use Rattle.dv_bag.specs.declared.discipline.Change.TheVariants.{Add, Drop, Push};
-ghost use Rattle.dv_bag.specs.declared.fault.Fault.TheVariants as fault;
-ghost use Rattle.dv_bag.specs.declared.value.Value.TheVariants as outcome;
 ghost use Rattle.dv_eval.specs.Edges.{by_nothing, failing, faulty, greatest, holding, least, minus, number, too_great, value};
 ghost use Rattle.dv_eval.specs.Rows.{add_it, bag, effect_queued, effect_when, effect_with, elapsed_when, for_each};
 ghost use Rattle.dv_eval.specs.Rows.{for_each_request, great, least_is_one, left, nested, next_digit, ones, pop_one, push_it};

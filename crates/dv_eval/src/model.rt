@@ -2,8 +2,8 @@
 
 ghost use Rattle.std.specs.Prelude.{◌≡◌, ◌<◌, ◌^◌, IfOk, IfSome, option_map};
 ghost use Rattle.std.specs.Option.{option_copied};
-ghost use Rattle.dv_syntax.specs.Trees.{atomic_of, statements_of, ticks_of};
 ghost use Rattle.dv_bag.specs.Collections.{empty_of};
+ghost use Rattle.dv_syntax.specs.Trees.{atomic_of, statements_of, ticks_of};
 ghost use Rattle.dv_eval.specs.Scope.{hold_ticks, rule_body, rule_of, same_sort, scope_of, start_data, start_datum, start_phase};
 ghost use Rattle.dv_eval.specs.Scope.{start_state, ticks_found};
 ghost use Rattle.dv_eval.specs.Meaning.{hold_of};

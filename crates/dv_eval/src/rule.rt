@@ -1,14 +1,14 @@
 //! The effects of rules.
 
 ghost use Rattle.std.specs.Prelude.{◌≡◌, slice_get, IfOk, Ok};
-ghost use Rattle.dv_syntax.specs.Trees.{Done, expression_of, statement_before, statements_of};
 ghost use Rattle.dv_bag.specs.Bag.{values_of};
 ghost use Rattle.dv_bag.specs.Collections.{values_in};
 ghost use Rattle.dv_bag.specs.Outcome.{Gives};
 ghost use Rattle.dv_bag.specs.declared.state.Datum.TheVariants as datum;
+ghost use Rattle.dv_bag.specs.Effects.{with_datum, with_state};
+ghost use Rattle.dv_syntax.specs.Trees.{Done, expression_of, statement_before, statements_of};
 ghost use Rattle.dv_eval.specs.Steps.{repeated, with_value};
 ghost use Rattle.dv_eval.specs.Contexts.{context_of};
-ghost use Rattle.dv_bag.specs.Effects.{with_datum, with_state};
 ghost use Rattle.dv_eval.specs.Meaning.{assignment, assignment_in_range, changing, changing_to, collection_of_name, command_effect};
 ghost use Rattle.dv_eval.specs.Meaning.{effect_of, in_loop, meaning, moment_in, number_of, popping, repetition, run, sending};
 ghost use Rattle.dv_eval.specs.Meaning.{with_goto};

@@ -2,12 +2,12 @@
 
 ghost use Rattle.std.specs.Prelude.{◌≡◌, ◌+◌, ◌^◌, ◌<◌, ◌≤◌, [], fold, length, map, replicate, IfOk, OnOk};
 ghost use Rattle.std.specs.List.{All, range_with_len};
+ghost use Rattle.dv_check.specs.Limits.{greatest_names};
 ghost use Rattle.dv_syntax.specs.Trees.{file_of};
 ghost use Rattle.dv_tree.specs.Instances.{instances};
 ghost use Rattle.dv_flat.specs.Ends.{input_count, input_ports};
 ghost use Rattle.dv_flat.specs.Probes.{IsOutput, arrival_lists, departure_lists, with_arrival, with_arrivals};
 ghost use Rattle.dv_flat.specs.Probes.{with_component, with_input, with_output};
-ghost use Rattle.dv_check.specs.Limits.{greatest_names};
 
 use crate::link::ComponentPort;
 use crate::ports::port_count;

@@ -2,8 +2,8 @@
 
 ghost use Rattle.std.specs.Prelude.{◌≡◌, ◌+◌, None, IfOk};
 ghost use Rattle.std.specs.List.{All, flat_map};
-ghost use Rattle.dv_syntax.specs.Trees.{file_of};
 ghost use Rattle.dv_bag.specs.Bag.{capped};
+ghost use Rattle.dv_syntax.specs.Trees.{file_of};
 ghost use Rattle.dv_flat.specs.Limit.{link_count, link_refusal};
 ghost use Rattle.dv_flat.specs.Links.{copies_of, direct_links, entry_links, exit_links};
 ghost use Rattle.dv_flat.specs.Probes.{IsOutput, direct_from, exit_from};

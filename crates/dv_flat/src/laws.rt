@@ -2,10 +2,10 @@
 
 ghost use Rattle.std.specs.Prelude.{◌≡◌, ◌≢◌, ℕ, List, [], ◌∷◌, None, slice_index_or};
 ghost use Rattle.std.specs.List.{All};
-ghost use Rattle.dv_syntax.specs.Trees.{FileTree};
 ghost use Rattle.dv_bag.specs.Bag.{Counts, bag_at};
 ghost use Rattle.dv_bag.specs.BagLists.{AllAreBags, AreBags};
 ghost use Rattle.dv_check.specs.Refusals.{refusal_of};
+ghost use Rattle.dv_syntax.specs.Trees.{FileTree};
 ghost use Rattle.dv_tree.specs.Routing.{arrives, leaves};
 ghost use Rattle.dv_flat.specs.Carried.{arrives_by_links, carried_out, carried_to, leaves_by_links};
 ghost use Rattle.dv_flat.specs.Ends.{port_at};

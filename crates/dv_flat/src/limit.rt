@@ -3,13 +3,13 @@
 
 ghost use Rattle.std.specs.Prelude.{◌≡◌, ◌<◌, ◌≤◌, None, fold, map, option_copied, replicate, slice_index_or, sum, IfOk, IfErr, IsTrue, OnOk};
 ghost use Rattle.std.specs.List.{sum_by};
-ghost use Rattle.dv_syntax.specs.Trees.{file_of, model_of};
 ghost use Rattle.dv_bag.specs.Bag.{capped};
+ghost use Rattle.dv_check.specs.Limits.{greatest_depth};
+ghost use Rattle.dv_syntax.specs.Trees.{file_of, model_of};
 ghost use Rattle.dv_flat.specs.Limit.{IsLinkAnswer, greatest_links, link_count, link_refusal};
 ghost use Rattle.dv_flat.specs.Ways.{all_ways, at_port, component_ways, coupled_ways, inside_ways, input_ways, joined_ways};
 ghost use Rattle.dv_flat.specs.Ways.{more_at, more_out, no_ways, output_ways, own_inputs, part_ways, ways_below, ways_by};
 ghost use Rattle.dv_flat.specs.Ways.{ways_from, ways_over, with_output};
-ghost use Rattle.dv_check.specs.Limits.{greatest_depth};
 
 use crate::GREATEST_LINKS;
 use dv_check::GREATEST_DEPTH;

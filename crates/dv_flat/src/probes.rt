@@ -4,10 +4,10 @@
 
 ghost use Rattle.std.specs.Prelude.{◌≡◌, ◌+◌, ◌^◌, ◌<◌, ◌≤◌, length, IfOk};
 ghost use Rattle.std.specs.List.{All};
+ghost use Rattle.dv_check.specs.Limits.{greatest_names};
 ghost use Rattle.dv_syntax.specs.Trees.{file_of};
 ghost use Rattle.dv_tree.specs.Instances.{instances};
 ghost use Rattle.dv_flat.specs.Probes.{IsOutput, arrived_probes, left_probes, probes_from, sent_probes, silence};
-ghost use Rattle.dv_check.specs.Limits.{greatest_names};
 
 use crate::link::ComponentPort;
 use dv_bag::{Bags, Sent};

@@ -2,9 +2,9 @@
 
 ghost use Rattle.std.specs.Prelude.{◌≡◌, ℕ, map, option_map, IfOk};
 ghost use Rattle.std.specs.Option.{option_copied};
+ghost use Rattle.dv_eval.specs.Scope.{hold_ticks, rule_of, same_sort, ticks_found};
 ghost use Rattle.dv_syntax.specs.Trees.{atomic_of, hold_of, rule_of as tree_of, statements_of};
 ghost use Rattle.dv_syntax.specs.declared.tree.RuleSort.{RuleSort as DeclaredSort};
-ghost use Rattle.dv_eval.specs.Scope.{hold_ticks, rule_of, same_sort, ticks_found};
 ghost use Rattle.dv_gen.specs.Directories.{rule_found, rule_under, ticks_found_in, ticks_under};
 
 use dv_check::Directory;

@@ -3,11 +3,11 @@
 ghost use Rattle.std.specs.Prelude.{◌≡◌, ◌≤◌, List, length, IfOk, OnOk};
 ghost use Rattle.dv_code.specs.Known.{leaf_type, unary_type};
 ghost use Rattle.dv_code.specs.declared.instruction.Instruction.{Instruction};
+ghost use Rattle.dv_code.specs.Limits.{deepest_loops};
 ghost use Rattle.dv_syntax.specs.Trees.{expression_of};
 ghost use Rattle.dv_gen.specs.Emission.{junction, loops_of, unary_of, with_expression};
 ghost use Rattle.dv_gen.specs.Resolution.{call_leaf, equal_of, front_of, infix_of, resolved, unequal_of};
 ghost use Rattle.dv_gen.specs.Resolved.{Expression, Prefix as Prefixed, Read, type_of};
-ghost use Rattle.dv_code.specs.Limits.{deepest_loops};
 
 use crate::draft::Draft;
 use crate::loops::Loops;

@@ -2,9 +2,9 @@
 
 ghost use Rattle.std.specs.Prelude.{◌≡◌, map, option_map, IfOk};
 ghost use Rattle.dv_code.specs.Shape.{AreSmall};
+ghost use Rattle.dv_eval.specs.Scope.{scope_of};
 ghost use Rattle.dv_syntax.specs.Trees.{atomic_of};
 ghost use Rattle.dv_syntax.specs.declared.tree.RuleSort.TheVariants.{Output, Internal, External, Confluent};
-ghost use Rattle.dv_eval.specs.Scope.{scope_of};
 ghost use Rattle.dv_gen.specs.Directories.{rule_found, ticks_found_in};
 ghost use Rattle.dv_gen.specs.Emission.{HasFewNames, hold_code, rule_code};
 ghost use Rattle.dv_gen.specs.Generators.{IsGeneratorOf, IsReady, code_of_phase, code_of_rule};

@@ -1,9 +1,9 @@
 //! The loops around a statement.
 
 ghost use Rattle.std.specs.Prelude.{◌≡◌, ◌≤◌, length};
+ghost use Rattle.dv_code.specs.Limits.{deepest_loops};
 ghost use Rattle.dv_gen.specs.Emission.{loops_of};
 ghost use Rattle.dv_gen.specs.Resolution.{loop_of};
-ghost use Rattle.dv_code.specs.Limits.{deepest_loops};
 
 /// The variables of the loops around a statement, the innermost first.
 #[derive(Clone, Copy)]

@@ -1,11 +1,11 @@
 //! The indices of the names of an atomic model.
 
 ghost use Rattle.std.specs.Prelude.{◌≡◌, ◌<◌, ◌≤◌, ◌^◌, length, IfSome};
+ghost use Rattle.dv_code.specs.Limits.{deepest_loops};
 ghost use Rattle.dv_eval.specs.Scope.{names_of, index_of};
 ghost use Rattle.dv_gen.specs.Emission.{HasFewNames, loops_of};
 ghost use Rattle.dv_gen.specs.Resolution.{assignment_at, assignment_in, deed_of, discipline_in, domain_at, leaf_at, leaf_by};
 ghost use Rattle.dv_gen.specs.Resolution.{leaf_in, leaf_of, index_or_first, slot_index, source_of};
-ghost use Rattle.dv_code.specs.Limits.{deepest_loops};
 
 use crate::loops::Loops;
 use dv_bag::Discipline;

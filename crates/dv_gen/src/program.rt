@@ -1,8 +1,8 @@
 //! The programs of rules and holds.
 
 ghost use Rattle.std.specs.Prelude.{◌≡◌, IfOk};
-ghost use Rattle.dv_syntax.specs.Trees.{expression_of, statements_of};
 ghost use Rattle.dv_code.specs.Shape.{AreSmall};
+ghost use Rattle.dv_syntax.specs.Trees.{expression_of, statements_of};
 ghost use Rattle.dv_gen.specs.Emission.{IsHoldTicks, IsRuleBody, hold_code, rule_code};
 ghost use Rattle.dv_gen.specs.Resolution.{program_sort, tables_of};
 

@@ -1,12 +1,12 @@
 //! The code of statements.
 
 ghost use Rattle.std.specs.Prelude.{◌≡◌, ◌+◌, ◌<◌, ◌≤◌, length, IfOk, OnOk};
+ghost use Rattle.dv_code.specs.Limits.{deepest_loops};
 ghost use Rattle.dv_syntax.specs.Grammar.{loop_depth};
 ghost use Rattle.dv_syntax.specs.Trees.{Done, Statements as NamedStatements, expression_of, statement_before, statements_of};
 ghost use Rattle.dv_gen.specs.Emission.{loops_of, with_branch, with_statements};
 ghost use Rattle.dv_gen.specs.Resolution.{all_resolved, resolved};
 ghost use Rattle.dv_gen.specs.Resolved.{Act, For, If as Choice, Statements, When};
-ghost use Rattle.dv_code.specs.Limits.{deepest_loops};
 
 use crate::draft::Draft;
 use crate::expression::emit_expression;

@@ -6,15 +6,15 @@ ghost use Rattle.std.specs.Fmt.{decimal, signed_decimal};
 ghost use Rattle.dv_bag.specs.Bag.{is_number};
 ghost use Rattle.dv_bag.specs.Inputs.{IsByTime, start_of};
 ghost use Rattle.dv_bag.specs.declared.inputs.Input.{Input};
+ghost use Rattle.dv_time.specs.Limits.{greatest_limit, greatest_tick};
+ghost use Rattle.dv_time.specs.Time.{IsOfRun, time_text};
+ghost use Rattle.dv_time.specs.declared.time.Time.{Time};
 ghost use Rattle.dv_inputs.specs.Lines.{fields_of, lines_of, without_return};
 ghost use Rattle.dv_inputs.specs.Numbers.{tick_in, time_in, value_in};
 ghost use Rattle.dv_inputs.specs.Reading.{reading_of};
 ghost use Rattle.dv_inputs.specs.Rows.{feed, input, input_at, refusal, return_feed, two_lines, x_and_y};
 ghost use Rattle.dv_inputs.specs.Spelled.{CanBeSaid, EndsField, HasNoFeed, IsBlank, IsField, text_of};
 ghost use Rattle.dv_inputs.specs.declared.error.InputRefusalNumber.TheVariants.{I1, I2, I3, I4, I5};
-ghost use Rattle.dv_time.specs.Limits.{greatest_limit, greatest_tick};
-ghost use Rattle.dv_time.specs.Time.{IsOfRun, time_text};
-ghost use Rattle.dv_time.specs.declared.time.Time.{Time};
 
 /// Each input of a text is at one of the ports.
 pub fn inputs_are_at_ports()

@@ -1,8 +1,8 @@
 //! Whether a trace holds a fault.
 
 ghost use Rattle.std.specs.Prelude.{◌≡◌, if◌then◌else◌};
-ghost use Rattle.dv_job.specs.Ending.{ending_of};
 ghost use Rattle.dv_written.specs.Faults.{has_fault, is_fault};
+ghost use Rattle.dv_job.specs.Ending.{ending_of};
 ghost use Rattle.dv_job.specs.declared.ended.JobEnded.TheVariants.{Faulted, Whole};
 
 use crate::ended::JobEnded;

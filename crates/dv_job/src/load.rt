@@ -4,12 +4,12 @@
 ghost use Rattle.std.specs.Prelude.{◌≡◌, None, IfOk, IfErr, MatchResult, Ok, Err};
 ghost use Rattle.dv_check.specs.Refusals.{refusal_of};
 ghost use Rattle.dv_flat.specs.Links.{paths_of};
+ghost use Rattle.dv_inputs.specs.Reading.{reading_of};
 ghost use Rattle.dv_partition.specs.Answers.{IsErrorOf, partition_answer};
 ghost use Rattle.dv_syntax.specs.Trees.{file_of};
 ghost use Rattle.dv_job.specs.Errors.{job_error_of_load};
 ghost use Rattle.dv_job.specs.Ending.{AnswersWith};
 ghost use Rattle.dv_job.specs.Job.{IsCheckedFileOf, IsModelOf};
-ghost use Rattle.dv_inputs.specs.Reading.{reading_of};
 ghost use Rattle.dv_job.specs.Loading.{IsUnloaded, tree_inputs};
 
 use crate::ended::JobError;

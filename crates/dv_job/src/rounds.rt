@@ -2,8 +2,8 @@
 
 ghost use Rattle.std.specs.Prelude.{◌≡◌, ◌≤◌, ◌^◌};
 ghost use Rattle.dv_time.specs.Time.{end_of};
-ghost use Rattle.dv_job.specs.Running.{granted};
 ghost use Rattle.dv_time.specs.Limits.{greatest_limit, greatest_tick};
+ghost use Rattle.dv_job.specs.Running.{granted};
 
 use crate::options::{Driver, Options};
 

@@ -3,8 +3,8 @@
 ghost use Rattle.std.specs.Prelude.{◌≡◌, IfOk, IfErr, None};
 ghost use Rattle.dv_check.specs.Refusals.{AreOfOneText, refusal_of};
 ghost use Rattle.dv_run.specs.Texts.{AreLinksOf, IsReady};
-ghost use Rattle.law_sound.specs.Jobs.{AllInputNumbers};
 ghost use Rattle.dv_syntax.specs.Trees.{file_of};
+ghost use Rattle.law_sound.specs.Jobs.{AllInputNumbers};
 ghost use Rattle.dv_job.specs.Job.{IsModelOf};
 ghost use Rattle.dv_job.specs.Loading.{parts_of};
 ghost use Rattle.dv_job.specs.Running.{IsPlanned};

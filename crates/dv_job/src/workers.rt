@@ -1,10 +1,10 @@
 //! Runs a model in processes, by workers on threads.
 
 ghost use Rattle.std.specs.Prelude.{◌≡◌, ◌≢◌, ◌↔◌, IfOk, IfErr, IsSome};
+ghost use Rattle.dv_stream.specs.declared.ran.Why.TheVariants.{Stopped};
 ghost use Rattle.dv_job.specs.Halts.{IsCutAs, cause_of};
 ghost use Rattle.dv_job.specs.Running.{EndsByWorkers, LeftByRun};
 ghost use Rattle.dv_job.specs.declared.ended.JobEnded.TheVariants.{Partial};
-ghost use Rattle.dv_stream.specs.declared.ran.Why.TheVariants.{Stopped};
 
 use crate::ended::{EndedByWorkers, JobEnded, JobError};
 use crate::load::{accept, load};

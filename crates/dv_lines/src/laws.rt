@@ -2,17 +2,17 @@
 
 ghost use Rattle.std.specs.Prelude.{◌≡◌, ℕ, true, false, [], ◌∷◌, ◌++◌, List, map};
 ghost use Rattle.std.specs.List.{All};
-ghost use Rattle.dv_time.specs.declared.time.Time.{Time};
-ghost use Rattle.dv_time.specs.Time.{is_before, time_of};
 ghost use Rattle.dv_bag.specs.Part.{IsByTime, PartOf};
 ghost use Rattle.dv_bag.specs.declared.entry.Entry.{Entry};
 ghost use Rattle.dv_bag.specs.declared.entry.Outer.{Outer};
-ghost use Rattle.dv_devs.specs.Network.{outer_from};
-ghost use Rattle.dv_tree.specs.Paths.{name_at};
 ghost use Rattle.dv_bag.specs.Bag.{Counts};
-ghost use Rattle.dv_text.specs.Texts.{ComponentNames, entry_text, names_at, outers_text, part_text, port_text};
-ghost use Rattle.dv_lines.specs.Tables.{decorated, with_ends, words_at};
+ghost use Rattle.dv_devs.specs.Network.{outer_from};
 ghost use Rattle.dv_record.specs.Told.{lines_from};
+ghost use Rattle.dv_text.specs.Texts.{ComponentNames, entry_text, names_at, outers_text, part_text, port_text};
+ghost use Rattle.dv_time.specs.declared.time.Time.{Time};
+ghost use Rattle.dv_time.specs.Time.{is_before, time_of};
+ghost use Rattle.dv_tree.specs.Paths.{name_at};
+ghost use Rattle.dv_lines.specs.Tables.{decorated, with_ends, words_at};
 ghost use Rattle.dv_lines.specs.Words.{line_words, port_words};
 
 /// One more entry adds its line to the text of a part, if nothing left the model at the time of the

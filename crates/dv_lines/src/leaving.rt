@@ -2,9 +2,9 @@
 
 ghost use Rattle.std.specs.Prelude.{◌≡◌, ◌++◌, ◌∷◌, [], ℕ, List, map, OnOk, OnErr};
 ghost use Rattle.std.specs.List.{flat_map};
+ghost use Rattle.dv_record.specs.Told.{lines_from};
 ghost use Rattle.dv_text.specs.Texts.{outers_text};
 ghost use Rattle.dv_lines.specs.Tables.{Extends, ports_found, with_ends};
-ghost use Rattle.dv_record.specs.Told.{lines_from};
 ghost use Rattle.dv_lines.specs.Words.{held_words, leaving_words};
 
 use crate::lines::Lines;

@@ -1,8 +1,8 @@
 //! The lines of a trace, as texts that are put into a room.
 
 ghost use Rattle.std.specs.Prelude.{◌≡◌, ◌≤◌, ◌++◌, ◌∷◌, [], length, IfSome};
-ghost use Rattle.dv_time.specs.Time.{time_text};
 ghost use Rattle.dv_bag.specs.Words.{kind_word};
+ghost use Rattle.dv_time.specs.Time.{time_text};
 ghost use Rattle.dv_lines.specs.Rooms.{IsPut};
 ghost use Rattle.dv_lines.specs.Words.{phase_at, sent_words, words_found};
 

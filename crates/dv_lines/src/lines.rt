@@ -1,8 +1,8 @@
 //! The lines of a trace, one after the other.
 
 ghost use Rattle.std.specs.Prelude.{◌≡◌, ◌++◌, ◌∷◌, [], codes, length, take, OnOk, OnErr};
-ghost use Rattle.dv_time.specs.Time.{time_text};
 ghost use Rattle.dv_bag.specs.declared.entry.What.TheVariants as what;
+ghost use Rattle.dv_time.specs.Time.{time_text};
 ghost use Rattle.dv_lines.specs.Words.{line_words, port_words, word_text, words_found};
 
 use crate::line::{ComponentWords, FaultLine, OutFront, OutPort, Ready, TransitionLine};

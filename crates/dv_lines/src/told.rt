@@ -2,9 +2,9 @@
 
 ghost use Rattle.std.specs.Prelude.{◌≡◌, ◌++◌, List, map, OnOk, OnErr};
 ghost use Rattle.dv_bag.specs.declared.entry.What.TheVariants as what;
+ghost use Rattle.dv_record.specs.Told.{entry};
 ghost use Rattle.dv_text.specs.Texts.{ComponentNames, entry_text, names_at};
 ghost use Rattle.dv_lines.specs.Tables.{decorated, rows_found};
-ghost use Rattle.dv_record.specs.Told.{entry};
 
 use crate::laws::words_say_the_names;
 use crate::lines::Lines;

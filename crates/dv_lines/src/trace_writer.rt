@@ -4,15 +4,15 @@ ghost use Rattle.std.specs.Prelude.{◌≡◌, ◌++◌, ◌-◌, ◌≤◌, len
 ghost use Rattle.std.specs.Io.KnownBytes.{Appends};
 ghost use Rattle.std.specs.List.{flat_map};
 ghost use Rattle.std.specs.Ordering.{is_eq};
-ghost use Rattle.dv_time.specs.Time.{time_cmp};
 ghost use Rattle.dv_bag.specs.Part.{IsByTime};
+ghost use Rattle.dv_bag.specs.declared.entry.Entry.{Entry as MeantEntry};
 ghost use Rattle.dv_text.specs.Merging.{first_text, group_text, groups_before, groups_from, groups_of, other_groups, trace_text};
 ghost use Rattle.dv_text.specs.Names.{tree_names, tree_ports};
 ghost use Rattle.dv_text.specs.Texts.{ending_text, part_text};
-ghost use Rattle.dv_bag.specs.declared.entry.Entry.{Entry as MeantEntry};
-ghost use Rattle.dv_lines.specs.Entries.{line_of};
 ghost use Rattle.dv_text.specs.Writing.{AppendsBeginning, StopsShort, TakesFront};
 ghost use Rattle.dv_text.specs.declared.writing.Ending.TheVariants.{Whole};
+ghost use Rattle.dv_time.specs.Time.{time_cmp};
+ghost use Rattle.dv_lines.specs.Entries.{line_of};
 
 use crate::lines::Lines;
 use crate::tree_words::TreeWords;

@@ -1,10 +1,10 @@
 //! The words of a tree, and the lines of entries by them.
 
 ghost use Rattle.std.specs.Prelude.{◌≡◌, ◌++◌, IfOk, OnErr, OnOk};
-ghost use Rattle.dv_tree.specs.Paths.{name_at};
+ghost use Rattle.dv_bag.specs.declared.entry.Entry.{Entry as MeantEntry};
 ghost use Rattle.dv_text.specs.Names.{tree_names, tree_ports};
 ghost use Rattle.dv_text.specs.Texts.{entry_text, names_at, port_text};
-ghost use Rattle.dv_bag.specs.declared.entry.Entry.{Entry as MeantEntry};
+ghost use Rattle.dv_tree.specs.Paths.{name_at};
 ghost use Rattle.dv_lines.specs.Entries.{line_of};
 
 use crate::laws::words_say_the_names;

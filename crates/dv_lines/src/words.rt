@@ -2,10 +2,10 @@
 
 ghost use Rattle.std.specs.Prelude.{◌≡◌, ◌<◌, [], ◌∷◌, length, map, IfOk, OnOk};
 ghost use Rattle.dv_syntax.specs.Trees.{file_of};
-ghost use Rattle.dv_tree.specs.Instances.{instances};
-ghost use Rattle.dv_tree.specs.Paths.{texts_of};
 ghost use Rattle.dv_text.specs.Names.{tree_names, tree_ports};
 ghost use Rattle.dv_text.specs.Texts.{names_at};
+ghost use Rattle.dv_tree.specs.Instances.{instances};
+ghost use Rattle.dv_tree.specs.Paths.{texts_of};
 ghost use Rattle.dv_lines.specs.Tables.{AreWords, Extends, IsRow, IsWord, decorated, ports_found, rows_found, with_ends, words_at};
 ghost use Rattle.dv_lines.specs.Words.{port_at, word_text, words_found};
 

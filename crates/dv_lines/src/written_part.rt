@@ -2,8 +2,8 @@
 
 ghost use Rattle.std.specs.Prelude.{◌≡◌, ◌++◌, [], ◌∷◌, IfOk, OnOk};
 ghost use Rattle.dv_bag.specs.declared.entry.Entry.{Entry as MeantEntry};
-ghost use Rattle.dv_lines.specs.Entries.{line_of};
 ghost use Rattle.dv_text.specs.Names.{tree_names};
+ghost use Rattle.dv_lines.specs.Entries.{line_of};
 
 use crate::lines::Lines;
 use crate::tree_words::TreeWords;

@@ -1,9 +1,9 @@
 //! The lines of a listing, appended to the text so far.
 
 ghost use Rattle.std.specs.Prelude.{◌≡◌, ◌++◌, length, OnOk, string_bytes};
-ghost use Rattle.dv_syntax.specs.Trees.{atomic_of};
 ghost use Rattle.dv_eval.specs.Scope.{scope_of};
 ghost use Rattle.dv_gen.specs.ModelCode.{IsCompilable};
+ghost use Rattle.dv_syntax.specs.Trees.{atomic_of};
 ghost use Rattle.dv_listing.specs.Listing.{confluent_text, domain_word, hold_text, model_text, names_text, phase_text};
 ghost use Rattle.dv_listing.specs.Listing.{phases_text, program_text, scope_text, slots_text};
 ghost use Rattle.dv_listing.specs.Placing.{gap};

@@ -3,8 +3,8 @@
 ghost use Rattle.std.specs.Prelude.{OnErr, OnOk};
 ghost use Rattle.std.specs.Io.KnownBytes.{Appends};
 ghost use Rattle.std.specs.List.{All};
-ghost use Rattle.dv_syntax.specs.Trees.{ModelTree, file_of};
 ghost use Rattle.dv_gen.specs.ModelCode.{IsCompilableModel};
+ghost use Rattle.dv_syntax.specs.Trees.{ModelTree, file_of};
 ghost use Rattle.dv_text.specs.Writing.{StopsShort};
 ghost use Rattle.dv_listing.specs.Listing.{listing_text};
 

@@ -7,13 +7,13 @@ ghost use Rattle.dv_bag.specs.declared.state.State.{State};
 ghost use Rattle.dv_conservative.specs.Process.{first_time};
 ghost use Rattle.dv_conservative.specs.Sound.{IsSoundShare};
 ghost use Rattle.dv_devs.specs.NextTimes.{IsFrom, least_next};
-ghost use Rattle.dv_local.specs.Shares.{IsShare, numbers_of_ways, share_by};
-ghost use Rattle.dv_local.specs.States.{settled_by, view_by};
 ghost use Rattle.dv_proc.specs.Arriving.{AreApart, received_by};
 ghost use Rattle.dv_proc.specs.Leaving.{promised_by, standing_by};
 ghost use Rattle.dv_proc.specs.Standing.{IsProcess};
 ghost use Rattle.dv_react.specs.Components.{components_of};
 ghost use Rattle.dv_share.specs.Share.{starts_of};
+ghost use Rattle.dv_local.specs.Shares.{IsShare, numbers_of_ways, share_by};
+ghost use Rattle.dv_local.specs.States.{settled_by, view_by};
 
 use crate::local_run::LocalRun;
 use crate::share::{Share, Way};

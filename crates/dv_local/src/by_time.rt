@@ -1,10 +1,10 @@
 //! Arrivals in a map by time.
 
 ghost use Rattle.std.specs.Prelude.{◌≡◌, ◌<◌, ◌≤◌, ◌++◌, ◌-◌, List, length, map, take, if◌then◌else◌, OnOk, OnErr};
-ghost use Rattle.dv_time.specs.declared.time.Time.{Time as MeantTime};
-ghost use Rattle.dv_share.specs.declared.link.Delivery.{Delivery as MeantDelivery};
-ghost use Rattle.dv_local.specs.Arrivals.{AllFilled, AreAt, BringOnlyAt, coming_at, delivery_in, items_at};
 ghost use Rattle.dv_agenda.specs.Waits.{same_time};
+ghost use Rattle.dv_share.specs.declared.link.Delivery.{Delivery as MeantDelivery};
+ghost use Rattle.dv_time.specs.declared.time.Time.{Time as MeantTime};
+ghost use Rattle.dv_local.specs.Arrivals.{AllFilled, AreAt, BringOnlyAt, coming_at, delivery_in, items_at};
 
 use crate::events::delivery_in;
 use dv_proc::Event;

@@ -2,12 +2,12 @@
 
 ghost use Rattle.std.specs.Prelude.{◌≡◌, ◌<◌, ◌+◌, ◌++◌, ◌∷◌, [], List, Some, OnErr, OnOk, length, slice_get, slice_set};
 ghost use Rattle.dv_bag.specs.Bag.{Counts};
+ghost use Rattle.dv_devs.specs.Network.{entry_of};
+ghost use Rattle.dv_proc.specs.Accesses.{IsCounted};
 ghost use Rattle.dv_react.specs.Components.{rank_of};
 ghost use Rattle.dv_react.specs.Outcomes.{sent_of};
 ghost use Rattle.dv_react.specs.declared.running.Running.{Running as RunningOfCode};
-ghost use Rattle.dv_devs.specs.Network.{entry_of};
 ghost use Rattle.dv_record.specs.Told.{IsOpenAt};
-ghost use Rattle.dv_proc.specs.Accesses.{IsCounted};
 ghost use Rattle.dv_share.specs.Indices.{AreRising, IsNext, indices_of};
 ghost use Rattle.dv_share.specs.Rows.{number_of};
 ghost use Rattle.dv_share.specs.Share.{AreComponents, AreEmitted, AreTables, StandByIndex, given_at};

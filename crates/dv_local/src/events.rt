@@ -3,9 +3,9 @@
 ghost use Rattle.std.specs.Prelude.{◌≡◌, ◌++◌, IfOk, filter, map};
 ghost use Rattle.std.specs.List.{take_while};
 ghost use Rattle.dv_bag.specs.Inputs.{is_at};
+ghost use Rattle.dv_conservative.specs.Events.{event_of};
 ghost use Rattle.dv_proc.specs.Packets.{meant_events};
 ghost use Rattle.dv_share.specs.Links.{deliveries_of};
-ghost use Rattle.dv_conservative.specs.Events.{event_of};
 ghost use Rattle.dv_local.specs.Arrivals.{brings, delivery_in, entered_by};
 
 use dv_bag::Input;

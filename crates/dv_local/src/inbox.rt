@@ -2,10 +2,10 @@
 
 ghost use Rattle.std.specs.Prelude.{◌≡◌, ◌++◌, ◌<◌, [], List, length, true, if◌then◌else◌, OnOk, OnErr, MatchOption, IfSome, IsTrue, false};
 ghost use Rattle.std.specs.FinMap as finite;
+ghost use Rattle.dv_agenda.specs.Waits.{same_time};
 ghost use Rattle.dv_time.specs.Time.{is_before};
 ghost use Rattle.dv_time.specs.declared.time.Time.{Time};
 ghost use Rattle.dv_local.specs.Arrivals.{arrivals_at, coming_at};
-ghost use Rattle.dv_agenda.specs.Waits.{same_time};
 
 use crate::by_time::{ByTime, add_run, first_run, take_all_back};
 use dv_proc::Event;

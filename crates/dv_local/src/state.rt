@@ -1,20 +1,20 @@
 //! The components of a process with all that changes in a run.
 
 ghost use Rattle.std.specs.Prelude.{◌≡◌, ◌++◌, ◌<◌, ◌≤◌, ◌^◌, ℕ, List, [], IfOk, length, map, None, OnErr, OnOk, Some, slice_get, true};
-ghost use Rattle.dv_time.specs.Time.{IsOfRun, rank};
-ghost use Rattle.dv_devs.specs.Cuts.{IsAllBefore};
-ghost use Rattle.dv_devs.specs.NextTimes.{least_next};
+ghost use Rattle.dv_bag.specs.Responses.{ticks_of};
+ghost use Rattle.dv_bag.specs.Part.{joined, nothing};
+ghost use Rattle.dv_bag.specs.Bag.{Counts};
 ghost use Rattle.dv_conservative.specs.Events.{event_of};
 ghost use Rattle.dv_conservative.specs.Process.{Outgoing, end_rank, is_port_of};
-ghost use Rattle.dv_bag.specs.Responses.{ticks_of};
+ghost use Rattle.dv_devs.specs.Cuts.{IsAllBefore};
+ghost use Rattle.dv_devs.specs.NextTimes.{least_next};
 ghost use Rattle.dv_proc.specs.Foreseeing.{IsOfHold, IsOfRunIf, rank_if};
 ghost use Rattle.dv_proc.specs.Accesses.{CountsInstant, IsAfterEmission};
 ghost use Rattle.dv_proc.specs.Local.{IsAfterEvents, IsAfterInstant, IsFirstInput, are_for_ports, carried_away, sent_at};
 ghost use Rattle.dv_proc.specs.Packets.{meant_events};
-ghost use Rattle.dv_bag.specs.Part.{joined, nothing};
 ghost use Rattle.dv_react.specs.Components.{components_of};
-ghost use Rattle.dv_bag.specs.Bag.{Counts};
 ghost use Rattle.dv_share.specs.Share.{AreComponents, AreEmitted};
+ghost use Rattle.dv_time.specs.Time.{IsOfRun, rank};
 ghost use Rattle.dv_written.specs.Rest.{rest_length};
 ghost use Rattle.dv_local.specs.Shares.{IsShare, share_by};
 ghost use Rattle.dv_local.specs.States.{IsAtRest, IsKept, imminent_of, sent_of, settled_by, view_by};

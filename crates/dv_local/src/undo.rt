@@ -1,8 +1,8 @@
 //! How changes are taken back.
 
 ghost use Rattle.std.specs.Prelude.{◌≡◌, ◌<◌, ◌≤◌, ◌+◌, ◌-◌, ◌^◌, [], IfOk, length, slice_set};
-ghost use Rattle.dv_local.specs.Arrivals.{arrivals_at};
 ghost use Rattle.dv_time.specs.declared.time.Time.{Time as TimeOfCode};
+ghost use Rattle.dv_local.specs.Arrivals.{arrivals_at};
 ghost use Rattle.dv_local.specs.Undoing.{AreWithin, arrivals_but, time_of_wait, undone, waits_of};
 
 use crate::components::Components;

@@ -1,10 +1,10 @@
 //! When events and inputs arrive.
 
 ghost use Rattle.std.specs.Prelude.{◌≡◌, ◌<◌, ◌≤◌, ℕ, [], IfOk, IfSome, MatchOption, false, length, true};
+ghost use Rattle.dv_bag.specs.Inputs.{IsByTime, inputs_at, inputs_before, next_from, time_at};
 ghost use Rattle.dv_time.specs.Limits.{greatest_limit};
 ghost use Rattle.dv_time.specs.Time.{IsOfRun, is_before, rank};
 ghost use Rattle.dv_time.specs.declared.time.Time.{Time as TimeOfCode};
-ghost use Rattle.dv_bag.specs.Inputs.{IsByTime, inputs_at, inputs_before, next_from, time_at};
 ghost use Rattle.dv_local.specs.Arrivals.{arrivals_at};
 ghost use Rattle.dv_local.specs.Shares.{AreOfRun};
 ghost use Rattle.dv_local.specs.Undoing.{arrivals_but, is_taken};

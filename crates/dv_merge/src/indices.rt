@@ -2,9 +2,9 @@
 
 ghost use Rattle.std.specs.Prelude.{◌≡◌, false, not, filter};
 ghost use Rattle.std.specs.List.{AllPairs};
-ghost use Rattle.dv_time.specs.Time.{is_before};
 ghost use Rattle.dv_bag.specs.declared.entry.Entry.{Entry};
 ghost use Rattle.dv_bag.specs.declared.entry.Outer.{Outer};
+ghost use Rattle.dv_time.specs.Time.{is_before};
 ghost use Rattle.dv_merge.specs.Cuts.{IsCut};
 
 use dv_bag::Outer;

@@ -3,8 +3,8 @@
 ghost use Rattle.std.specs.Prelude.{◌≡◌, ◌+◌, ◌<◌, ◌≤◌, ◌++◌, [], length, map, None, IfOk};
 ghost use Rattle.std.specs.List.{All};
 ghost use Rattle.std.specs.Option.{option_to_list};
-ghost use Rattle.dv_devs.specs.Outside.{line_cmp, union_of_lines};
 ghost use Rattle.dv_conservative.specs.True.{united};
+ghost use Rattle.dv_devs.specs.Outside.{line_cmp, union_of_lines};
 ghost use Rattle.dv_merge.specs.Lines.{AreBoth, AreLines, list_at, merged_lines};
 
 use dv_bag::Outer;

@@ -1,9 +1,9 @@
 //! Parts with borrowed entries.
 
 ghost use Rattle.std.specs.Prelude.{◌≡◌, ◌≤◌, ◌<◌, ◌++◌, Some, filter, length, not, slice_get, take, IfOk, OnOk};
-ghost use Rattle.dv_time.specs.Time.{is_before};
 ghost use Rattle.dv_bag.specs.Part.{IsByTime, before, joined, nothing, since};
 ghost use Rattle.dv_bag.specs.declared.entry.Entry.{Entry};
+ghost use Rattle.dv_time.specs.Time.{is_before};
 
 use crate::indices::{entries_before, lines_between};
 use dv_bag::Outer;

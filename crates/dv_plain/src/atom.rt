@@ -2,13 +2,13 @@
 
 ghost use Rattle.std.specs.Prelude.{◌≡◌, ◌<◌, ◌^◌, length, map, option_map, slice_get, IfOk, IfSome, Some};
 ghost use Rattle.std.specs.Option.{option_copied};
-ghost use Rattle.dv_syntax.specs.Trees.{atomic_of, file_of, statements_of};
-ghost use Rattle.dv_syntax.specs.declared.tree.RuleSort.TheVariants as sort;
 ghost use Rattle.dv_bag.specs.Outcome.{Gives};
 ghost use Rattle.dv_eval.specs.Scope.{phase_name, rule_of, scope_of};
+ghost use Rattle.dv_react.specs.Given.{GivesAs, change_to};
+ghost use Rattle.dv_syntax.specs.Trees.{atomic_of, file_of, statements_of};
+ghost use Rattle.dv_syntax.specs.declared.tree.RuleSort.TheVariants as sort;
 ghost use Rattle.dv_tree.specs.Instances.{instances};
 ghost use Rattle.dv_plain.specs.Source.{behaviour_of, change_by};
-ghost use Rattle.dv_react.specs.Given.{GivesAs, change_to};
 
 use dv_bag::{Arrivals, Fault, RuleError, Sent, State};
 use dv_eval::{Scope, phase_hold, rule_body, rule_of, run_rule};

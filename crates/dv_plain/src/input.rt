@@ -1,11 +1,11 @@
 //! Inputs from outside, and their times.
 
 ghost use Rattle.std.specs.Prelude.{◌≡◌, ℕ, ◌≤◌, IfOk};
-ghost use Rattle.dv_time.specs.Time.{IsOfRun, next_rank, succ};
 ghost use Rattle.dv_bag.specs.Inputs.{inputs_at, inputs_before, time_at};
-ghost use Rattle.dv_plain.specs.InputTimes.{IsOfRunIf, rank_if};
 ghost use Rattle.dv_react.specs.Components.{IsNextOfRun, rank_of};
+ghost use Rattle.dv_time.specs.Time.{IsOfRun, next_rank, succ};
 ghost use Rattle.dv_time.specs.Limits.{greatest_tick};
+ghost use Rattle.dv_plain.specs.InputTimes.{IsOfRunIf, rank_if};
 
 use dv_bag::{Bags, Inputs};
 use dv_react::Instant;

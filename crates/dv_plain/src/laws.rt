@@ -2,9 +2,9 @@
 //! that it rests on.
 
 ghost use Rattle.std.specs.Prelude.{ℕ, [], length, replicate};
-ghost use Rattle.dv_syntax.specs.Trees.{FileTree};
 ghost use Rattle.dv_devs.specs.Idle.{BringsNothing, LeavesOnlyWhatIsSent};
 ghost use Rattle.dv_devs.specs.NextTimes.{IsReady};
+ghost use Rattle.dv_syntax.specs.Trees.{FileTree};
 ghost use Rattle.dv_tree.specs.Instances.{root_inputs};
 ghost use Rattle.dv_plain.specs.Source.{network_of};
 

@@ -1,16 +1,16 @@
 //! The components of a run at one instant: what they send, what leaves, and how they react.
 
 ghost use Rattle.std.specs.Prelude.{◌≡◌, ℕ, ◌≤◌, ◌<◌, [], ◌∷◌, ◌++◌, length, map, slice_index_or, slice_set, vec_len, IfOk, OnOk};
-ghost use Rattle.dv_syntax.specs.Trees.{atomic_of, file_of};
 ghost use Rattle.dv_bag.specs.Part.{joined};
+ghost use Rattle.dv_check.specs.Limits.{greatest_names};
 ghost use Rattle.dv_devs.specs.Behaviour.{emission, reaction};
 ghost use Rattle.dv_devs.specs.Network.{components_after, entries_by, entry_of, outer_from, part_of_instant};
 ghost use Rattle.dv_react.specs.Components.{AreWaitsOfRun, IsWaitOfRun, component_of, components_of, rank_of};
 ghost use Rattle.dv_react.specs.Outcomes.{event_of, fault_of, happened_in, outcome_of, sent_of};
+ghost use Rattle.dv_syntax.specs.Trees.{atomic_of, file_of};
 ghost use Rattle.dv_tree.specs.Instances.{instances};
 ghost use Rattle.dv_plain.specs.Outputs.{outputs_at, reactions_at};
 ghost use Rattle.dv_plain.specs.Source.{behaviour_of, network_of};
-ghost use Rattle.dv_check.specs.Limits.{greatest_names};
 
 use crate::atom::Atom;
 use dv_bag::{Bags, Entry, Fault, Part, Sent, State, Variables, What};

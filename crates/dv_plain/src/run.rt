@@ -1,17 +1,17 @@
 //! The run of a resultant.
 
 ghost use Rattle.std.specs.Prelude.{◌≡◌, ℕ, ◌≤◌, IfOk, Some, length};
-ghost use Rattle.dv_time.specs.Time.{IsOfRun, earlier, next_rank, rank, succ};
-ghost use Rattle.dv_syntax.specs.Trees.{atomic_of, file_of};
 ghost use Rattle.dv_bag.specs.Inputs.{inputs_before, time_at};
 ghost use Rattle.dv_bag.specs.Part.{joined};
 ghost use Rattle.dv_devs.specs.NextTimes.{least_next};
 ghost use Rattle.dv_devs.specs.Network.{components_after, part_of_instant};
+ghost use Rattle.dv_react.specs.Components.{AreWaitsOfRun, IsNextOfRun, IsWaitOfRun, component_of, components_of, next_of_wait, rank_of};
+ghost use Rattle.dv_syntax.specs.Trees.{atomic_of, file_of};
+ghost use Rattle.dv_time.specs.Time.{IsOfRun, earlier, next_rank, rank, succ};
+ghost use Rattle.dv_time.specs.Limits.{greatest_limit, greatest_tick};
 ghost use Rattle.dv_tree.specs.Instances.{instances};
 ghost use Rattle.dv_plain.specs.InputTimes.{IsOfRunIf, rank_if};
-ghost use Rattle.dv_react.specs.Components.{AreWaitsOfRun, IsNextOfRun, IsWaitOfRun, component_of, components_of, next_of_wait, rank_of};
 ghost use Rattle.dv_plain.specs.Source.{network_of, outside, start_of, trace_of};
-ghost use Rattle.dv_time.specs.Limits.{greatest_limit, greatest_tick};
 
 use crate::atom::Atom;
 use crate::input::{input_at, next_input};

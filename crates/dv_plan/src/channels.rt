@@ -3,8 +3,8 @@
 ghost use Rattle.std.specs.Prelude.{◌≡◌, ◌*◌, ◌<◌, ◌≤◌, ◌^◌, ◌++◌, length, map, IfOk, OnOk};
 ghost use Rattle.dv_conservative.specs.World.{Job, incoming_from, outgoing_from};
 ghost use Rattle.dv_partition.specs.Limits.{greatest_processes};
-ghost use Rattle.dv_plan.specs.Channels.{away_of};
 ghost use Rattle.dv_proc.specs.Channels.{meant_channel};
+ghost use Rattle.dv_plan.specs.Channels.{away_of};
 ghost use Rattle.dv_plan.specs.Keys.{all_sent, sends, sent_by};
 
 use dv_proc::Channel;

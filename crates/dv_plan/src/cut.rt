@@ -5,8 +5,8 @@ ghost use Rattle.std.specs.Prelude.{◌≡◌, ◌<◌, [], length, map, slice_i
 ghost use Rattle.dv_conservative.specs.Channels.{all_channels};
 ghost use Rattle.dv_partition.specs.Groups.{owner_of};
 ghost use Rattle.dv_proc.specs.Channels.{meant_channel};
-ghost use Rattle.dv_plan.specs.Cuts.{between, entrances_to, exits_from};
 ghost use Rattle.dv_share.specs.Links.{links_of};
+ghost use Rattle.dv_plan.specs.Cuts.{between, entrances_to, exits_from};
 
 use crate::channels::channels;
 use crate::keys::{by_pair, by_receiver, by_sender};

@@ -2,10 +2,10 @@
 
 ghost use Rattle.std.specs.Prelude.{◌≡◌, ◌≤◌, length, map, IfOk};
 ghost use Rattle.std.specs.List.{range_with_len};
-ghost use Rattle.dv_share.specs.declared.tables.Member.{Member as MemberOfCode};
 ghost use Rattle.dv_partition.specs.Groups.{owner_of};
-ghost use Rattle.dv_plan.specs.Steps.{members_of};
 ghost use Rattle.dv_partition.specs.Limits.{greatest_processes};
+ghost use Rattle.dv_share.specs.declared.tables.Member.{Member as MemberOfCode};
+ghost use Rattle.dv_plan.specs.Steps.{members_of};
 
 use crate::cut::Cut;
 use crate::responses::responses;

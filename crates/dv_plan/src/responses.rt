@@ -2,10 +2,10 @@
 
 ghost use Rattle.std.specs.Prelude.{◌≡◌, ◌<◌, ◌≤◌, ◌^◌, None, length, map, replicate, slice_index_or, slice_set, IfOk};
 ghost use Rattle.std.specs.List.{range_with_len};
-ghost use Rattle.dv_time.specs.Time.{earlier};
-ghost use Rattle.dv_partition.specs.Groups.{owner_of};
-ghost use Rattle.dv_conservative.specs.Responses.{least_response};
 ghost use Rattle.dv_bag.specs.Responses.{ticks_of};
+ghost use Rattle.dv_conservative.specs.Responses.{least_response};
+ghost use Rattle.dv_partition.specs.Groups.{owner_of};
+ghost use Rattle.dv_time.specs.Time.{earlier};
 
 use dv_bag::Response;
 use dv_partition::Groups;

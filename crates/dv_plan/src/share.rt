@@ -2,16 +2,16 @@
 
 ghost use Rattle.std.specs.Prelude.{◌≡◌, ◌<◌, ◌≤◌, ◌^◌, IfOk, List, length, map};
 ghost use Rattle.std.specs.List.{AllByRecursion};
+ghost use Rattle.dv_conservative.specs.World.{Job, outgoing_from};
+ghost use Rattle.dv_local.specs.Shares.{outgoing_of};
+ghost use Rattle.dv_partition.specs.Groups.{owner_of};
+ghost use Rattle.dv_partition.specs.Limits.{greatest_processes};
+ghost use Rattle.dv_proc.specs.Channels.{meant_channel};
 ghost use Rattle.dv_share.specs.Links.{RiseBySource, links_of};
 ghost use Rattle.dv_share.specs.Indices.{AreRising};
 ghost use Rattle.dv_share.specs.Share.{numbers_of};
 ghost use Rattle.dv_share.specs.declared.tables.Member.{Member as MemberOfCode};
-ghost use Rattle.dv_local.specs.Shares.{outgoing_of};
-ghost use Rattle.dv_conservative.specs.World.{Job, outgoing_from};
 ghost use Rattle.dv_plan.specs.Cuts.{between, entrances_to, exits_from};
-ghost use Rattle.dv_partition.specs.Groups.{owner_of};
-ghost use Rattle.dv_partition.specs.Limits.{greatest_processes};
-ghost use Rattle.dv_proc.specs.Channels.{meant_channel};
 ghost use Rattle.dv_plan.specs.Steps.{AreMade, IsMadeOf, Rises, way_of};
 
 use crate::channels::{Away, incoming, outgoing};

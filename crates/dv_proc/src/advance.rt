@@ -2,10 +2,10 @@
 //! to the next time at which something is due.
 
 ghost use Rattle.std.specs.Prelude.{◌≡◌, ◌≤◌, ◌<◌, ℕ, IfOk, length, nat_lt, slice_index_or, true};
-ghost use Rattle.dv_time.specs.Time.{IsOfRun, end_of, rank};
-ghost use Rattle.dv_devs.specs.Cuts.{IsAllBefore};
 ghost use Rattle.dv_conservative.specs.Process.{at_most};
 ghost use Rattle.dv_conservative.specs.Promise.{foreseen};
+ghost use Rattle.dv_devs.specs.Cuts.{IsAllBefore};
+ghost use Rattle.dv_time.specs.Time.{IsOfRun, end_of, rank};
 ghost use Rattle.dv_proc.specs.Accesses.{CountsInstant, CountsStep};
 ghost use Rattle.dv_proc.specs.Advancing.{AreBeside, IsAdvance, IsFresh, IsKnown, IsSameLink};
 ghost use Rattle.dv_proc.specs.declared.outgoing.Outgoing.{Outgoing};

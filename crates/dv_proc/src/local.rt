@@ -1,20 +1,20 @@
 //! What a process asks of its components.
 
 ghost use Rattle.std.specs.Prelude.{◌≡◌, ◌<◌, ◌++◌, OnErr, OnOk, List, Some, map, slice_get, true};
-ghost use Rattle.dv_time.specs.Time.{IsOfRun, rank};
 ghost use Rattle.dv_bag.specs.Bag.{Counts};
 ghost use Rattle.dv_bag.specs.Part.{joined};
-ghost use Rattle.dv_devs.specs.Cuts.{IsAllBefore};
-ghost use Rattle.dv_devs.specs.NextTimes.{least_next};
+ghost use Rattle.dv_bag.specs.Responses.{ticks_of};
 ghost use Rattle.dv_conservative.specs.Events.{event_of};
 ghost use Rattle.dv_conservative.specs.Process.{Outgoing, end_rank, is_port_of};
-ghost use Rattle.dv_bag.specs.Responses.{ticks_of};
+ghost use Rattle.dv_devs.specs.Cuts.{IsAllBefore};
+ghost use Rattle.dv_devs.specs.NextTimes.{least_next};
+ghost use Rattle.dv_record.specs.Told.{Handed};
+ghost use Rattle.dv_time.specs.Time.{IsOfRun, rank};
+ghost use Rattle.dv_written.specs.Rest.{rest_length};
 ghost use Rattle.dv_proc.specs.Foreseeing.{IsOfHold, IsOfRunIf, rank_if};
 ghost use Rattle.dv_proc.specs.Accesses.{CountsInstant, IsAfterEmission};
 ghost use Rattle.dv_proc.specs.Local.{IsAfterEvents, IsAfterInstant, IsFirstInput, View, are_for_ports, carried_away, sent_at};
 ghost use Rattle.dv_proc.specs.Packets.{meant_events};
-ghost use Rattle.dv_record.specs.Told.{Handed};
-ghost use Rattle.dv_written.specs.Rest.{rest_length};
 
 use crate::packet::Event;
 use crate::window::Frame;

@@ -3,22 +3,22 @@
 ghost use Rattle.std.specs.Prelude.{◌≡◌, ◌<◌, ◌≤◌, ◌⊎◌, ◌&&◌, ◌||◌, ℕ, [], Bool, MatchOption, None, Some, map, IfErr, IfOk};
 ghost use Rattle.std.specs.Prelude.{IsTrue, MatchResult, OnErr, OnOk, if◌then◌else◌, length, nat_eq, slice_index_or};
 ghost use Rattle.std.specs.List.{list_all};
-ghost use Rattle.dv_time.specs.Time.{IsOfRun, rank};
+ghost use Rattle.dv_bag.specs.Part.{joined};
+ghost use Rattle.dv_bag.specs.declared.state.State.{State};
 ghost use Rattle.dv_conservative.specs.Process.{Outgoing as OutgoingAsMeant, first_time, is_event_of, least_clock, refusal_of, with_packet};
 ghost use Rattle.dv_conservative.specs.Sound.{AllNumbers, IsSoundShare};
 ghost use Rattle.dv_conservative.specs.Turn.{Done, IsTurnOf, Moved, Waiting, turned};
+ghost use Rattle.dv_time.specs.Time.{IsOfRun, rank};
+ghost use Rattle.dv_written.specs.Rest.{rest_length};
 ghost use Rattle.dv_proc.specs.Accesses.{CountsTurn};
 ghost use Rattle.dv_proc.specs.Advancing.{HasRoom};
 ghost use Rattle.dv_proc.specs.Arriving.{AreApart, received_by};
 ghost use Rattle.dv_proc.specs.Leaving.{position_by, promised_by, standing_by};
-ghost use Rattle.dv_bag.specs.Part.{joined};
-ghost use Rattle.dv_bag.specs.declared.state.State.{State};
 ghost use Rattle.dv_proc.specs.Midway.{IsMidway, meant_turned};
 ghost use Rattle.dv_proc.specs.declared.outgoing.Outgoing.{Outgoing as OutgoingOfCode};
 ghost use Rattle.dv_proc.specs.Packets.{meant_events, meant_packet};
 ghost use Rattle.dv_proc.specs.Refusals.{IsByTest, meant_refusal};
 ghost use Rattle.dv_proc.specs.Standing.{IsAccepted, IsBegun, IsDue, IsFar, IsProcess, IsStanding};
-ghost use Rattle.dv_written.specs.Rest.{rest_length};
 
 use crate::advance::{promise_at, step};
 use crate::incoming::{Incoming, Refused, index_of, least_clock, new_incoming};

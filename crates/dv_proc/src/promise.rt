@@ -1,14 +1,14 @@
 //! Until when it is known what a process sends, whatever still arrives.
 
 ghost use Rattle.std.specs.Prelude.{◌≡◌, ◌≤◌, ◌+◌, ℕ, List};
-ghost use Rattle.dv_time.specs.Time.{IsOfRun, end_of, rank};
-ghost use Rattle.dv_devs.specs.Behaviour.{Component, is_at};
-ghost use Rattle.dv_devs.specs.NextTimes.{least_next};
+ghost use Rattle.dv_bag.specs.Responses.{ticks_of};
 ghost use Rattle.dv_conservative.specs.Process.{at_most};
 ghost use Rattle.dv_conservative.specs.Promise.{foreseen, reach};
-ghost use Rattle.dv_bag.specs.Responses.{ticks_of};
-ghost use Rattle.dv_proc.specs.Foreseeing.{IsOfHold, IsOfRunIf, rank_if};
+ghost use Rattle.dv_devs.specs.Behaviour.{Component, is_at};
+ghost use Rattle.dv_devs.specs.NextTimes.{least_next};
+ghost use Rattle.dv_time.specs.Time.{IsOfRun, end_of, rank};
 ghost use Rattle.dv_time.specs.Limits.{greatest_tick};
+ghost use Rattle.dv_proc.specs.Foreseeing.{IsOfHold, IsOfRunIf, rank_if};
 
 use crate::window::Frame;
 use dv_bag::Response;

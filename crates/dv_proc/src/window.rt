@@ -1,11 +1,11 @@
 //! The frame of a run, and the tests of a packet that arrives.
 
 ghost use Rattle.std.specs.Prelude.{◌≡◌, ◌≤◌, ◌&&◌, nat_le, nat_lt};
-ghost use Rattle.dv_time.specs.Time.{IsOfRun, end_of, rank};
 ghost use Rattle.dv_conservative.specs.Process.{are_in_order};
 ghost use Rattle.dv_conservative.specs.Events.{same_time};
-ghost use Rattle.dv_proc.specs.Packets.{meant_events};
+ghost use Rattle.dv_time.specs.Time.{IsOfRun, end_of, rank};
 ghost use Rattle.dv_time.specs.Limits.{greatest_limit, greatest_tick};
+ghost use Rattle.dv_proc.specs.Packets.{meant_events};
 
 use crate::packet::Event;
 use dv_time::Time;

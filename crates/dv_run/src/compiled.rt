@@ -2,8 +2,6 @@
 
 ghost use Rattle.std.specs.Prelude.{◌≢◌, ◌+◌, ◌<◌, ◌≤◌, ◌≡◌, IfOk, OnErr};
 ghost use Rattle.dv_board.specs.Jobs.{IsMergeable};
-ghost use Rattle.dv_run.specs.Texts.{AreComponentsOf, IsReady, text_job};
-ghost use Rattle.dv_run.specs.Runs.{IsCutShort, IsRunOf};
 ghost use Rattle.dv_plan.specs.Clocks.{least_time};
 ghost use Rattle.dv_stream.specs.Endings.{HasRunInRounds};
 ghost use Rattle.dv_stream.specs.Written.{IsBegun, IsWrittenTo};
@@ -11,6 +9,8 @@ ghost use Rattle.dv_stream.specs.declared.ran.RunEnded.TheVariants.{Cut};
 ghost use Rattle.dv_stream.specs.declared.ran.Why.TheVariants.{Rounds};
 ghost use Rattle.dv_syntax.specs.Trees.{file_of};
 ghost use Rattle.dv_time.specs.Time.{end_of};
+ghost use Rattle.dv_run.specs.Texts.{AreComponentsOf, IsReady, text_job};
+ghost use Rattle.dv_run.specs.Runs.{IsCutShort, IsRunOf};
 
 use crate::plan::plan_of;
 use crate::text_job::TextJob;

@@ -3,8 +3,8 @@
 ghost use Rattle.std.specs.Prelude.{IfOk};
 ghost use Rattle.std.specs.List.{All};
 ghost use Rattle.dv_gen.specs.ModelCode.{IsCompilableModel};
-ghost use Rattle.dv_run.specs.Texts.{AreComponentsOf};
 ghost use Rattle.dv_syntax.specs.Trees.{ModelTree, file_of};
+ghost use Rattle.dv_run.specs.Texts.{AreComponentsOf};
 
 use dv_coded::{Bench, Components, components_of};
 use dv_tree::Tree;

@@ -2,9 +2,9 @@
 
 ghost use Rattle.std.specs.Prelude.{◌<◌, IfOk};
 ghost use Rattle.dv_coded.specs.Lent.{behaviour_of_lent, lent_takes};
-ghost use Rattle.dv_run.specs.Texts.{AreComponentsOf, IsReady, text_job};
 ghost use Rattle.dv_plan.specs.Beginning.{CanRun};
 ghost use Rattle.dv_syntax.specs.Trees.{file_of};
+ghost use Rattle.dv_run.specs.Texts.{AreComponentsOf, IsReady, text_job};
 
 use crate::numbers::shares_have_numbers;
 use crate::text_job::TextJob;

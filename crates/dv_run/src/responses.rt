@@ -2,14 +2,14 @@
 
 ghost use Rattle.std.specs.Prelude.{◌≡◌, None, map, IfOk};
 ghost use Rattle.std.specs.List.{All, range_with_len};
+ghost use Rattle.dv_bag.specs.Responses.{ticks_of};
 ghost use Rattle.dv_check.specs.Refusals.{AreOfOneText, refusal_of};
 ghost use Rattle.dv_conservative.specs.Responses.{least_response};
 ghost use Rattle.dv_gen.specs.ModelCode.{IsCompilableModel};
 ghost use Rattle.dv_partition.specs.Groups.{owner_of};
-ghost use Rattle.dv_bag.specs.Responses.{ticks_of};
-ghost use Rattle.law_sound.specs.Jobs.{responses_of};
 ghost use Rattle.dv_syntax.specs.Trees.{ModelTree, file_of};
 ghost use Rattle.dv_tree.specs.Instances.{instances};
+ghost use Rattle.law_sound.specs.Jobs.{responses_of};
 
 use crate::components::lone_components;
 use dv_bag::Response;

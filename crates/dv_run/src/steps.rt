@@ -1,10 +1,10 @@
 //! Runs the compiled model of a text by a list of steps.
 
 ghost use Rattle.std.specs.Prelude.{IfOk};
-ghost use Rattle.dv_run.specs.Texts.{AreComponentsOf, IsReady, text_job};
-ghost use Rattle.dv_run.specs.Runs.{IsStepped};
 ghost use Rattle.dv_plan.specs.Runs.{HasStepped};
 ghost use Rattle.dv_syntax.specs.Trees.{file_of};
+ghost use Rattle.dv_run.specs.Texts.{AreComponentsOf, IsReady, text_job};
+ghost use Rattle.dv_run.specs.Runs.{IsStepped};
 
 use crate::plan::plan_of;
 use crate::text_job::TextJob;

@@ -4,8 +4,8 @@ ghost use Rattle.std.specs.Prelude.{◌≡◌, None, IfOk};
 ghost use Rattle.dv_check.specs.Refusals.{refusal_of};
 ghost use Rattle.dv_coded.specs.Lent.{behaviour_of_lent, lent_takes};
 ghost use Rattle.dv_plan.specs.Plans.{IsPlanOf};
-ghost use Rattle.dv_run.specs.Texts.{AreComponentsOf, AreLinksOf, text_job};
 ghost use Rattle.dv_syntax.specs.Trees.{file_of};
+ghost use Rattle.dv_run.specs.Texts.{AreComponentsOf, AreLinksOf, text_job};
 
 use crate::link_laws::links_rise;
 use crate::links::links_of;

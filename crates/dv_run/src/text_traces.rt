@@ -1,9 +1,9 @@
 //! What the trace of a text rests on.
 
 ghost use Rattle.dv_board.specs.Jobs.{IsMergeable};
+ghost use Rattle.dv_syntax.specs.Trees.{file_of};
 ghost use Rattle.dv_run.specs.Texts.{IsReady, text_job};
 ghost use Rattle.dv_run.specs.Traces.{TraceLaws};
-ghost use Rattle.dv_syntax.specs.Trees.{file_of};
 
 use crate::text_job::TextJob;
 use dv_bag::Bags;

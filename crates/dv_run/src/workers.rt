@@ -2,13 +2,13 @@
 
 ghost use Rattle.std.specs.Prelude.{◌≢◌, ◌<◌, ◌≡◌, IfOk, OnErr, length};
 ghost use Rattle.dv_board.specs.Jobs.{IsMergeable};
-ghost use Rattle.dv_run.specs.Texts.{AreComponentsOf, IsReady, text_job};
-ghost use Rattle.dv_run.specs.Runs.{IsCutShort, IsPrinted};
 ghost use Rattle.dv_stream.specs.Endings.{HasRunByWorkers, why_for};
 ghost use Rattle.dv_stream.specs.Written.{IsBegun, IsWrittenTo};
-ghost use Rattle.dv_syntax.specs.Trees.{file_of};
 ghost use Rattle.dv_stream.specs.declared.ran.RunEnded.TheVariants.{Cut, Whole};
 ghost use Rattle.dv_stream.specs.declared.ran.Why.TheVariants.{Rounds};
+ghost use Rattle.dv_syntax.specs.Trees.{file_of};
+ghost use Rattle.dv_run.specs.Texts.{AreComponentsOf, IsReady, text_job};
+ghost use Rattle.dv_run.specs.Runs.{IsCutShort, IsPrinted};
 
 use crate::components::lone_components;
 use crate::plan::plan_of;

@@ -1,12 +1,12 @@
 //! What leaves the model at an instant.
 
 ghost use Rattle.std.specs.Prelude.{◌≡◌, OnOk, length};
+ghost use Rattle.dv_conservative.specs.Links.{carried, inbox};
 ghost use Rattle.dv_devs.specs.Network.{outer_from};
 ghost use Rattle.dv_react.specs.Components.{rank_of};
 ghost use Rattle.dv_record.specs.Told.{IsOpenAt, with_lines};
 ghost use Rattle.dv_share.specs.Indices.{AreRising};
 ghost use Rattle.dv_share.specs.Share.{StandByIndex, numbers_of, sent_in};
-ghost use Rattle.dv_conservative.specs.Links.{carried, inbox};
 
 use crate::arrival::bags_of;
 use crate::carry::carry_emitted;

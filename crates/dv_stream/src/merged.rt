@@ -2,14 +2,14 @@
 
 ghost use Rattle.std.specs.Prelude.{◌≡◌, ◌<◌, ◌≤◌, IfOk, OnErr, replicate};
 ghost use Rattle.dv_bag.specs.declared.entry.Entry.{Entry as MeantEntry};
-ghost use Rattle.dv_time.specs.Time.{IsOfRun, end_of, rank};
 ghost use Rattle.dv_board.specs.Clocks.{IsNoLater};
 ghost use Rattle.dv_board.specs.Jobs.{IsMergeable, trace};
 ghost use Rattle.dv_conservative.specs.Process.{first_time};
 ghost use Rattle.dv_lines.specs.Entries.{line_of};
 ghost use Rattle.dv_merge.specs.Whole.{ArePartsOf};
-ghost use Rattle.dv_stream.specs.Written.{Falters, GoesOn};
 ghost use Rattle.dv_text.specs.Names.{tree_names};
+ghost use Rattle.dv_time.specs.Time.{IsOfRun, end_of, rank};
+ghost use Rattle.dv_stream.specs.Written.{Falters, GoesOn};
 
 use crate::written::{Written, write_piece};
 use dv_bag::Bags;

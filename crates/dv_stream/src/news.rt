@@ -1,8 +1,8 @@
 //! Writes what workers post, while they run.
 
 ghost use Rattle.std.specs.Prelude.{◌≡◌, ◌≤◌, IfNone, IfOk, IfSome, OnErr, length};
-ghost use Rattle.dv_time.specs.Time.{IsOfRun};
 ghost use Rattle.dv_board.specs.Clocks.{IsLeast};
+ghost use Rattle.dv_time.specs.Time.{IsOfRun};
 ghost use Rattle.dv_stream.specs.Clocks.{IsUpToEnd};
 ghost use Rattle.dv_stream.specs.Written.{Falters, GoesOn, IsBegun, IsWrittenTo};
 

@@ -8,10 +8,10 @@ ghost use Rattle.dv_core.specs.Conservative.{IsConservative, state_by};
 ghost use Rattle.dv_lines.specs.Entries.{line_of};
 ghost use Rattle.dv_local.specs.States.{settled_by, view_by};
 ghost use Rattle.dv_plan.specs.Beginning.{CanRun};
-ghost use Rattle.dv_stream.specs.Endings.{HasRunByWorkers};
-ghost use Rattle.dv_stream.specs.Written.{IsBegun, IsWrittenTo};
 ghost use Rattle.dv_text.specs.Names.{tree_names};
 ghost use Rattle.dv_work.specs.Crews.{IsCrewFor};
+ghost use Rattle.dv_stream.specs.Endings.{HasRunByWorkers};
+ghost use Rattle.dv_stream.specs.Written.{IsBegun, IsWrittenTo};
 
 use crate::ran::RanByWorkers;
 use crate::workers::stream_crew;

@@ -6,11 +6,11 @@ ghost use Rattle.std.specs.List.{All};
 ghost use Rattle.dv_board.specs.Posts.{IsPiece};
 ghost use Rattle.dv_conservative.specs.Events.{same_time};
 ghost use Rattle.dv_plan.specs.Clocks.{least_time};
+ghost use Rattle.dv_time.specs.Time.{IsOfRun};
+ghost use Rattle.dv_time.specs.declared.time.Time.{Time as MeantTime};
 ghost use Rattle.dv_stream.specs.Clocks.{IsUpToEnd};
 ghost use Rattle.dv_stream.specs.Endings.{why_for};
 ghost use Rattle.dv_stream.specs.Written.{Falters, GoesOn};
-ghost use Rattle.dv_time.specs.Time.{IsOfRun};
-ghost use Rattle.dv_time.specs.declared.time.Time.{Time as MeantTime};
 ghost use Rattle.dv_stream.specs.declared.ran.RunEnded.TheVariants.{Cut, Whole};
 
 use crate::merged::Merger;

@@ -14,11 +14,11 @@ ghost use Rattle.dv_core.specs.Worlds.{EndsAs, IsTrueToModel, kept_by, shown};
 ghost use Rattle.dv_lines.specs.Entries.{line_of};
 ghost use Rattle.dv_plan.specs.Beginning.{CanRun};
 ghost use Rattle.dv_plan.specs.Clocks.{least_time};
+ghost use Rattle.dv_text.specs.Names.{tree_names};
 ghost use Rattle.dv_stream.specs.Clocks.{IsUpToEnd};
 ghost use Rattle.dv_stream.specs.Endings.{HasRunInRounds};
 ghost use Rattle.dv_stream.specs.Rounds.{IsJoinedTo};
 ghost use Rattle.dv_stream.specs.Written.{Falters, GoesOn, IsBegun, IsWrittenTo};
-ghost use Rattle.dv_text.specs.Names.{tree_names};
 
 use crate::alone::stream_alone;
 use crate::merged::{Merger, write_merged};

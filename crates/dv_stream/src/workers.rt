@@ -4,15 +4,15 @@ ghost use Rattle.std.specs.Prelude.{◌≡◌, ◌<◌, ◌≤◌, length, IfOk,
 ghost use Rattle.dv_bag.specs.declared.entry.Entry.{Entry as MeantEntry};
 ghost use Rattle.dv_board.specs.Jobs.{IsMergeable};
 ghost use Rattle.dv_lines.specs.Entries.{line_of};
-ghost use Rattle.dv_stream.specs.Clocks.{IsUpToEnd};
-ghost use Rattle.dv_stream.specs.Endings.{HasRunByWorkers};
-ghost use Rattle.dv_stream.specs.Written.{IsBegun, IsWrittenTo};
 ghost use Rattle.dv_text.specs.Names.{tree_names};
 ghost use Rattle.dv_time.specs.Limits.{greatest_tick};
 ghost use Rattle.dv_time.specs.Time.{IsOfRun};
 ghost use Rattle.dv_tree.specs.Tables.{Source};
 ghost use Rattle.dv_work.specs.Crews.{IsCrewFor};
 ghost use Rattle.dv_work.specs.Reached.{AreReached};
+ghost use Rattle.dv_stream.specs.Clocks.{IsUpToEnd};
+ghost use Rattle.dv_stream.specs.Endings.{HasRunByWorkers};
+ghost use Rattle.dv_stream.specs.Written.{IsBegun, IsWrittenTo};
 
 use crate::merged::Merger;
 use crate::news::{Signals, write_news};

@@ -3,10 +3,10 @@
 ghost use Rattle.std.specs.Prelude.{◌≡◌, ◌||◌, IfOk, OnErr, OnOk};
 ghost use Rattle.std.specs.Io.KnownBytes.{Appends};
 ghost use Rattle.dv_bag.specs.Part.{IsByTime};
-ghost use Rattle.dv_written.specs.Faults.{has_fault};
 ghost use Rattle.dv_text.specs.Names.{tree_names, tree_ports};
 ghost use Rattle.dv_text.specs.Texts.{part_text};
 ghost use Rattle.dv_text.specs.Writing.{AppendsBeginning};
+ghost use Rattle.dv_written.specs.Faults.{has_fault};
 
 use crate::faults::has_fault;
 use dv_lines::TraceWriter;

@@ -2,7 +2,6 @@
 //! calls the laws that it rests on.
 
 ghost use Rattle.std.specs.Prelude.{◌≡◌, ◌≤◌, ℕ, [], ◌∷◌, ◌++◌, List, codes, pos};
-ghost use Rattle.dv_time.specs.Time.{end_of};
 ghost use Rattle.dv_bag.specs.Collections.{empty_of};
 ghost use Rattle.dv_bag.specs.Part.{IsByTime};
 ghost use Rattle.dv_bag.specs.declared.collection.Collection.TheVariants as collection;
@@ -12,6 +11,7 @@ ghost use Rattle.dv_devs.specs.Cuts.{trace_between};
 ghost use Rattle.dv_devs.specs.Network.{Network, trace_before};
 ghost use Rattle.dv_devs.specs.Models.{clock};
 ghost use Rattle.dv_devs.specs.Rows.{no_input};
+ghost use Rattle.dv_time.specs.Time.{end_of};
 ghost use Rattle.dv_text.specs.Clock.{clock_names, clock_outputs};
 ghost use Rattle.dv_text.specs.declared.writing.Ending.TheVariants.{Whole};
 ghost use Rattle.dv_text.specs.Texts.{ComponentNames, datum_text, ending_text, instants_text, part_text, whole_text};

@@ -2,8 +2,8 @@
 
 ghost use Rattle.std.specs.Prelude.{◌≡◌, ℕ, List, [], ◌∷◌, length, map, replicate};
 ghost use Rattle.std.specs.List.{All};
-ghost use Rattle.dv_syntax.specs.Trees.{FileTree};
 ghost use Rattle.dv_bag.specs.Bag.{Counts};
+ghost use Rattle.dv_syntax.specs.Trees.{FileTree};
 ghost use Rattle.dv_tree.specs.Instances.{instances};
 ghost use Rattle.dv_tree.specs.Routing.{arrives, leaves};
 ghost use Rattle.dv_tree.specs.Rows.{beside, sevens, two_levels, two_parts, two_paths};

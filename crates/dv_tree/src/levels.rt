@@ -2,9 +2,9 @@
 
 ghost use Rattle.std.specs.Prelude.{◌≡◌, [], length, map, replicate, slice_index_or, option_copied, IfOk};
 ghost use Rattle.std.specs.List.{filter_map};
-ghost use Rattle.dv_syntax.specs.Trees.{coupled_of, model_of};
-ghost use Rattle.dv_eval.specs.Scope.{index_of};
 ghost use Rattle.dv_check.specs.Names.{numbers_of};
+ghost use Rattle.dv_eval.specs.Scope.{index_of};
+ghost use Rattle.dv_syntax.specs.Trees.{coupled_of, model_of};
 ghost use Rattle.dv_tree.specs.Couplings.{index_at};
 ghost use Rattle.dv_tree.specs.Nodes.{level_at, nothing_in};
 ghost use Rattle.dv_tree.specs.Reached.{borrowed_models};

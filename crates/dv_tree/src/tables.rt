@@ -2,9 +2,9 @@
 
 ghost use Rattle.std.specs.Prelude.{◌≡◌, map, option_map, Some, IfOk};
 ghost use Rattle.std.specs.Option.{option_copied};
-ghost use Rattle.dv_syntax.specs.Trees.{coupled_of, file_of, model_of};
 ghost use Rattle.dv_check.specs.Names.{name_of_model, numbers_of};
 ghost use Rattle.dv_check.specs.Ports.{shown_inputs, shown_outputs};
+ghost use Rattle.dv_syntax.specs.Trees.{coupled_of, file_of, model_of};
 ghost use Rattle.dv_tree.specs.Instances.{coupled_model, inputs_in, outputs_in, root_of};
 ghost use Rattle.dv_tree.specs.Reached.{borrowed_models, parts_inside};
 ghost use Rattle.dv_tree.specs.Tables.{model_names, scope_of_model};

@@ -2,15 +2,15 @@
 
 ghost use Rattle.std.specs.Prelude.{◌≡◌, ◌<◌, ◌≤◌, ◌++◌, ◌∷◌, length, map, slice_get, string_bytes, Some, IfOk, OnOk};
 ghost use Rattle.std.specs.Option.{option_copied};
-ghost use Rattle.dv_syntax.specs.Trees.{AtomicModel, atomic_of, file_of, model_of};
+ghost use Rattle.dv_check.specs.Limits.{greatest_components, greatest_names};
 ghost use Rattle.dv_eval.specs.Scope.{scope_of};
+ghost use Rattle.dv_syntax.specs.Trees.{AtomicModel, atomic_of, file_of, model_of};
 ghost use Rattle.dv_tree.specs.Instances.{instances, root_inputs, root_outputs};
 ghost use Rattle.dv_tree.specs.Nodes.{components_of_root, root_leaving, root_level, root_received};
 ghost use Rattle.dv_tree.specs.Paths.{behind_dots, name_at, texts_of, with_dots};
 ghost use Rattle.dv_tree.specs.Reached.{AreReached, borrowed, borrowed_models, text_of_reached};
 ghost use Rattle.dv_tree.specs.Routing.{arrives, leaves};
 ghost use Rattle.dv_tree.specs.Tables.{levels_of, model_names, root_table, scope_of_model};
-ghost use Rattle.dv_check.specs.Limits.{greatest_components, greatest_names};
 
 use crate::components::{Component, add_components, name_at};
 use crate::indices::Indices;

@@ -5,10 +5,10 @@ ghost use Rattle.dv_code.specs.Shape.{Shape, left_by};
 ghost use Rattle.dv_code.specs.Valid.{IsFine, mark};
 ghost use Rattle.dv_code.specs.declared.instruction.Instruction.TheVariants.{Push, Apply, Combine, Perform, Jump, JumpFalse};
 ghost use Rattle.dv_code.specs.declared.instruction.Instruction.TheVariants.{FalseKeep, TrueKeep, Loop, Next, End};
+ghost use Rattle.dv_code.specs.Limits.{deepest_loops};
 ghost use Rattle.dv_valid.specs.Nests.{bodies};
 ghost use Rattle.dv_valid.specs.Stacks.{types_at};
 ghost use Rattle.dv_valid.specs.Marks.{AgreesAt, AreNumbered, ArrivesAt, Fit, IsNumbered, IsMarkAt, mark_of, meaning, with_top};
-ghost use Rattle.dv_code.specs.Limits.{deepest_loops};
 
 use crate::known::{is_source, knows_action, knows_deed, knows_leaf, knows_unary};
 use crate::marks::{Mark, Marks, without_top};

@@ -8,11 +8,11 @@ ghost use Rattle.dv_bag.specs.declared.value.ValueType.{ValueType};
 ghost use Rattle.dv_code.specs.Known.{operand_type, result_type};
 ghost use Rattle.dv_code.specs.Shape.{Shape, left_by};
 ghost use Rattle.dv_code.specs.Valid.{Body as MeantBody, Mark as Meant, mark};
+ghost use Rattle.dv_code.specs.Limits.{deepest_loops};
 ghost use Rattle.dv_valid.specs.Nests.{bodies};
 ghost use Rattle.dv_valid.specs.Stacks.{Keeps, types_at};
 ghost use Rattle.dv_valid.specs.Marks.{AreNumbered, Fit, IsForcedAt, IsFound, IsNumbered, MayBeNumbered, Settles, mark_of};
 ghost use Rattle.dv_valid.specs.Marks.{meaning, settling_address, with_top};
-ghost use Rattle.dv_code.specs.Limits.{deepest_loops};
 
 use crate::nest::{Body, Nest};
 use crate::stacks::TypeStacks;

@@ -2,8 +2,8 @@
 
 ghost use Rattle.std.specs.Prelude.{◌≡◌, ◌↔◌, ◌<◌, ◌≤◌, [], ◌∷◌, length, IsTrue, MatchOption};
 ghost use Rattle.dv_code.specs.Valid.{LiesIn};
-ghost use Rattle.dv_valid.specs.Nests.{bodies, meant_body};
 ghost use Rattle.dv_code.specs.Limits.{deepest_loops};
+ghost use Rattle.dv_valid.specs.Nests.{bodies, meant_body};
 
 /// The body of a loop.
 #[derive(Clone, Copy)]

@@ -3,9 +3,9 @@
 ghost use Rattle.std.specs.Prelude.{◌≡◌, ◌<◌, ◌+◌, ◌%◌, ◌++◌, ◌^◌, ℕ, [], ◌∷◌, length, map, slice_get, IfOk, OnOk, Some};
 ghost use Rattle.std.specs.List.{All};
 ghost use Rattle.dv_conservative.specs.World.{Channel as MeantChannel};
+ghost use Rattle.dv_link.specs.Ends.{capacity as capacity_of};
 ghost use Rattle.dv_proc.specs.Channels.{meant_channel};
 ghost use Rattle.dv_work.specs.Workers.{AreByWorker, Seated};
-ghost use Rattle.dv_link.specs.Ends.{capacity as capacity_of};
 ghost use Rattle.dv_work.specs.Making.{AreNew, AreSeated, IsNewIn, IsNewOut, IsSeat, NamesWorkers, no_links};
 ghost use Rattle.dv_work.specs.Seats.{Sits};
 

@@ -3,20 +3,20 @@
 
 ghost use Rattle.std.specs.Prelude.{◌≡◌, ℕ, ℤ, ◌<◌, length, true, List, Option, Ok, Some, []};
 ghost use Rattle.std.specs.List.{All};
-ghost use Rattle.dv_syntax.specs.declared.tree.Name.{Name};
-ghost use Rattle.dv_syntax.specs.declared.tree.RuleSort.{RuleSort};
-ghost use Rattle.dv_syntax.specs.Trees.{AtomicTree, Expression, HoldTree, RuleTree, Statements};
 ghost use Rattle.dv_bag.specs.declared.value.Value.{Value};
 ghost use Rattle.dv_bag.specs.declared.state.State.{State};
 ghost use Rattle.dv_bag.specs.declared.state.Effect.{Effect};
-ghost use Rattle.dv_eval.specs.declared.scope.Domain.{Domain};
-ghost use Rattle.dv_eval.specs.Scope.{is_declared, scope_of, start_state};
 ghost use Rattle.dv_bag.specs.Arrivals.{Arrivals};
 ghost use Rattle.dv_bag.specs.BagLists.{AreBags};
-ghost use Rattle.dv_eval.specs.Meaning.{effect_of, meaning, moment_in, outermost};
 ghost use Rattle.dv_bag.specs.declared.value.ValueType.{ValueType};
 ghost use Rattle.dv_check.specs.Types.{Known, offset_refusals, type_of};
 ghost use Rattle.dv_check.specs.Rules.{atomic_refusals, known_in, known_in_rule};
+ghost use Rattle.dv_eval.specs.declared.scope.Domain.{Domain};
+ghost use Rattle.dv_eval.specs.Scope.{is_declared, scope_of, start_state};
+ghost use Rattle.dv_eval.specs.Meaning.{effect_of, meaning, moment_in, outermost};
+ghost use Rattle.dv_syntax.specs.declared.tree.Name.{Name};
+ghost use Rattle.dv_syntax.specs.declared.tree.RuleSort.{RuleSort};
+ghost use Rattle.dv_syntax.specs.Trees.{AtomicTree, Expression, HoldTree, RuleTree, Statements};
 ghost use Rattle.law_accepted.specs.Fitting.{are_names_known, are_ticks_known, context_within, domain_named, fits, HoldsDatum};
 ghost use Rattle.law_accepted.specs.Fitting.{in_phase, is_of_type, known_within, LeadsToPhase, ReadsPort};
 

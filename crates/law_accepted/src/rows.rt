@@ -1,15 +1,15 @@
 //! Worked rows: files that are accepted, and files with their answers, computed in the definitions.
 
 ghost use Rattle.std.specs.Prelude.{◌≡◌, true, Some, None, [], ◌∷◌};
+ghost use Rattle.dv_bag.specs.declared.discipline.Change.TheVariants.{Add, Push};
+ghost use Rattle.dv_check.specs.Names.{refusal};
+ghost use Rattle.dv_check.specs.Refusals.{refusal_of};
+ghost use Rattle.dv_check.specs.Rules.{atomic_refusals};
 ghost use Rattle.dv_lex.specs.declared.error.RefusalNumber.TheVariants as number;
 ghost use Rattle.dv_syntax.specs.Trees.{Binary, Named, Prefixed, Times, TruthValue};
 ghost use Rattle.dv_syntax.specs.declared.tree.BagCall.TheVariants.{Front, Size, Sum};
 ghost use Rattle.dv_syntax.specs.declared.tree.Operator.TheVariants as operator;
 ghost use Rattle.dv_syntax.specs.declared.tree.Prefix.TheVariants as prefix;
-ghost use Rattle.dv_bag.specs.declared.discipline.Change.TheVariants.{Add, Push};
-ghost use Rattle.dv_check.specs.Names.{refusal};
-ghost use Rattle.dv_check.specs.Refusals.{refusal_of};
-ghost use Rattle.dv_check.specs.Rules.{atomic_refusals};
 ghost use Rattle.law_accepted.specs.Bags.{assigning, below_nothing, heap, size_at, with_bag};
 ghost use Rattle.law_accepted.specs.Broken.{of_an_unknown_part, on_one_line};
 ghost use Rattle.law_accepted.specs.Clock.{clock, link_at, literal, named};

@@ -2,21 +2,21 @@
 //! that they follow from.
 
 ghost use Rattle.std.specs.Prelude.{◌≡◌, ℕ, Bool, true, List, Some, None, Ok};
-ghost use Rattle.dv_syntax.specs.Trees.{AtomicTree, FileTree};
-ghost use Rattle.dv_time.specs.Time.{end_of};
 ghost use Rattle.dv_bag.specs.Bag.{Counts};
 ghost use Rattle.dv_bag.specs.Arrivals.{AreFew};
 ghost use Rattle.dv_bag.specs.declared.inputs.Input.{Input};
 ghost use Rattle.dv_bag.specs.declared.state.State.{State};
+ghost use Rattle.dv_bag.specs.Numbers.{HoldsNumbers};
+ghost use Rattle.dv_bound.specs.Response.{IsNotBelow, response_of};
 ghost use Rattle.dv_check.specs.Refusals.{AreOfOneText, refusal_of};
 ghost use Rattle.dv_devs.specs.Behaviour.{Change};
 ghost use Rattle.dv_devs.specs.Fits.{Agrees, Keeps};
 ghost use Rattle.dv_devs.specs.Network.{trace_before};
-ghost use Rattle.law_accepted.specs.Fitting.{fits};
 ghost use Rattle.dv_gen.specs.ModelCode.{IsCompilable, phase_codes};
-ghost use Rattle.dv_bag.specs.Numbers.{HoldsNumbers};
-ghost use Rattle.dv_bound.specs.Response.{IsNotBelow, response_of};
 ghost use Rattle.dv_plain.specs.Source.{behaviour_of, outside, trace_of};
+ghost use Rattle.dv_syntax.specs.Trees.{AtomicTree, FileTree};
+ghost use Rattle.dv_time.specs.Time.{end_of};
+ghost use Rattle.law_accepted.specs.Fitting.{fits};
 ghost use Rattle.law_compiled.specs.Behaviours.{behaviour_by};
 ghost use Rattle.law_compiled.specs.Networks.{compiled_network};
 

@@ -1,14 +1,14 @@
 //! Runs by programs and by rules.
 
 ghost use Rattle.std.specs.Prelude.{◌≡◌, ℕ, List, None};
-ghost use Rattle.dv_syntax.specs.Trees.{FileTree};
 ghost use Rattle.dv_bag.specs.declared.inputs.Input.{Input};
 ghost use Rattle.dv_check.specs.Refusals.{AreOfOneText, refusal_of};
 ghost use Rattle.dv_conservative.specs.World.{Reply, Step, World, new_world};
 ghost use Rattle.dv_core.specs.Worlds.{EndsAs, IsRunWithProgress};
 ghost use Rattle.dv_core.specs.declared.step.Ended.{Ended};
-ghost use Rattle.law_rules.specs.Jobs.{job_by_rules};
+ghost use Rattle.dv_syntax.specs.Trees.{FileTree};
 ghost use Rattle.law_sound.specs.Jobs.{job_of};
+ghost use Rattle.law_rules.specs.Jobs.{job_by_rules};
 
 use dv_gen::laws::texts_are_compilable;
 use law_accepted::laws::start_states_fit;

@@ -2,15 +2,9 @@
 
 ghost use Rattle.std.specs.Prelude.{◌≡◌, ℕ, ◌+◌, ◌<◌, ◌≤◌, Bool, List, [], None, length, nat_eq};
 ghost use Rattle.std.specs.List.{filter, range_with_len};
-ghost use Rattle.dv_syntax.specs.Trees.{FileTree};
-ghost use Rattle.dv_time.specs.Time.{end_of, rank};
 ghost use Rattle.dv_bag.specs.declared.entry.Entry.{Entry};
 ghost use Rattle.dv_bag.specs.declared.inputs.Input.{Input};
 ghost use Rattle.dv_check.specs.Refusals.{AreOfOneText, refusal_of};
-ghost use Rattle.dv_devs.specs.Network.{components_at, emissions_at, trace_before};
-ghost use Rattle.dv_devs.specs.Parts.{part_before};
-ghost use Rattle.dv_plain.specs.Source.{network_of, outside, trace_of};
-ghost use Rattle.dv_tree.specs.Instances.{instances};
 ghost use Rattle.dv_conservative.specs.Events.{Event};
 ghost use Rattle.dv_conservative.specs.Flat.{kept, whole};
 ghost use Rattle.dv_conservative.specs.Process.{components_by, events_by, part_by};
@@ -18,6 +12,12 @@ ghost use Rattle.dv_conservative.specs.Rounds.{AreRounds};
 ghost use Rattle.dv_conservative.specs.Sound.{IsJob};
 ghost use Rattle.dv_conservative.specs.True.{united};
 ghost use Rattle.dv_conservative.specs.World.{IsRun, Reply, Step, World, new_world, owned, received_in, share_of};
+ghost use Rattle.dv_devs.specs.Network.{components_at, emissions_at, trace_before};
+ghost use Rattle.dv_devs.specs.Parts.{part_before};
+ghost use Rattle.dv_plain.specs.Source.{network_of, outside, trace_of};
+ghost use Rattle.dv_syntax.specs.Trees.{FileTree};
+ghost use Rattle.dv_time.specs.Time.{end_of, rank};
+ghost use Rattle.dv_tree.specs.Instances.{instances};
 ghost use Rattle.law_sound.specs.Jobs.{AllInputNumbers, fits_number, job_of};
 ghost use Rattle.law_sound.specs.Members.{flat_of};
 

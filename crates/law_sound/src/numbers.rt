@@ -2,17 +2,17 @@
 
 ghost use Rattle.std.specs.Prelude.{◌≡◌, ℕ, IfOk, IsTrue, List, Ok};
 ghost use Rattle.std.specs.List.{AllByRecursion};
-ghost use Rattle.dv_syntax.specs.Trees.{AtomicTree, FileTree, Statements};
 ghost use Rattle.dv_bag.specs.Arrivals.{Arrivals};
 ghost use Rattle.dv_bag.specs.declared.inputs.Input.{Input};
 ghost use Rattle.dv_bag.specs.declared.state.State.{State};
 ghost use Rattle.dv_bag.specs.declared.state.Effect.{Effect};
 ghost use Rattle.dv_check.specs.Refusals.{AreOfOneText};
+ghost use Rattle.dv_conservative.specs.Sound.{are_of_numbers};
 ghost use Rattle.dv_devs.specs.Behaviour.{are_few};
 ghost use Rattle.dv_eval.specs.Meaning.{effect_of};
 ghost use Rattle.dv_eval.specs.Scope.{Scope};
-ghost use Rattle.dv_conservative.specs.Sound.{are_of_numbers};
 ghost use Rattle.dv_inputs.specs.Reading.{reading_of};
+ghost use Rattle.dv_syntax.specs.Trees.{AtomicTree, FileTree, Statements};
 ghost use Rattle.law_sound.specs.Jobs.{AllInputNumbers, IsModelOfNumbers};
 ghost use Rattle.law_sound.specs.Kept.{are_kept, name_numbers};
 

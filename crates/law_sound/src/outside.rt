@@ -1,18 +1,18 @@
 //! What leaves a text.
 
 ghost use Rattle.std.specs.Prelude.{◌≡◌, ℕ, List, [], None, length, replicate};
-ghost use Rattle.dv_syntax.specs.Trees.{FileTree};
 ghost use Rattle.dv_bag.specs.Bag.{Counts};
 ghost use Rattle.dv_bag.specs.declared.inputs.Input.{Input};
 ghost use Rattle.dv_check.specs.Refusals.{AreOfOneText, refusal_of};
+ghost use Rattle.dv_conservative.specs.Flat.{whole};
 ghost use Rattle.dv_devs.specs.Cuts.{RiseFrom};
 ghost use Rattle.dv_devs.specs.Idle.{BringsNothing, LeavesOnlyWhatIsSent};
 ghost use Rattle.dv_devs.specs.NextTimes.{IsReady};
 ghost use Rattle.dv_devs.specs.Outside.{LeavesLinearly, SendsBags};
+ghost use Rattle.dv_plain.specs.Source.{network_of, outside};
+ghost use Rattle.dv_syntax.specs.Trees.{FileTree};
 ghost use Rattle.dv_tree.specs.Instances.{root_inputs};
 ghost use Rattle.law_compiled.specs.Networks.{compiled_network};
-ghost use Rattle.dv_plain.specs.Source.{network_of, outside};
-ghost use Rattle.dv_conservative.specs.Flat.{whole};
 ghost use Rattle.law_sound.specs.Members.{flat_of};
 
 use crate::jobs::parts_of_the_flat_model_are_those_of_the_text;

@@ -1,14 +1,14 @@
 //! What the processes of a text commit, together.
 
 ghost use Rattle.std.specs.Prelude.{◌≡◌, ◌<◌, ℕ, List, None, Some, length, nat_eq, slice_get};
-ghost use Rattle.dv_syntax.specs.Trees.{FileTree};
 ghost use Rattle.dv_bag.specs.Part.{PartOf};
 ghost use Rattle.dv_bag.specs.declared.inputs.Input.{Input};
 ghost use Rattle.dv_check.specs.Refusals.{AreOfOneText, refusal_of};
-ghost use Rattle.dv_devs.specs.Parts.{part_before};
-ghost use Rattle.dv_plain.specs.Source.{network_of, outside};
 ghost use Rattle.dv_conservative.specs.Flat.{whole};
+ghost use Rattle.dv_devs.specs.Parts.{part_before};
 ghost use Rattle.dv_merge.specs.Whole.{AreCommitted};
+ghost use Rattle.dv_plain.specs.Source.{network_of, outside};
+ghost use Rattle.dv_syntax.specs.Trees.{FileTree};
 ghost use Rattle.law_sound.specs.Members.{flat_of};
 
 use crate::jobs::parts_of_the_flat_model_are_those_of_the_text;

@@ -1,11 +1,9 @@
 //! The start of a process of a text.
 
 ghost use Rattle.std.specs.Prelude.{◌≡◌, ◌<◌, ℕ, List, [], None, map};
-ghost use Rattle.dv_syntax.specs.Trees.{FileTree};
 ghost use Rattle.dv_bag.specs.Part.{nothing};
 ghost use Rattle.dv_bag.specs.declared.inputs.Input.{Input};
 ghost use Rattle.dv_check.specs.Refusals.{AreOfOneText, refusal_of};
-ghost use Rattle.dv_tree.specs.Instances.{instances};
 ghost use Rattle.dv_conservative.specs.Flat.{network};
 ghost use Rattle.dv_conservative.specs.Process.{Outgoing};
 ghost use Rattle.dv_conservative.specs.Sound.{IsSoundShare};
@@ -13,6 +11,8 @@ ghost use Rattle.dv_conservative.specs.World.{Job, share_of};
 ghost use Rattle.dv_proc.specs.Arriving.{AreApart};
 ghost use Rattle.dv_proc.specs.Local.{DeliverAlike, View};
 ghost use Rattle.dv_proc.specs.Standing.{IsBegun};
+ghost use Rattle.dv_syntax.specs.Trees.{FileTree};
+ghost use Rattle.dv_tree.specs.Instances.{instances};
 ghost use Rattle.law_sound.specs.Jobs.{AllInputNumbers, fits_number, job_of};
 
 use crate::jobs::texts_are_jobs;

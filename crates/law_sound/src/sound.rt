@@ -2,17 +2,17 @@
 
 ghost use Rattle.std.specs.Prelude.{◌≡◌, ℕ, Bool, IsTrue, List, Ok, Some};
 ghost use Rattle.std.specs.List.{AllByRecursion};
-ghost use Rattle.dv_syntax.specs.Trees.{AtomicTree};
 ghost use Rattle.dv_bag.specs.Bag.{Counts};
 ghost use Rattle.dv_bag.specs.declared.state.State.{State};
+ghost use Rattle.dv_bound.specs.Response.{IsNotBelow, response_of};
+ghost use Rattle.dv_conservative.specs.Sound.{IsSound};
 ghost use Rattle.dv_devs.specs.Fits.{Keeps};
-ghost use Rattle.law_accepted.specs.Fitting.{fits};
 ghost use Rattle.dv_gen.specs.Generator.{goes};
 ghost use Rattle.dv_gen.specs.ModelCode.{IsCompilable, phase_codes};
 ghost use Rattle.dv_gen.specs.declared.model_code.PhaseCode.{PhaseCode};
-ghost use Rattle.dv_bound.specs.Response.{IsNotBelow, response_of};
+ghost use Rattle.dv_syntax.specs.Trees.{AtomicTree};
+ghost use Rattle.law_accepted.specs.Fitting.{fits};
 ghost use Rattle.law_compiled.specs.Behaviours.{behaviour_by};
-ghost use Rattle.dv_conservative.specs.Sound.{IsSound};
 ghost use Rattle.law_sound.specs.Kept.{IsOfNumbers, fits_kept};
 ghost use Rattle.law_sound.specs.Members.{member_of};
 

@@ -1,17 +1,17 @@
 //! Texts as flat models.
 
 ghost use Rattle.std.specs.Prelude.{◌≡◌, ℕ, ◌≤◌, List, None, length};
-ghost use Rattle.dv_syntax.specs.Trees.{FileTree};
-ghost use Rattle.dv_time.specs.Time.{end_of};
 ghost use Rattle.dv_bag.specs.Bag.{Counts};
 ghost use Rattle.dv_bag.specs.declared.inputs.Input.{Input};
 ghost use Rattle.dv_check.specs.Refusals.{AreOfOneText, refusal_of};
+ghost use Rattle.dv_conservative.specs.Flat.{IsNumberedFrom, whole};
+ghost use Rattle.dv_conservative.specs.Sound.{AllLead};
 ghost use Rattle.dv_devs.specs.Network.{trace_before};
 ghost use Rattle.dv_flat.specs.Carried.{arrives_by_links, leaves_by_links};
 ghost use Rattle.dv_plain.specs.Source.{outside, trace_of};
+ghost use Rattle.dv_syntax.specs.Trees.{FileTree};
+ghost use Rattle.dv_time.specs.Time.{end_of};
 ghost use Rattle.dv_tree.specs.Instances.{instances};
-ghost use Rattle.dv_conservative.specs.Flat.{IsNumberedFrom, whole};
-ghost use Rattle.dv_conservative.specs.Sound.{AllLead};
 ghost use Rattle.law_sound.specs.Members.{flat_of};
 
 use law_compiled::laws::the_compiled_model_is_the_model;

@@ -1,8 +1,8 @@
 //! The programs of the texts, and the same with another instruction at an address, for the
 //! validator.
 
-ghost use Rattle.dv_syntax.specs.Trees.{atomic_of};
 ghost use Rattle.dv_gen.specs.ModelCode.{IsCompilable};
+ghost use Rattle.dv_syntax.specs.Trees.{atomic_of};
 
 use crate::taken::{Answers, taken};
 use dv_bag::Discipline;

@@ -9,9 +9,9 @@ ghost use Rattle.dv_core.specs.Conservative.{IsConservative};
 ghost use Rattle.dv_flat.specs.Limit.{link_refusal};
 ghost use Rattle.dv_local.specs.declared.share.Share.{Share};
 ghost use Rattle.dv_local.specs.States.{settled_by, view_by};
-ghost use Rattle.dv_run.specs.Texts.{AreLinksOf};
-ghost use Rattle.dv_record.specs.Told.{settled_of, told_of};
 ghost use Rattle.dv_plan.specs.Beginning.{CanBegin};
+ghost use Rattle.dv_record.specs.Told.{settled_of, told_of};
+ghost use Rattle.dv_run.specs.Texts.{AreLinksOf};
 ghost use Rattle.dv_syntax.specs.Trees.{file_of};
 
 use crate::cases;

@@ -1,8 +1,8 @@
 //! Rules and holds, compared with their programs: those of the texts, and random ones.
 
 ghost use Rattle.std.specs.Prelude.{◌≡◌, ◌<◌};
-ghost use Rattle.dv_syntax.specs.Trees.{atomic_of};
 ghost use Rattle.dv_gen.specs.ModelCode.{IsCompilable};
+ghost use Rattle.dv_syntax.specs.Trees.{atomic_of};
 
 use crate::beside::Endings;
 use crate::rule_texts::random_model;

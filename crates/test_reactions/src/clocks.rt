@@ -1,9 +1,9 @@
 //! Two clocks with a lamp between them.
 
 ghost use Rattle.std.specs.List.{All};
-ghost use Rattle.dv_share.specs.declared.tables.Member.{Member};
 ghost use Rattle.dv_coded.specs.Components.{StandsAmong};
 ghost use Rattle.dv_coded.specs.Models.{TakesState};
+ghost use Rattle.dv_share.specs.declared.tables.Member.{Member};
 
 use dv_bag::{DatumView, Response, RuleError, State};
 use dv_coded::{Bench, Components, Lent, Programs, components_of};

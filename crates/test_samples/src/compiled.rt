@@ -2,9 +2,9 @@
 
 ghost use Rattle.std.specs.Prelude.{◌≡◌, IfOk, IfSome};
 ghost use Rattle.std.specs.List.{All};
-ghost use Rattle.dv_syntax.specs.Trees.{ModelTree, atomic_of, file_of};
 ghost use Rattle.dv_eval.specs.Scope.{scope_of};
 ghost use Rattle.dv_gen.specs.ModelCode.{IsCompilable, IsCompilableModel};
+ghost use Rattle.dv_syntax.specs.Trees.{ModelTree, atomic_of, file_of};
 
 use dv_bag::State;
 use dv_check::{Checked, check};

@@ -6,9 +6,9 @@ ghost use Rattle.dv_bag.specs.Arrivals.{AreFew};
 ghost use Rattle.dv_bag.specs.Bag.{size, total};
 ghost use Rattle.dv_bag.specs.Collections.{count_in};
 ghost use Rattle.dv_bag.specs.Reading.{HoldsFew, datum_of};
+ghost use Rattle.dv_bag.specs.Limits.{greatest_count};
 ghost use Rattle.dv_code.specs.Shape.{Fits};
 ghost use Rattle.test_samples.specs.Fitting.{FitsAt};
-ghost use Rattle.dv_bag.specs.Limits.{greatest_count};
 
 use dv_bag::{
     Bag, Bags, Collection, Datum, DatumView, Discipline, GREATEST_COUNT, Held, Queue, State,
