@@ -60,7 +60,9 @@ impl Set {
     pub(crate) fn remove(&mut self, number: usize)
         requires { number < 64 * length self.old }
         ensures size { length self.new ≡ length self.old }
+        ensures gone { has self.new number ≡ 0 }
         ensures others { (p : ℕ) → p ≢ number → has self.old p ≡ 1 → has self.new p ≡ 1 }
+        ensures fewer { (p : ℕ) → has self.old p ≡ 0 → has self.new p ≡ 0 }
     {
         bits::remove(&mut self.words, number);
         if self.words[number / 64] == 0 {

@@ -209,6 +209,10 @@ impl Wheel {
         ensures room { HasRoom self.new }
         ensures present { self.new.present ≡ self.old.present }
         ensures span { self.new.span ≡ self.old.span }
+        ensures gone { (p : ℕ) (t : Time) → slice_index_or waits.now p None ≡ Some t
+            → has self.new.members (slot t.tick self.old.present * self.old.span + p) ≡ 0 }
+        ensures unused { (p : ℕ) (t : Time) → slice_index_or waits.now p None ≡ Some t
+            → has self.new.used (slot t.tick self.old.present) ≡ 0 }
     {
         for (index, wait) in waits.iter().enumerate() {
             if let Some(time) = *wait {

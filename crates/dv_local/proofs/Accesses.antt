@@ -21,9 +21,8 @@ use Rattle.dv_react.specs.declared.running.Running.{Running}
 use Rattle.dv_react.specs.declared.wait.Wait.{Wait}
 use Rattle.dv_react.specs.declared.wait.Wait.TheVariants.{Until, Forever, Quiet}
 use Rattle.dv_agenda.specs.Waits.{due_at, due_from, ends_at}
-use Rattle.dv_proc.specs.Accesses.{CountsInstant, IsAfterEmission, IsCounted, entries_at, imminent_at, receiving_at}
+use Rattle.dv_proc.specs.Accesses.{CountsEmission, CountsInstant, IsCounted, entries_at, imminent_at, receiving_at}
 use Rattle.dv_proc.specs.Local.{View}
-use Rattle.dv_proc.proofs.Accesses.{same_but_visits}
 use Rattle.dv_share.specs.Commits.{entries_of}
 use Rattle.dv_share.specs.Indices.{indices_of}
 use Rattle.dv_share.specs.Rows.{number_of}
@@ -141,15 +140,11 @@ found_counted due imminent before after few counted = record {
   most = omega (arith, few, counted.most);
 }
 
--- what comes at an instant speaks of no visits
-pub receiving_found : (n j : ℕ) (v x : View) → IsAfterEmission j v x → receiving_at x n ≡ receiving_at v n
-receiving_found n j v x found = ap (λ (y : View). receiving_at y n) (same_but_visits j v x found)
-
 -- the instant at a rank: what is sent is found, and each component that emitted or receives a value is visited
-pub instant_counted : (n visited : ℕ) (v x w : View) → IsAfterEmission n v x → entries_at v n ≤ visited
-    → visited ≤ imminent_at v n + receiving_at v n → IsCounted visited visited x.visits w.visits → CountsInstant n v w
-instant_counted n visited v x w found least most counted = record {
-  never_falls = omega (arith, found.visits.never_falls, counted.never_falls);
-  least = λ low. omega (arith, found.visits.never_falls, counted.least low, least);
-  most = omega (arith, counted.most, most, found.visits.most);
+pub instant_counted : (n visited : ℕ) (v : View) (before mid after : ℕ) → CountsEmission n v before mid → entries_at v n ≤ visited
+    → visited ≤ imminent_at v n + receiving_at v n → IsCounted visited visited mid after → CountsInstant n v before after
+instant_counted n visited v before mid after found least most counted = record {
+  never_falls = omega (arith, found.never_falls, counted.never_falls);
+  least = λ low. omega (arith, found.never_falls, counted.least low, least);
+  most = omega (arith, counted.most, most, found.most);
 }

@@ -94,7 +94,7 @@ module _ {S R : Type 0} (behaviour : S → Behaviour) (fits : S → State → Ty
   n = rank tables.limit now
 
   -- what components committed that reacted to all that comes is the part of the instant, and they are those after it
-  pub took_index : (ss : List Running) (p : PartOf) (visits : ℕ) → IsOfRun tables.limit now
+  pub took_index : (ss : List Running) (p : PartOf) → IsOfRun tables.limit now
       → (outside, ds) ≡ input_at (view_by behaviour told x) n
       → AreComponents fits tables standing → AreEmitted behaviour tables n standing x.emitted.items
       → AreAmong (indices_of x.emitted.items) (indices_of xs) → AreReceived tables.members.items (coming tables x.emitted.items outside ds) xs
@@ -108,9 +108,8 @@ module _ {S R : Type 0} (behaviour : S → Behaviour) (fits : S → State → Ty
         components = components_of tables.limit ss;
         committed = p;
         held = held_by tables.limit (Some now) x.inbox;
-        visits = visits;
       } in v)
-  took_index ss p visits of_run input are emitted among received reacted outer taken =
+  took_index ss p of_run input are emitted among received reacted outer taken =
       let limit = tables.limit in
       let net = network (flat_by behaviour tables) in
       let os = reacted.outcomes in

@@ -1,8 +1,6 @@
 -- What stays where components are visited and none changes, and how many are visited as they react.
-use Rattle.std.proofs.Common.{◌≡◌, ◌∙◌, ℕ, ◌+◌, ◌≤◌, not, List, [], Option, None, Some, Result, length, count_by, ap, ap₂, sym, subst, arith}
+use Rattle.std.proofs.Common.{◌≡◌, ◌∙◌, ℕ, ◌+◌, ◌≤◌, not, List, [], None, Result, length, count_by, ap, sym, subst, arith}
 use Rattle.std.proofs.lemmas.List.{length-map}
-use Rattle.dv_time.specs.Time.{rank}
-use Rattle.dv_time.specs.declared.time.Time.{Time}
 use Rattle.dv_bag.specs.Bag.{Counts}
 use Rattle.dv_bag.specs.Part.{PartOf}
 use Rattle.dv_bag.specs.declared.fault.Fault.{Fault}
@@ -21,34 +19,37 @@ use Rattle.dv_share.proofs.Instants.{received_of}
 use Rattle.dv_share.proofs.Touched.{touched_few}
 use Rattle.dv_local.specs.Components.{ComponentsOf}
 use Rattle.dv_local.specs.Shares.{share_by}
-use Rattle.dv_local.specs.States.{AreEmittedIf, held_by, imminent_of, settled_by, view_by}
+use Rattle.dv_local.specs.States.{held_by, settled_by, view_by}
 use Rattle.dv_local.specs.Undoing.{undone}
 use Rattle.dv_local.specs.declared.state.LocalState.{LocalState}
 
 module _ {S R : Type 0} (behaviour : S → Behaviour) (x : LocalState S R) (cs : ComponentsOf) (same : cs.running ≡ x.components.running) where
+  -- what is seen
+  pub view_visited : (told : R → PartOf) → view_by behaviour told (record x { components = cs }) ≡ view_by behaviour told x
+  view_visited told =
+      ap
+      (λ (rs : List Running).
+      let v : View = record {
+        share = share_by behaviour x.share;
+        components = components_of x.share.tables.limit rs;
+        committed = told x.record;
+        held = held_by x.share.tables.limit x.undo.taken x.inbox;
+      } in v)
+      same
+
   -- what was seen when all was settled
-  pub settled_visited : (settled : R → PartOf) → cs.settled ≡ x.components.settled
-      → settled_by behaviour settled (record x { components = cs }) ≡ settled_by behaviour settled x
-  settled_visited settled count =
-      ap₂
-      (λ (rs : List Running) (visits : ℕ).
+  pub settled_visited : (settled : R → PartOf) → settled_by behaviour settled (record x { components = cs })
+      ≡ settled_by behaviour settled x
+  settled_visited settled =
+      ap
+      (λ (rs : List Running).
       let v : View = record {
         share = share_by behaviour x.share;
         components = components_of x.share.tables.limit (undone x.undo.before rs);
         committed = settled x.record;
         held = held_by x.share.tables.limit None x.inbox;
-        visits = visits;
       } in v)
-      same count
-
-  -- what was emitted at a time
-  pub still_visited : (o : Option Time) → AreEmittedIf behaviour x o → AreEmittedIf behaviour (record x { components = cs }) o
-  still_visited None h = tt
-  still_visited (Some t) h = (
-    h.0,
-    subst (λ (rs : List Running). AreEmitted behaviour x.share.tables (rank x.share.tables.limit t) rs x.emitted.items) (sym same) h.1,
-    subst (λ (rs : List Running). length x.emitted.items ≤ imminent_of x.share.tables.limit t rs) (sym same) h.2,
-  )
+      same
 
 -- no more components react than are imminent or receive a value
 pub received_few : {S R : Type 0} (behaviour : S → Behaviour) (fits : S → State → Type 0) (told : R → PartOf) (x : LocalState S R) (n : ℕ)

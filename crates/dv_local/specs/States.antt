@@ -31,7 +31,6 @@ view_by behaviour told x = record {
   components = components_of x.share.tables.limit x.components.running;
   committed = told x.record;
   held = held_by x.share.tables.limit x.undo.taken x.inbox;
-  visits = x.components.visits;
 }
 
 -- what contracts saw when all was settled
@@ -41,7 +40,6 @@ settled_by behaviour settled x = record {
   components = components_of x.share.tables.limit (undone x.undo.before x.components.running);
   committed = settled x.record;
   held = held_by x.share.tables.limit None x.inbox;
-  visits = x.components.settled;
 }
 
 -- what was sent at the time of the last emission

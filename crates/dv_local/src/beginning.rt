@@ -56,7 +56,7 @@ pub fn begin<A: Atomic + Drop, R: Record>(
     ensures standing { IfOk result (λ p. (l : ℕ) → standing_by p.outgoing.items l ≡ None) }
     ensures promised { IfOk result (λ p. (l : ℕ) → promised_by p.outgoing.items l ≡ first_time) }
     ensures clock { IfOk result (λ p. p.clock ≡ first_time) }
-    ensures visits { IfOk result (λ p. (view_by A.behaviour R.told p.local).visits ≡ 0) }
+    ensures visits { IfOk result (λ p. p.local.components.visits ≡ 0) }
     ensures handed { IfOk result (λ p. R.handed p.local.record ≡ R.handed to) }
 {
     let sources = Vec::from_slice(alloc, share.sources.as_slice())?;

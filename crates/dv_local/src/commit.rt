@@ -1,6 +1,6 @@
 //! How the components react at an instant, and the record is told.
 
-ghost use Rattle.std.specs.Prelude.{◌≡◌, ◌<◌, ◌+◌, ◌++◌, ◌∷◌, [], List, Some, OnErr, OnOk, length, slice_get, slice_set};
+ghost use Rattle.std.specs.Prelude.{◌≡◌, ◌<◌, ◌≤◌, ◌+◌, ◌++◌, ◌∷◌, [], List, Some, OnErr, OnOk, length, slice_get, slice_set};
 ghost use Rattle.dv_bag.specs.Bag.{Counts};
 ghost use Rattle.dv_devs.specs.Network.{entry_of};
 ghost use Rattle.dv_proc.specs.Accesses.{IsCounted};
@@ -66,9 +66,9 @@ pub(crate) fn commit<A: Atomic, R: Record>(
         ≡ undone before.old components.old.running }
     ensures visits { OnOk result (IsCounted (length received.now.items) (length received.now.items)
         components.old.visits components.new.visits) }
+    ensures never_fall { components.old.visits ≤ components.new.visits }
     ensures count { length before.new + length (R.told to.old).entries
         ≡ length before.old + length (R.told to.new).entries }
-    ensures counted { components.new.settled ≡ components.old.settled }
     ensures outer { (R.told to.new).outer ≡ (R.told to.old).outer }
     ensures is_open { IsOpenAt moment.now.instant.now.time (R.told to.new) }
     ensures settled { R.settled to.new ≡ R.settled to.old }
@@ -116,11 +116,9 @@ fn commit_one<A: Atomic, R: Record>(
     ensures within { AreWithin (length components.new.running) before.new }
     ensures before { undone before.new components.new.running
         ≡ undone before.old components.old.running }
-    ensures visits { OnOk result
-        (IsCounted 1 1 components.old.visits components.new.visits) }
+    ensures visits { IsCounted 1 1 components.old.visits components.new.visits }
     ensures count { length before.new + length (R.told to.old).entries
         ≡ length before.old + length (R.told to.new).entries }
-    ensures counted { components.new.settled ≡ components.old.settled }
     ensures outer { (R.told to.new).outer ≡ (R.told to.old).outer }
     ensures is_open { IsOpenAt moment.now.instant.now.time (R.told to.new) }
     ensures settled { R.settled to.new ≡ R.settled to.old }
@@ -157,7 +155,7 @@ fn take_back(components: &mut Components, before: &mut Former)
     ensures back { (xs : List (IndexedOfCode RunningOfCode)) (x : IndexedOfCode RunningOfCode)
         → before.old ≡ xs ++ x ∷ [] → (before.new ≡ xs) × (components.new.running
         ≡ slice_set components.old.running components.old.visited x.what) }
-    ensures settled { components.new.settled ≡ components.old.settled }
+    ensures visits { components.new.visits ≡ components.old.visits }
 {
     if let Some(last) = before.pop() {
         components.replace(last.what);

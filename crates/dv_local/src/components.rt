@@ -17,17 +17,15 @@ use std::alloc::AllocError;
 use std::marker::Model;
 use std::mem;
 
-/// The components by index. A visit goes to one of them and adds one to the count. Only the
-/// component visited last can be read and replaced, so no component is accessed without being
-/// counted.
+/// The components by index. A visit goes to one of them and adds one to the count, which is never
+/// taken back. Only the component visited last can be read and replaced, and `put_back` lets nobody
+/// look at the one that was there. So no component is looked at without being counted.
 #[derive(Drop)]
 pub struct Components {
     running: Vec<Running>,
     // The index that was visited last.
     visited: u32,
     visits: u64,
-    // The count when all was settled.
-    settled: u64,
 }
 
 impl Model for Components {
@@ -39,7 +37,6 @@ impl Model for Components {
       running = c.running.items;
       visited = c.visited;
       visits = c.visits;
-      settled = c.settled;
     } };
 }
 
@@ -48,13 +45,11 @@ impl Components {
     pub fn new(running: Vec<Running>) -> Self
         ensures components { result.running ≡ running.items }
         ensures visits { result.visits ≡ 0 }
-        ensures settled { result.settled ≡ 0 }
     {
         Components {
             running,
             visited: 0,
             visits: 0,
-            settled: 0,
         }
     }
 
@@ -66,7 +61,6 @@ impl Components {
         ensures visited { self.new.visited ≡ index }
         ensures visits { self.new.visits ≡ min (self.old.visits + 1) (2 ^ 64 - 1) }
         ensures never_fall { self.old.visits ≤ self.new.visits }
-        ensures settled { self.new.settled ≡ self.old.settled }
     {
         self.visited = index;
         self.visits = self.visits.saturating_add(1);
@@ -91,9 +85,20 @@ impl Components {
             ≡ slice_set self.old.running self.old.visited component }
         ensures visited { self.new.visited ≡ self.old.visited }
         ensures visits { self.new.visits ≡ self.old.visits }
-        ensures settled { self.new.settled ≡ self.old.settled }
     {
         mem::replace(&mut self.running[self.visited as usize], component)
+    }
+
+    /// Puts a component at an index, as it was before. This is no visit: the one that was there is
+    /// dropped, and nobody looks at it.
+    #[inline]
+    pub fn put_back(&mut self, index: u32, component: Running)
+        requires { index < length self.old.running }
+        ensures components { self.new.running ≡ slice_set self.old.running index component }
+        ensures visited { self.new.visited ≡ self.old.visited }
+        ensures visits { self.new.visits ≡ self.old.visits }
+    {
+        self.running[index as usize] = component;
     }
 
     /// Lets the component that was visited last react in place, and returns what happened, if
@@ -126,7 +131,6 @@ impl Components {
         ensures none { OnErr result (former.new ≡ former.old) }
         ensures visited { self.new.visited ≡ self.old.visited }
         ensures visits { self.new.visits ≡ self.old.visits }
-        ensures settled { self.new.settled ≡ self.old.settled }
     {
         let component = &mut self.running[self.visited as usize];
         former.react_logged(moment, work, component, visit)
@@ -137,23 +141,5 @@ impl Components {
         ensures { result ≡ self.now.visits }
     {
         self.visits
-    }
-
-    /// Settles the count.
-    pub fn settle(&mut self)
-        ensures components { self.new.running ≡ self.old.running }
-        ensures visits { self.new.visits ≡ self.old.visits }
-        ensures settled { self.new.settled ≡ self.old.visits }
-    {
-        self.settled = self.visits;
-    }
-
-    /// Sets the count back to where it was settled.
-    pub fn take_back(&mut self)
-        ensures components { self.new.running ≡ self.old.running }
-        ensures visits { self.new.visits ≡ self.old.settled }
-        ensures settled { self.new.settled ≡ self.old.settled }
-    {
-        self.visits = self.settled;
     }
 }

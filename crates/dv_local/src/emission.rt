@@ -40,7 +40,6 @@ pub(crate) fn emit_all<A: Atomic>(
     ensures visits { OnOk result (IsCounted (length due.now) (length due.now)
         components.old.visits components.new.visits) }
     ensures at_most { IsCounted 0 (length due.now) components.old.visits components.new.visits }
-    ensures settled { components.new.settled ≡ components.old.settled }
 {
     emitted.clear();
     for index in due {

@@ -5,14 +5,15 @@
 //! each component that emitted something or receives a value, in the order of their indices. The
 //! component reacts in place, and the record is told at once what happened. So no list of entries
 //! or of next components is made, and if there are several processes, each line is made by the
-//! process that commits it, on its own thread. Visits are counted, and `Components` gives access
-//! only to the component visited last, so the count bounds how many components are looked at.
+//! process that commits it, on its own thread. Visits are counted, and `Components` lets nobody
+//! look at a component but the one visited last, so the count bounds how many components are looked
+//! at. No call lowers it.
 //!
-//! A turn that runs out of memory is taken back whole. Before a component reacts it is copied to
-//! the undo log (`Former`). `roll_back` puts the copies back, the last one first, and lets the
-//! record take back what it was told, without memory. What was committed is settled after each
-//! successful turn. Then the copies are discarded, and the arrivals of the committed time are
-//! removed from the inbox; before that they are only left out.
+//! A turn that runs out of memory is taken back whole, but for the count of visits. Before a
+//! component reacts it is copied to the undo log (`Former`). `roll_back` puts the copies back, the
+//! last one first, and lets the record take back what it was told, without memory. What was
+//! committed is settled after each successful turn. Then the copies are discarded, and the arrivals
+//! of the committed time are removed from the inbox; before that they are only left out.
 //!
 //! Lists that are filled at each instant keep their memory: the indices of imminent components,
 //! what they emitted, deliveries, and the bags by index. The lists of what was emitted and of the

@@ -59,6 +59,8 @@ impl<A: Atomic + Drop, R: Record> Local for LocalRun<A, R> {
 
     ghost handed = { λ r. R.handed r.record };
 
+    ghost visits = { λ r. r.components.visits };
+
     fn frame(&self) -> Frame {
         self.state.frame()
     }

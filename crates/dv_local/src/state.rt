@@ -9,7 +9,7 @@ ghost use Rattle.dv_conservative.specs.Process.{Outgoing, end_rank, is_port_of};
 ghost use Rattle.dv_devs.specs.Cuts.{IsAllBefore};
 ghost use Rattle.dv_devs.specs.NextTimes.{least_next};
 ghost use Rattle.dv_proc.specs.Foreseeing.{IsOfHold, IsOfRunIf, rank_if};
-ghost use Rattle.dv_proc.specs.Accesses.{CountsInstant, IsAfterEmission};
+ghost use Rattle.dv_proc.specs.Accesses.{CountsEmission, CountsInstant};
 ghost use Rattle.dv_proc.specs.Local.{IsAfterEvents, IsAfterInstant, IsFirstInput, are_for_ports, carried_away, sent_at};
 ghost use Rattle.dv_proc.specs.Packets.{meant_events};
 ghost use Rattle.dv_react.specs.Components.{components_of};
@@ -97,7 +97,7 @@ impl<A: Atomic + Drop, R: Record> LocalState<A, R> {
             ≡ components_of share.tables.limit running.items) }
         ensures committed { IfOk result (λ x. (view_by A.behaviour R.told x).committed ≡ nothing) }
         ensures held { IfOk result (λ x. (n : ℕ) → (view_by A.behaviour R.told x).held n ≡ []) }
-        ensures visits { IfOk result (λ x. (view_by A.behaviour R.told x).visits ≡ 0) }
+        ensures visits { IfOk result (λ x. x.components.visits ≡ 0) }
         ensures settled { IfOk result (λ x. settled_by A.behaviour R.settled x
             ≡ view_by A.behaviour R.told x) }
         ensures record { IfOk result (λ x. x.record ≡ to) }
@@ -207,6 +207,7 @@ impl<A: Atomic, R: Record> LocalState<A, R> {
             ≡ view_by A.behaviour R.told self.old) }
         ensures settled { settled_by A.behaviour R.settled self.new
             ≡ view_by A.behaviour R.told self.new }
+        ensures visits { self.new.components.visits ≡ self.old.components.visits }
         ensures handed { R.handed self.new.record ≡ R.handed self.old.record }
     {
         self.settle();
@@ -230,8 +231,12 @@ impl<A: Atomic, R: Record> LocalState<A, R> {
         ensures sent { OnOk result (sent_of self.new
             ≡ sent_at (view_by A.behaviour R.told self.old)
             (rank (view_by A.behaviour R.told self.old).share.limit now)) }
-        ensures found { IsAfterEmission (rank (view_by A.behaviour R.told self.old).share.limit now)
-            (view_by A.behaviour R.told self.old) (view_by A.behaviour R.told self.new) }
+        ensures view { view_by A.behaviour R.told self.new ≡ view_by A.behaviour R.told self.old }
+        ensures visits { CountsEmission
+            (rank (view_by A.behaviour R.told self.old).share.limit now)
+            (view_by A.behaviour R.told self.old)
+            self.old.components.visits self.new.components.visits }
+        ensures never_fall { self.old.components.visits ≤ self.new.components.visits }
         ensures settled { settled_by A.behaviour R.settled self.new
             ≡ settled_by A.behaviour R.settled self.old }
         ensures at_rest { IsAtRest R.told R.settled self.old → IsAtRest R.told R.settled self.new }
@@ -287,7 +292,9 @@ impl<A: Atomic, R: Record> LocalState<A, R> {
             (view_by A.behaviour R.told self.old) (view_by A.behaviour R.told self.new)) }
         ensures visits { OnOk result (CountsInstant
             (rank (view_by A.behaviour R.told self.old).share.limit now)
-            (view_by A.behaviour R.told self.old) (view_by A.behaviour R.told self.new)) }
+            (view_by A.behaviour R.told self.old)
+            self.old.components.visits self.new.components.visits) }
+        ensures never_fall { self.old.components.visits ≤ self.new.components.visits }
         ensures settled { settled_by A.behaviour R.settled self.new
             ≡ settled_by A.behaviour R.settled self.old }
         ensures handed { R.handed self.new.record ≡ R.handed self.old.record }
@@ -371,16 +378,16 @@ impl<A: Atomic, R: Record> LocalState<A, R> {
         ensures settled { settled_by A.behaviour R.settled self.new
             ≡ view_by A.behaviour R.told self.old }
         ensures at_rest { IsAtRest R.told R.settled self.new }
+        ensures visits { self.new.components.visits ≡ self.old.components.visits }
         ensures handed { R.handed self.new.record ≡ R.handed self.old.record }
     {
         let_go(&mut self.inbox, self.undo.taken);
         self.undo.taken = None;
         self.undo.before.clear();
         self.record.settle();
-        self.components.settle();
     }
 
-    /// Takes back all changes since the last `settle`.
+    /// Takes back all changes since the last `settle`, but no count of visits.
     pub fn roll_back(&mut self)
         requires { IsKept A.behaviour A.fits A.comes self.old }
         ensures kept { IsKept A.behaviour A.fits A.comes self.new }
@@ -388,6 +395,7 @@ impl<A: Atomic, R: Record> LocalState<A, R> {
             ≡ settled_by A.behaviour R.settled self.old }
         ensures settled { settled_by A.behaviour R.settled self.new
             ≡ settled_by A.behaviour R.settled self.old }
+        ensures visits { self.new.components.visits ≡ self.old.components.visits }
         ensures handed { R.handed self.new.record ≡ R.handed self.old.record }
     {
         put_all_back(
@@ -409,6 +417,7 @@ impl<A: Atomic, R: Record> LocalState<A, R> {
         ensures view { view_by A.behaviour R.told self.new ≡ view_by A.behaviour R.told self.old }
         ensures settled { settled_by A.behaviour R.settled self.new
             ≡ settled_by A.behaviour R.settled self.old }
+        ensures visits { self.new.components.visits ≡ self.old.components.visits }
         ensures handed { R.handed self.new.record ≡ record (R.handed self.old.record) {
           text = (R.handed self.old.record).text_of (R.told self.old.record);
         } }
@@ -439,6 +448,7 @@ impl<A: Atomic, R: Record> LocalState<A, R> {
         ensures view { view_by A.behaviour R.told self.new ≡ view_by A.behaviour R.told self.old }
         ensures settled { settled_by A.behaviour R.settled self.new
             ≡ settled_by A.behaviour R.settled self.old }
+        ensures visits { self.new.components.visits ≡ self.old.components.visits }
         ensures part { R.told self.old.record ≡ joined (R.handed self.old.record).past result }
         ensures handed { R.handed self.new.record ≡ record (R.handed self.old.record) {
           past = R.told self.old.record;

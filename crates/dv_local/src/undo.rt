@@ -1,6 +1,6 @@
 //! How changes are taken back.
 
-ghost use Rattle.std.specs.Prelude.{◌≡◌, ◌<◌, ◌≤◌, ◌+◌, ◌-◌, ◌^◌, [], IfOk, length, slice_set};
+ghost use Rattle.std.specs.Prelude.{◌≡◌, ◌<◌, ◌≤◌, ◌+◌, ◌-◌, ◌^◌, [], IfOk, length};
 ghost use Rattle.dv_time.specs.declared.time.Time.{Time as TimeOfCode};
 ghost use Rattle.dv_local.specs.Arrivals.{arrivals_at};
 ghost use Rattle.dv_local.specs.Undoing.{AreWithin, arrivals_but, time_of_wait, undone, waits_of};
@@ -14,7 +14,7 @@ use dv_time::Time;
 use std::alloc::{AllocError, Global};
 
 /// What is needed to take back the changes since all was settled. What was told since then is known
-/// to the record, and the count of visits to the components.
+/// to the record. The count of visits is never taken back.
 #[derive(Drop)]
 pub struct Undo {
     /// The components that changed, as they were.
@@ -42,34 +42,21 @@ pub(crate) fn let_go(inbox: &mut Inbox, taken: Option<Time>)
     }
 }
 
-/// Puts all components in the log back, the last one first, and sets the count of visits back. It
+/// Puts all components in the log back, the last one first. No visit is counted or taken back. It
 /// needs no memory.
 pub(crate) fn put_all_back(components: &mut Components, agenda: &mut Agenda, before: &mut Former)
     requires within { AreWithin (length components.old.running) before.old }
     requires agenda { agenda.old ≡ waits_of components.old.running }
     ensures components { components.new.running
         ≡ undone before.old components.old.running }
-    ensures visits { components.new.visits ≡ components.old.settled }
-    ensures settled { components.new.settled ≡ components.old.settled }
+    ensures visits { components.new.visits ≡ components.old.visits }
     ensures agenda { agenda.new ≡ waits_of components.new.running }
     ensures empty { before.new ≡ [] }
 {
     while let Some(last) = before.pop() {
         agenda.set(last.index, time_of(last.what.wait));
-        put_back(components, last.index, last.what);
+        components.put_back(last.index, last.what);
     }
-    components.take_back();
-}
-
-// Puts a component back at its index.
-fn put_back(components: &mut Components, index: u32, component: Running)
-    requires { index < length components.old.running }
-    ensures components { components.new.running
-        ≡ slice_set components.old.running index component }
-    ensures settled { components.new.settled ≡ components.old.settled }
-{
-    components.visit(index);
-    components.replace(component);
 }
 
 /// The agenda of components: the next time of each.

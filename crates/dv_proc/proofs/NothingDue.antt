@@ -115,22 +115,23 @@ at_most_both true false x y = omega arith
 at_most_both false b x y = omega arith
 
 -- a turn over two ranks at which no component is looked at leaves the visits as they were
-pub visits_stay : (k n : ℕ) (v w : View) → CountsTurn k n v w → accesses_at v k ≡ 0 → accesses_at w n ≡ 0 → w.visits ≡ v.visits
-visits_stay k n v w counted here there =
+pub visits_stay : (k n : ℕ) (v w : View) (before after : ℕ) → CountsTurn k n v w before after → accesses_at v k ≡ 0 →
+    accesses_at w n ≡ 0 → after ≡ before
+visits_stay k n v w before after counted here there =
     let most : accesses_between k n v w ≤ accesses_at v k + accesses_at w n =
     at_most_both (nat_lt k n) (nat_lt n (end_rank w.share)) (accesses_at v k) (accesses_at w n) in
     omega (arith, most, counted.most, counted.never_falls, here, there)
 
 -- a turn at which nothing is due leaves the visits as they were
-pub still_unseen : (v w : View) (is js : List Incoming) (os ps : List Outgoing) (clock now : Time) → IsProcess v is os clock →
-    IsProcess w js ps now → w.share ≡ v.share → js ≡ is →
-    CountsTurn (rank v.share.limit clock) (rank v.share.limit now) v w →
+pub still_unseen : (v w : View) (before after : ℕ) (is js : List Incoming) (os ps : List Outgoing) (clock now : Time) →
+    IsProcess v is os clock → IsProcess w js ps now → w.share ≡ v.share → js ≡ is →
+    CountsTurn (rank v.share.limit clock) (rank v.share.limit now) v w before after →
     ¬ IsDue v.share (received_by is) (rank v.share.limit clock) → ¬ IsDue v.share (received_by is) (rank v.share.limit now) →
-    w.visits ≡ v.visits
-still_unseen v w is js os ps clock now process after share same counted here there =
+    after ≡ before
+still_unseen v w before after is js os ps clock now process moved share same counted here there =
     let idle : ¬ IsDue w.share (received_by js) (rank w.share.limit now) =
     subst (λ (s : Share). ¬ IsDue s (received_by js) (rank s.limit now)) (sym share)
     (subst (λ (ks : List Incoming). ¬ IsDue v.share (received_by ks) (rank v.share.limit now)) (sym same) there) in
     let none : accesses_at w (rank v.share.limit now) ≡ 0 =
-    ap (λ (s : Share). accesses_at w (rank s.limit now)) (sym share) ∙ none_seen w js ps now after idle in
-    visits_stay (rank v.share.limit clock) (rank v.share.limit now) v w counted (none_seen v is os clock process here) none
+    ap (λ (s : Share). accesses_at w (rank s.limit now)) (sym share) ∙ none_seen w js ps now moved idle in
+    visits_stay (rank v.share.limit clock) (rank v.share.limit now) v w before after counted (none_seen v is os clock process here) none

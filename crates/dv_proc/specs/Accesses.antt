@@ -1,5 +1,6 @@
--- Visits of components: one as a component emits, and one as it reacts. They are counted by what keeps the components.
-use Rattle.std.specs.Prelude.{◌≡◌, ℕ, ◌+◌, ◌-◌, ◌*◌, ◌^◌, ◌<◌, ◌≤◌, not, if◌then◌else◌, nat_lt, List, length, count_by}
+-- Visits of components: one as a component emits, and one as it reacts. What keeps the components counts them. The count is no part
+-- of the view, since it is never taken back: here it stands beside the views, as it was before and as it is after.
+use Rattle.std.specs.Prelude.{ℕ, ◌+◌, ◌-◌, ◌*◌, ◌^◌, ◌<◌, ◌≤◌, not, if◌then◌else◌, nat_lt, List, length, count_by}
 use Rattle.dv_bag.specs.Bag.{Counts}
 use Rattle.dv_devs.specs.Behaviour.{all_empty, is_imminent}
 use Rattle.dv_devs.specs.Network.{part_of_instant}
@@ -31,34 +32,28 @@ pub record IsCounted (low high before after : ℕ) : Type 0 where
   pub least : after < 2 ^ 64 - 1 → before + low ≤ after
   pub most : after ≤ before + high
 
--- what the components send was found: all stays but the visits, which rise by the number of imminent components at most
-pub record IsAfterEmission (n : ℕ) (before after : View) : Type 0 where
-  pub share : after.share ≡ before.share
-  pub components : after.components ≡ before.components
-  pub committed : after.committed ≡ before.committed
-  pub held : after.held ≡ before.held
-  pub visits : IsCounted 0 (imminent_at before n) before.visits after.visits
+-- the visits count what is sent at a rank: at most one for each imminent component
+abbrev pub CountsEmission : ℕ → View → (before after : ℕ) → Type 0
+CountsEmission n v before after = IsCounted 0 (imminent_at v n) before after
 
--- the visits count the instant at a rank
-abbrev pub CountsInstant : ℕ → View → View → Type 0
-CountsInstant n before after = IsCounted (entries_at before n) (accesses_at before n) before.visits after.visits
+-- the visits count the instant at a rank of a view
+abbrev pub CountsInstant : ℕ → View → (before after : ℕ) → Type 0
+CountsInstant n v before after = IsCounted (entries_at v n) (accesses_at v n) before after
 
 -- the accesses of the instant at a rank, unless the run ends there
 abbrev pub accesses_before_end : View → ℕ → ℕ
 accesses_before_end v n = if nat_lt n (end_rank v.share) then accesses_at v n else 0
 
--- the visits count the instant at a rank that is committed, and at a later one what is sent
-abbrev pub CountsStep : (k n : ℕ) → View → View → Type 0
-CountsStep k n before after =
-    IsCounted (entries_at before k) (accesses_at before k + accesses_before_end after n) before.visits after.visits
+-- The visits count the instant at a rank that is committed, from one view to another, and at a later rank what is sent.
+abbrev pub CountsStep : (k n : ℕ) → View → View → (before after : ℕ) → Type 0
+CountsStep k n v w before after = IsCounted (entries_at v k) (accesses_at v k + accesses_before_end w n) before after
 
 -- the accesses of a turn from one rank to another: none where the clock stays
 abbrev pub accesses_between : (k n : ℕ) → View → View → ℕ
-accesses_between k n before after = if nat_lt k n then accesses_at before k + accesses_before_end after n else 0
+accesses_between k n v w = if nat_lt k n then accesses_at v k + accesses_before_end w n else 0
 
 -- The visits count a turn from one rank to another: the entries that it commits at least, and at most the accesses of the
 -- instant that it commits and of the one whose output it computes.
-abbrev pub CountsTurn : (k n : ℕ) → View → View → Type 0
-CountsTurn k n before after =
-    IsCounted (length after.committed.entries - length before.committed.entries) (accesses_between k n before after)
-    before.visits after.visits
+abbrev pub CountsTurn : (k n : ℕ) → View → View → (before after : ℕ) → Type 0
+CountsTurn k n v w before after =
+    IsCounted (length w.committed.entries - length v.committed.entries) (accesses_between k n v w) before after

@@ -1,5 +1,4 @@
--- The state of a local run: the components of a share, what was committed, what came and is not committed, and how many visits of
--- components were counted.
+-- The state of a local run: the components of a share, what was committed, and what came and is not committed.
 use Rattle.std.specs.Prelude.{◌≡◌, ℕ, ◌<◌, ◌≤◌, Bool, true, false, not, List, ◌++◌, Option, Some, None}
 use Rattle.dv_time.specs.Time.{IsOfRun, rank}
 use Rattle.dv_time.specs.declared.time.Time.{Time}
@@ -14,14 +13,12 @@ use Rattle.dv_conservative.specs.Links.{Delivery, Link, carried, delivered, sent
 use Rattle.dv_conservative.specs.Process.{Share, all_events, components_by, is_port_of, part_by}
 use Rattle.std.specs.List.{list_all}
 
--- the share, its components, what they committed, at each rank what came for them and is not committed, in any order, and the count
--- of visits
+-- the share, its components, what they committed, and at each rank what came for them and is not committed, in any order
 pub record View : Type 0 where
   pub share : Share
   pub components : List Component
   pub committed : PartOf
   pub held : ℕ → List Delivery
-  pub visits : ℕ
 
 -- what comes at a rank, from outside and of what is held
 abbrev pub input_at : View → ℕ → List Counts × List Delivery
@@ -57,7 +54,6 @@ pub record IsAfterEvents (events : List Event) (before after : View) : Type 0 wh
   pub components : after.components ≡ before.components
   pub committed : after.committed ≡ before.committed
   pub held : (n : ℕ) → DeliverAlike (after.held n) (before.held n ++ deliveries_at before.share.limit events n)
-  pub visits : after.visits ≡ before.visits
 
 -- what the components send at a rank
 abbrev pub sent_at : View → ℕ → List (List Counts)

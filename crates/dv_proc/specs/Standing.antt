@@ -50,11 +50,9 @@ pub record IsAccepted (s : Share) (incoming : List Incoming) (p : Packet) (index
   pub of_run : IsOfRun s.limit p.upto
   pub ports : are_for_ports s p.events ≡ true
 
--- A local run as it begins: the components start, nothing is committed or held, no component is imminent at 0.0, and no visit
--- was counted.
+-- A local run as it begins: the components start, nothing is committed or held, and no component is imminent at 0.0.
 pub record IsBegun (v : View) : Type 0 where
   pub components : v.components ≡ (network v.share.flat).start
   pub committed : v.committed ≡ nothing
   pub held : (n : ℕ) → DeliverAlike (v.held n) []
   pub later : IsFrom 1 (least_next v.components)
-  pub visits : v.visits ≡ 0

@@ -91,7 +91,8 @@ pub fn advance<L: Local>(
         (rank frame.now.limit least) (L.view local.old) (L.view local.new)
         (rank frame.now.limit now)) }
     ensures visits { IfOk result (λ _. CountsInstant (rank frame.now.limit clock)
-        (L.view local.old) (L.view local.new)) }
+        (L.view local.old) (L.visits local.old) (L.visits local.new)) }
+    ensures never_fall { L.visits local.old ≤ L.visits local.new }
     ensures of_run { IfOk result (λ now. IsOfRun frame.now.limit now) }
     ensures settled { L.settled local.new ≡ L.settled local.old }
     ensures handed { L.handed local.new ≡ L.handed local.old }
@@ -128,7 +129,9 @@ pub fn step<L: Local>(
         (rank frame.now.limit least) (L.view local.old) (L.view local.new)
         (rank frame.now.limit now)) }
     ensures visits { IfOk result (λ now. CountsStep (rank frame.now.limit clock)
-        (rank frame.now.limit now) (L.view local.old) (L.view local.new)) }
+        (rank frame.now.limit now) (L.view local.old) (L.view local.new)
+        (L.visits local.old) (L.visits local.new)) }
+    ensures never_fall { L.visits local.old ≤ L.visits local.new }
     ensures of_run { IfOk result (λ now. IsOfRun frame.now.limit now) }
     ensures fresh { IfOk result (λ now.
         nat_lt (rank frame.now.limit now) (end_of frame.now.limit frame.now.horizon) ≡ true

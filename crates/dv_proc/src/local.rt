@@ -1,6 +1,6 @@
 //! What a process asks of its components.
 
-ghost use Rattle.std.specs.Prelude.{◌≡◌, ◌<◌, ◌++◌, OnErr, OnOk, List, Some, map, slice_get, true};
+ghost use Rattle.std.specs.Prelude.{◌≡◌, ◌<◌, ◌≤◌, ◌++◌, ℕ, OnErr, OnOk, List, Some, map, slice_get, true};
 ghost use Rattle.dv_bag.specs.Bag.{Counts};
 ghost use Rattle.dv_bag.specs.Part.{joined};
 ghost use Rattle.dv_bag.specs.Responses.{ticks_of};
@@ -12,7 +12,7 @@ ghost use Rattle.dv_record.specs.Told.{Handed};
 ghost use Rattle.dv_time.specs.Time.{IsOfRun, rank};
 ghost use Rattle.dv_written.specs.Rest.{rest_length};
 ghost use Rattle.dv_proc.specs.Foreseeing.{IsOfHold, IsOfRunIf, rank_if};
-ghost use Rattle.dv_proc.specs.Accesses.{CountsInstant, IsAfterEmission};
+ghost use Rattle.dv_proc.specs.Accesses.{CountsEmission, CountsInstant};
 ghost use Rattle.dv_proc.specs.Local.{IsAfterEvents, IsAfterInstant, IsFirstInput, View, are_for_ports, carried_away, sent_at};
 ghost use Rattle.dv_proc.specs.Packets.{meant_events};
 
@@ -46,6 +46,9 @@ pub trait Local {
     /// How the record writes what it is told, and what of that was handed over.
     ghost handed: { Self → Handed };
 
+    /// How many visits of components were counted. This is never taken back.
+    ghost visits: { Self → ℕ };
+
     /// The frame of the run.
     fn frame(&self) -> Frame
         ensures limit { result.limit ≡ (view self.now).share.limit }
@@ -72,6 +75,7 @@ pub trait Local {
             (IsAfterEvents (meant_events events.now) (view self.old) (view self.new)) }
         ensures err { OnErr result (view self.new ≡ view self.old) }
         ensures settled { settled self.new ≡ view self.new }
+        ensures visits { visits self.new ≡ visits self.old }
         ensures handed { handed self.new ≡ handed self.old };
 
     /// The least of the components' next times.
@@ -91,7 +95,7 @@ pub trait Local {
     ///
     /// # Errors
     ///
-    /// No memory. `roll_back` is to be called.
+    /// No memory. `roll_back` is to be called. Some of the visits may have been counted.
     fn react(&mut self, work: &mut Self::Work, now: Time) -> Result<(), AllocError>
         requires settled { settled self.old ≡ view self.old }
         requires of_run { IsOfRun (view self.old).share.limit now }
@@ -101,7 +105,9 @@ pub trait Local {
         ensures reacted { OnOk result (IsAfterInstant
             (rank (view self.old).share.limit now) (view self.old) (view self.new)) }
         ensures visits { OnOk result (CountsInstant
-            (rank (view self.old).share.limit now) (view self.old) (view self.new)) }
+            (rank (view self.old).share.limit now) (view self.old)
+            (visits self.old) (visits self.new)) }
+        ensures never_fall { visits self.old ≤ visits self.new }
         ensures settled { settled self.new ≡ settled self.old }
         ensures handed { handed self.new ≡ handed self.old };
 
@@ -110,15 +116,17 @@ pub trait Local {
     ///
     /// # Errors
     ///
-    /// No memory. `roll_back` is to be called.
+    /// No memory. `roll_back` is to be called. Some of the visits may have been counted.
     fn emit(&mut self, work: &mut Self::Work, now: Time) -> Result<(), AllocError>
         requires of_run { IsOfRun (view self.old).share.limit now }
         requires before_end { rank (view self.old).share.limit now
             < end_rank (view self.old).share }
         ensures sent { OnOk result (sent self.new
             ≡ sent_at (view self.old) (rank (view self.old).share.limit now)) }
-        ensures found { OnOk result (IsAfterEmission
-            (rank (view self.old).share.limit now) (view self.old) (view self.new)) }
+        ensures view { view self.new ≡ view self.old }
+        ensures visits { CountsEmission (rank (view self.old).share.limit now) (view self.old)
+            (visits self.old) (visits self.new) }
+        ensures never_fall { visits self.old ≤ visits self.new }
         ensures settled { settled self.new ≡ settled self.old }
         ensures handed { handed self.new ≡ handed self.old };
 
@@ -136,7 +144,7 @@ pub trait Local {
 
     /// How many visits of components were counted. The count stays at 2^64 - 1 once there.
     fn visits(&self) -> u64
-        ensures { result ≡ (view self.now).visits };
+        ensures { result ≡ visits self.now };
 
     /// The record, which was told what the components committed.
     fn record(&self) -> &Self::Record
@@ -151,12 +159,14 @@ pub trait Local {
     fn settle(&mut self)
         ensures view { view self.new ≡ view self.old }
         ensures settled { settled self.new ≡ view self.old }
+        ensures visits { visits self.new ≡ visits self.old }
         ensures handed { handed self.new ≡ handed self.old };
 
-    /// Takes back all changes since the last `settle`.
+    /// Takes back all changes since the last `settle`, but no count of visits.
     fn roll_back(&mut self)
         ensures view { view self.new ≡ settled self.old }
         ensures settled { settled self.new ≡ settled self.old }
+        ensures visits { visits self.new ≡ visits self.old }
         ensures handed { handed self.new ≡ handed self.old };
 
     /// Discards the bytes of the record, which were handed over. All has to be settled.
@@ -164,6 +174,7 @@ pub trait Local {
         requires { settled self.old ≡ view self.old }
         ensures view { view self.new ≡ view self.old }
         ensures settled { settled self.new ≡ settled self.old }
+        ensures visits { visits self.new ≡ visits self.old }
         ensures handed { handed self.new ≡ record (handed self.old) {
           text = (handed self.old).text_of (view self.old).committed;
         } };
@@ -181,6 +192,7 @@ pub trait LocalHandsOver<N: OfJob>: Local {
         requires { Self.settled self.old ≡ Self.view self.old }
         ensures view { Self.view self.new ≡ Self.view self.old }
         ensures settled { Self.settled self.new ≡ Self.settled self.old }
+        ensures visits { Self.visits self.new ≡ Self.visits self.old }
         ensures part { (Self.view self.old).committed
             ≡ joined (Self.handed self.old).past result }
         ensures handed { Self.handed self.new

@@ -75,6 +75,7 @@ impl<L: Local> Process<L> {
         L: Drop,
         requires settled { L.settled local ≡ L.view local }
         requires begun { IsBegun (L.view local) }
+        requires unvisited { L.visits local ≡ 0 }
         requires sound { (fits : ℕ → State → Bool) × IsSoundShare fits (L.view local).share }
         requires linked { (L.view local).share.incoming ≡ incoming.now }
         requires away { map (λ (o : OutgoingAsMeant). o.number) (L.view local).share.outgoing
@@ -90,7 +91,7 @@ impl<L: Local> Process<L> {
         ensures promised { IfOk result (λ p. (l : ℕ) → promised_by p.outgoing.items l
             ≡ first_time) }
         ensures clock { IfOk result (λ p. p.clock ≡ first_time) }
-        ensures visits { IfOk result (λ p. (L.view p.local).visits ≡ 0) }
+        ensures visits { IfOk result (λ p. L.visits p.local ≡ 0) }
     {
         let incoming = new_incoming(alloc, incoming)?;
         let outgoing = new_outgoing(alloc, outgoing)?;
@@ -143,11 +144,11 @@ impl<L: Local> Process<L> {
     /// How many visits of components were counted, 0 in a new process. A turn raises it by at least
     /// the number of entries that it commits, and by at most twice the number of imminent
     /// components, plus the number of components that receive a value, counted over the instants
-    /// that it emits or commits. A turn at which nothing is due leaves it as it was; a turn that
-    /// fails takes back what it added. The count stays at 2^64 - 1 once there, and then the bounds
-    /// no longer hold.
+    /// that it emits or commits. A turn at which nothing is due leaves it as it was. The count is
+    /// never taken back: a turn that fails keeps what it added. The count stays at 2^64 - 1 once
+    /// there, and then the lower bound no longer holds.
     pub fn visits(&self) -> u64
-        ensures { result ≡ (L.view self.now.local).visits }
+        ensures { result ≡ L.visits self.now.local }
     {
         self.local.visits()
     }
@@ -169,6 +170,7 @@ impl<L: Local> Process<L> {
             self.new.incoming.items self.new.outgoing.items self.new.clock }
         ensures settled { L.settled self.new.local ≡ L.view self.new.local }
         ensures view { L.view self.new.local ≡ L.view self.old.local }
+        ensures visits { L.visits self.new.local ≡ L.visits self.old.local }
         ensures incoming { self.new.incoming ≡ self.old.incoming }
         ensures outgoing { self.new.outgoing ≡ self.old.outgoing }
         ensures clock { self.new.clock ≡ self.old.clock }
@@ -221,7 +223,7 @@ impl<L: Local> Process<L> {
         ensures share { (L.view self.new.local).share ≡ (L.view self.old.local).share }
         ensures committed { (L.view self.new.local).committed
             ≡ (L.view self.old.local).committed }
-        ensures visits { (L.view self.new.local).visits ≡ (L.view self.old.local).visits }
+        ensures visits { L.visits self.new.local ≡ L.visits self.old.local }
         ensures clock { self.new.clock ≡ self.old.clock }
         ensures outgoing { self.new.outgoing ≡ self.old.outgoing }
         ensures handed { L.handed self.new.local ≡ L.handed self.old.local }
@@ -247,7 +249,7 @@ impl<L: Local> Process<L> {
     ///
     /// # Errors
     ///
-    /// No memory. Nothing that contracts see has changed.
+    /// No memory. Nothing that contracts see has changed, but for the count of visits.
     pub fn turn(&mut self, work: &mut L::Work) -> Result<Turned, AllocError>
         requires process { IsProcess (L.view self.old.local)
             self.old.incoming.items self.old.outgoing.items self.old.clock }
@@ -274,15 +276,15 @@ impl<L: Local> Process<L> {
         ensures visits { OnOk result (CountsTurn
             (rank (L.view self.old.local).share.limit self.old.clock)
             (rank (L.view self.old.local).share.limit self.new.clock)
-            (L.view self.old.local) (L.view self.new.local)) }
+            (L.view self.old.local) (L.view self.new.local)
+            (L.visits self.old.local) (L.visits self.new.local)) }
         ensures visits_stay { OnOk result (¬ IsDue (L.view self.old.local).share
             (received_by self.old.incoming.items)
             (rank (L.view self.old.local).share.limit self.old.clock)
             → ¬ IsDue (L.view self.old.local).share (received_by self.old.incoming.items)
             (rank (L.view self.old.local).share.limit self.new.clock)
-            → (L.view self.new.local).visits ≡ (L.view self.old.local).visits) }
-        ensures visits_never_fall { (L.view self.old.local).visits
-            ≤ (L.view self.new.local).visits }
+            → L.visits self.new.local ≡ L.visits self.old.local) }
+        ensures visits_never_fall { L.visits self.old.local ≤ L.visits self.new.local }
         ensures incoming { self.new.incoming ≡ self.old.incoming }
         ensures handed { L.handed self.new.local ≡ L.handed self.old.local }
     {
@@ -402,6 +404,7 @@ impl<L: Local> Process<L> {
             self.new.incoming.items self.new.outgoing.items self.new.clock }
         ensures settled { L.settled self.new.local ≡ L.view self.new.local }
         ensures view { L.view self.new.local ≡ L.view self.old.local }
+        ensures visits { L.visits self.new.local ≡ L.visits self.old.local }
         ensures incoming { self.new.incoming ≡ self.old.incoming }
         ensures outgoing { self.new.outgoing ≡ self.old.outgoing }
         ensures clock { self.new.clock ≡ self.old.clock }

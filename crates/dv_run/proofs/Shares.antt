@@ -43,7 +43,7 @@ Begins =
     (f : FileTree) (inputs : List Input) (limit horizon processes p : ℕ) (owner : ℕ → ℕ) (v : View)
     → v.share ≡ share_of (job_of limit horizon f inputs processes owner) p
     → v.components ≡ (network v.share.flat).start → v.committed ≡ nothing
-    → ((n : ℕ) → DeliverAlike (v.held n) []) → v.visits ≡ 0 → IsBegun v
+    → ((n : ℕ) → DeliverAlike (v.held n) []) → IsBegun v
 
 abbrev pub ApartIn : Type 0
 ApartIn = (job : Job) (p : ℕ) → AreApart (share_of job p).incoming
@@ -78,11 +78,11 @@ module _ (names : List (List ℕ)) (f : FileTree) (inputs : List Input) (horizon
         subst (IsSoundShare (fits_number (instances f))) (sym its.alike.same) made
 
     abbrev start : View
-    start = record { share = there; components = (network there.flat).start; committed = nothing; held = λ n. []; visits = 0 }
+    start = record { share = there; components = (network there.flat).start; committed = nothing; held = λ n. [] }
 
     later : IsFrom 1 (least_next (components_of s.tables.limit (starts_of s.tables.members.items)))
     later =
-        let h = begins f inputs limit horizon processes p owner start refl refl refl (λ n k port bag. refl) refl in
+        let h = begins f inputs limit horizon processes p owner start refl refl refl (λ n k port bag. refl) in
         let at : IsFrom 1 (least_next (network here.flat).start) =
         subst (λ (x : Flat). IsFrom 1 (least_next (network x).start)) (sym flat_is) h.later in
         subst (λ (cs : List Component). IsFrom 1 (least_next cs))

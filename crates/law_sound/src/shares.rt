@@ -21,8 +21,8 @@ use dv_devs::laws::runs::holds_end_later;
 
 /// A process of a text is sound: the states of its components fit them and hold numbers, and
 /// numbers come from outside. If its components are in their start states, and nothing was
-/// committed, received or counted, the process has begun correctly, since no hold of a start state
-/// ends at 0.0. The links to a process have different numbers, and so have those from it.
+/// committed or received, the process has begun correctly, since no hold of a start state ends at
+/// 0.0. The links to a process have different numbers, and so have those from it.
 pub fn processes_of_texts_start_sound()
     ensures sound { (names : List (List ℕ)) (f : FileTree) (inputs : List Input)
         (limit horizon processes p : ℕ) (owner : ℕ → ℕ)
@@ -34,7 +34,7 @@ pub fn processes_of_texts_start_sound()
         (owner : ℕ → ℕ) (v : View)
         → v.share ≡ share_of (job_of limit horizon f inputs processes owner) p
         → v.components ≡ (network v.share.flat).start → v.committed ≡ nothing
-        → ((n : ℕ) → DeliverAlike (v.held n) []) → v.visits ≡ 0 → IsBegun v }
+        → ((n : ℕ) → DeliverAlike (v.held n) []) → IsBegun v }
     ensures apart_in { (job : Job) (p : ℕ) → AreApart (share_of job p).incoming }
     ensures apart_out { (job : Job) (p : ℕ)
         → AreApart (map (λ (o : Outgoing). o.number) (share_of job p).outgoing) }

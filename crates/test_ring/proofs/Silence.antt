@@ -19,7 +19,6 @@ kept n es h = record {
   components = refl;
   committed = refl;
   held = λ m k port bag. ap (λ (fs : List Event). delivered k port (deliveries_at n.frame.limit fs m) bag) (sym (nothing_for n es h));
-  visits = refl;
 }
 
 pub sends : (n : Silent) (now : Time) (out : Outgoing) (es : List Event) →

@@ -28,7 +28,6 @@ view_of n = record {
   components = [];
   committed = n.record.told;
   held = λ k. [];
-  visits = 0;
 }
 
 abbrev pub job_by : (limit horizon ticks : ℕ) → Job

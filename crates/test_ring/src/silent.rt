@@ -41,6 +41,8 @@ impl Local for Silent {
 
     ghost handed = { λ n. no_text };
 
+    ghost visits = { λ n. 0 };
+
     fn frame(&self) -> Frame {
         self.frame
     }

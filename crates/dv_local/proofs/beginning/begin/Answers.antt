@@ -33,9 +33,11 @@ new-requires-3-clause-begun g c =
           (sym share);
       committed = c.in_ok-state.ensures.committed;
       held = λ n k port bag. ap (λ (ds : List Delivery). delivered k port ds bag) (c.in_ok-state.ensures.held n);
-      visits = c.in_ok-state.ensures.visits;
       later = subst (λ (cs : List Component). IsFrom 1 (least_next cs)) (sym components) c.requires.later;
     })
+
+pub new-requires-3-clause-unvisited : goal.new-requires-3-clause-unvisited
+new-requires-3-clause-unvisited g c = ap (λ (y : LocalState _ _). y.components.visits) c.new-2.ensures ∙ c.in_ok-state.ensures.visits
 
 pub new-requires-3-clause-linked : goal.new-requires-3-clause-linked
 new-requires-3-clause-linked g c =

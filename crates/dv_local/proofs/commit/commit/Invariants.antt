@@ -24,7 +24,6 @@ invariant-loop-order g l = record {
   within : AreWithin (length l.components.running) l.before;
   before : undone l.before l.components.running ≡ undone l.fn.before l.fn.components.running;
   visits : IsCounted l.order l.order l.fn.components.visits l.components.visits;
-  counted : l.components.settled ≡ l.fn.components.settled;
   count :
       length l.before + length (g.R.Record.told l.fn.to).entries
       ≡ length l.fn.before + length (g.R.Record.told l.to).entries;

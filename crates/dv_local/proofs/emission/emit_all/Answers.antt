@@ -27,7 +27,6 @@ loop-index-init g c = record {
       (sym c.clear.ensures.items) (λ k d lt. absurd (omega (arith, lt)));
   running = refl;
   visits = counted_none c.args.components.now.visits;
-  settled = refl;
 }
 
 pub loop-index-preserved : goal.loop-index-preserved
@@ -60,7 +59,6 @@ loop-index-preserved g c =
           (All-push P old _ inv.given given);
       running = c.visit.ensures.components ∙ inv.running;
       visits = counted_both i 1 _ _ _ inv.visits (counted_one _ _ c.visit.ensures.never_fall c.visit.ensures.visits);
-      settled = c.visit.ensures.settled ∙ inv.settled;
     }
 
 pub visited-requires : goal.visited-requires

@@ -18,5 +18,4 @@ invariant-loop-index g l = record {
       l.emitted.items;
   running : l.components.running ≡ l.fn.components.running;
   visits : IsCounted l.index-index l.index-index l.fn.components.visits l.components.visits;
-  settled : l.components.settled ≡ l.fn.components.settled;
 }

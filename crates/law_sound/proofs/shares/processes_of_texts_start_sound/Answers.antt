@@ -15,14 +15,13 @@ returns-clause-sound c names f inputs limit horizon processes p owner text fine 
     (c.texts_are_jobs.ensures names f inputs limit horizon processes owner text fine given within)
 
 pub returns-clause-begun : goal.returns-clause-begun
-returns-clause-begun c f inputs limit horizon processes p owner v share components committed held visits =
+returns-clause-begun c f inputs limit horizon processes p owner v share components committed held =
     let starts : v.components ≡ (network (share_of (job_of limit horizon f inputs processes owner) p).flat).start =
     components ∙ ap (λ (s : Share). (network s.flat).start) share in
     record {
       components = components;
       committed = committed;
       held = held;
-      visits = visits;
       later = subst (λ (cs : List Component). IsFrom 1 (least_next cs)) (sym starts)
           (c.processes_start_sound.ensures.later (job_of limit horizon f inputs processes owner) p 1
           (members_later c.holds_end_later.ensures limit 0 (instances f)));

@@ -12,5 +12,6 @@ returns-clause-visits g c =
     let told = g.R.Record.told in
     subst (λ (y : LocalState _ _).
     OnOk c.react_components.result
-    (CountsInstant (rank y.share.tables.limit c.args.now) (view_by b told y) (view_by b told c.react_components.new.self)))
+    (CountsInstant (rank y.share.tables.limit c.args.now) (view_by b told y) y.components.visits
+    c.react_components.new.self.components.visits))
     c.self.view_is c.react_components.ensures.visits

@@ -1,7 +1,6 @@
-use Rattle.std.proofs.Common.{◌≡◌, ◌∙◌, ℕ, ◌≤◌, List, ◌++◌, length, Option, refl, sym, ap, subst}
+use Rattle.std.proofs.Common.{◌≡◌, ◌∙◌, ℕ, ◌≤◌, List, ◌++◌, length, Option, sym, ap, subst}
 use Rattle.dv_time.specs.Time.{rank}
 use Rattle.dv_time.specs.declared.time.Time.{Time}
-use Rattle.dv_react.specs.Components.{components_of}
 use Rattle.dv_react.specs.declared.running.Running.{Running}
 use Rattle.dv_agenda.specs.Waits.{due_at}
 use Rattle.dv_share.specs.Share.{AreComponents, AreDue, AreEmitted, StandByIndex}
@@ -9,7 +8,7 @@ use Rattle.dv_local.specs.States.{imminent_of}
 use Rattle.dv_local.specs.Undoing.{AreWithin, undone, waits_of}
 use Rattle.dv_local.proofs.Accesses.{due_few, found_counted}
 use Rattle.dv_local.proofs.Due.{due_are}
-use Rattle.dv_local.proofs.Visited.{settled_visited}
+use Rattle.dv_local.proofs.Visited.{settled_visited, view_visited}
 use Rattle.dv_local.proofs.state.LocalState.emit.Goals as goal
 
 pub emit_all-requires-clause-due : goal.emit_all-requires-clause-due
@@ -25,8 +24,8 @@ emit_all-requires-clause-due g c =
     subst (λ (ps : List ℕ). AreDue limit (rank limit now) rs ps) (sym due_is)
     (due_are limit now rs c.requires.of_run c.requires.kept.components.waits)
 
-pub returns-in_err-emit_all-clause-found : goal.returns-in_err-emit_all-clause-found
-returns-in_err-emit_all-clause-found g c =
+pub returns-in_err-emit_all-clause-visits : goal.returns-in_err-emit_all-clause-visits
+returns-in_err-emit_all-clause-visits g c =
     let x = c.args.self.now in
     let now = c.args.now in
     let limit = x.share.tables.limit in
@@ -37,16 +36,10 @@ returns-in_err-emit_all-clause-found g c =
     ∙ ap (λ (ws : List (Option Time)). due_at now ws) c.requires.kept.agenda in
     let few : length c.deref.result.now ≤ imminent_of limit now rs =
     subst (λ (ps : List ℕ). length ps ≤ imminent_of limit now rs) (sym due_is) (due_few limit now rs) in
-    record {
-      share = refl;
-      components = ap (λ (ss : List Running). components_of limit ss) c.emit_all.ensures.components;
-      committed = refl;
-      held = refl;
-      visits = found_counted (length c.deref.result.now) (imminent_of limit now rs) _ _ few c.emit_all.ensures.at_most;
-    }
+    found_counted (length c.deref.result.now) (imminent_of limit now rs) _ _ few c.emit_all.ensures.at_most
 
-pub returns-clause-found : goal.returns-clause-found
-returns-clause-found g c =
+pub returns-clause-visits : goal.returns-clause-visits
+returns-clause-visits g c =
     let x = c.args.self.now in
     let now = c.args.now in
     let limit = x.share.tables.limit in
@@ -57,13 +50,7 @@ returns-clause-found g c =
     ∙ ap (λ (ws : List (Option Time)). due_at now ws) c.requires.kept.agenda in
     let few : length c.deref.result.now ≤ imminent_of limit now rs =
     subst (λ (ps : List ℕ). length ps ≤ imminent_of limit now rs) (sym due_is) (due_few limit now rs) in
-    record {
-      share = refl;
-      components = ap (λ (ss : List Running). components_of limit ss) c.emit_all.ensures.components;
-      committed = refl;
-      held = refl;
-      visits = found_counted (length c.deref.result.now) (imminent_of limit now rs) _ _ few c.emit_all.ensures.at_most;
-    }
+    found_counted (length c.deref.result.now) (imminent_of limit now rs) _ _ few c.emit_all.ensures.at_most
 
 pub returns-clause-few : goal.returns-clause-few
 returns-clause-few g c =
@@ -107,4 +94,7 @@ returns-clause-kept g c =
 pub returns-clause-settled : goal.returns-clause-settled
 returns-clause-settled g c =
     settled_visited g.A.Atomic.behaviour c.args.self.now c.emit_all.new.components c.emit_all.ensures.components g.R.Record.settled
-    c.emit_all.ensures.settled
+
+pub returns-clause-view : goal.returns-clause-view
+returns-clause-view g c =
+    view_visited g.A.Atomic.behaviour c.args.self.now c.emit_all.new.components c.emit_all.ensures.components g.R.Record.told

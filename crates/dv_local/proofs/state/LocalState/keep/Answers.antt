@@ -67,7 +67,6 @@ returns-clause-kept g c =
       share = ap (λ (v : View). v.share) view;
       components = ap (λ (v : View). v.components) view;
       committed = ap (λ (v : View). v.committed) view;
-      visits = ap (λ (v : View). v.visits) view;
       held = λ n.
           let u = time_of limit n in
           let e : arrivals_but s.undo.taken u new ≡ arrivals_but s.undo.taken u old ++ coming_at u
@@ -95,7 +94,6 @@ returns-clause-settled g c =
       components = v.components;
       committed = v.committed;
       held = held_by limit None new;
-      visits = v.visits;
     } in w) same
     ∙ ap (λ (o : Option Time).
     let w : View = record {
@@ -103,6 +101,5 @@ returns-clause-settled g c =
       components = (view_by b told s).components;
       committed = (view_by b told s).committed;
       held = held_by limit o new;
-      visits = (view_by b told s).visits;
     } in w)
     (sym c.settle.ensures.at_rest.taken)

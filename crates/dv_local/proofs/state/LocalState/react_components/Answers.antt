@@ -1,4 +1,4 @@
-use Rattle.std.proofs.Common.{◌≡◌, ◌∙◌, ℕ, ◌+◌, ◌≤◌, ◌++◌, List, Some, Result, length, count_by, sym, ap, subst, arith}
+use Rattle.std.proofs.Common.{◌≡◌, ◌∙◌, ℕ, ◌+◌, ◌≤◌, ◌++◌, List, Some, Result, length, sym, ap, subst, arith}
 use Rattle.std.proofs.lemmas.List.{length-append}
 use Rattle.dv_time.specs.Time.{IsOfRun, rank}
 use Rattle.dv_bag.specs.Bag.{Counts}
@@ -9,8 +9,6 @@ use Rattle.dv_local.specs.Arrivals.{arrivals_at}
 use Rattle.dv_bag.specs.Part.{PartOf}
 use Rattle.dv_conservative.specs.Flat.{network}
 use Rattle.dv_conservative.specs.Links.{carried, inbox}
-use Rattle.dv_conservative.specs.Process.{Share}
-use Rattle.dv_devs.specs.Behaviour.{Component, is_imminent}
 use Rattle.dv_devs.specs.Cuts.{IsAllBefore}
 use Rattle.dv_devs.specs.Network.{outer_from, part_of_instant}
 use Rattle.dv_react.specs.Components.{components_of}
@@ -20,13 +18,12 @@ use Rattle.dv_share.specs.Share.{AreAmong, AreReceived, AreTouched, coming, sent
 use Rattle.dv_share.specs.declared.index.Indexed.{Indexed}
 use Rattle.dv_record.specs.Told.{with_lines}
 use Rattle.dv_record.proofs.Open.{open_after}
-use Rattle.dv_proc.specs.Accesses.{IsAfterEmission, entries_at, imminent_at, receiving_at}
+use Rattle.dv_proc.specs.Accesses.{CountsEmission, CountsInstant, entries_at, imminent_at, receiving_at}
 use Rattle.dv_proc.specs.Local.{IsAfterInstant, View, input_at}
-use Rattle.dv_proc.proofs.Accesses.{instant_found}
 use Rattle.dv_local.specs.Commits.{HaveReacted}
 use Rattle.dv_local.specs.Shares.{share_by}
 use Rattle.dv_local.specs.States.{held_by, imminent_of, view_by}
-use Rattle.dv_local.proofs.Accesses.{instant_counted, reacted_few, receiving_found}
+use Rattle.dv_local.proofs.Accesses.{instant_counted, reacted_few}
 use Rattle.dv_local.proofs.Visited.{received_few}
 use Rattle.dv_local.proofs.TakesIndex.{input_is, took_index}
 use Rattle.dv_local.proofs.state.LocalState.react_components.Goals as goal
@@ -39,9 +36,8 @@ returns-clause-reacted g c =
     let x = c.emit.new.self in
     let t = x.share.tables in
     let v : View = view_by b told c.args.self.now in
-    let found : IsAfterEmission (rank v.share.limit c.args.now) v (view_by b told x) =
-    subst (λ (y : View). IsAfterEmission (rank y.share.limit c.args.now) y (view_by b told x)) c.settle.ensures.view c.emit.ensures.found in
-    let of_run : IsOfRun t.limit c.args.now = subst (λ (s : Share). IsOfRun s.limit c.args.now) (sym found.share) c.requires.of_run in
+    let same : view_by b told x ≡ v = c.emit.ensures.view ∙ c.settle.ensures.view in
+    let of_run : IsOfRun t.limit c.args.now = subst (λ (y : View). IsOfRun y.share.limit c.args.now) (sym same) c.requires.of_run in
     let taken = (c.emit.ensures.at_rest c.settle.ensures.at_rest).taken in
     let es = c.as_slice-emitted.result.now in
     let gs = x.emitted.items in
@@ -79,30 +75,29 @@ returns-clause-reacted g c =
       components = components_of t.limit ss;
       committed = told c.outer.new.to;
       held = held_by t.limit (Some c.args.now) x.inbox;
-      visits = c.commit.new.components.visits;
     } in
-    subst (λ (s : Share). IsAfterInstant (rank s.limit c.args.now) v w) found.share
-    (instant_found n (rank v.share.limit c.args.now) v (view_by b told x) w found
-    (took_index b fits told x c.args.now outside meant xs ss told_now c.commit.new.components.visits of_run
+    subst (λ (y : View). IsAfterInstant (rank y.share.limit c.args.now) y w) same
+    (took_index b fits told x c.args.now outside meant xs ss told_now of_run
     (input_is b told x c.args.now outside ds of_run taken (c.in_ok-outside.ensures t.limit of_run) held)
     c.emit.ensures.kept.components c.in_ok-emit.ensures.emitted among received
-    reacted outer taken))
+    reacted outer taken)
 
 pub returns-clause-visits : goal.returns-clause-visits
 returns-clause-visits g c =
     let b = g.A.Atomic.behaviour in
     let told = g.R.Record.told in
     let x = c.emit.new.self in
-    let v : View = view_by b told c.args.self.now in
-    let n = rank v.share.limit c.args.now in
-    let found : IsAfterEmission n v (view_by b told x) =
-    subst (λ (y : View). IsAfterEmission (rank y.share.limit c.args.now) y (view_by b told x)) c.settle.ensures.view c.emit.ensures.found in
+    let u : View = view_by b told c.args.self.now in
+    let v : View = view_by b told x in
+    let same : v ≡ u = c.emit.ensures.view ∙ c.settle.ensures.view in
+    let before = c.args.self.now.components.visits in
+    let mid = x.components.visits in
+    let after = c.commit.new.components.visits in
     let w : View = record {
       share = share_by b x.share;
       components = components_of x.share.tables.limit c.commit.new.components.running;
       committed = told c.outer.new.to;
       held = held_by x.share.tables.limit (Some c.args.now) x.inbox;
-      visits = c.commit.new.components.visits;
     } in
     let t = x.share.tables in
     let es = c.as_slice-emitted.result.now in
@@ -111,36 +106,35 @@ returns-clause-visits g c =
     let rs = x.components.running in
     let outside = c.in_ok-outside.outside in
     let ds = c.at.result.now in
-    let of_run : IsOfRun t.limit c.args.now = subst (λ (s : Share). IsOfRun s.limit c.args.now) (sym found.share) c.requires.of_run in
-    let k = rank t.limit c.args.now in
-    let same-k : k ≡ n = ap (λ (s : Share). rank s.limit c.args.now) found.share in
+    let of_run : IsOfRun t.limit c.args.now = subst (λ (y : View). IsOfRun y.share.limit c.args.now) (sym same) c.requires.of_run in
+    let n = rank t.limit c.args.now in
+    let found : CountsEmission n v before mid =
+    subst (λ (m : ℕ). CountsEmission n v m mid) c.settle.ensures.visits
+    (subst (λ (y : View). CountsEmission (rank y.share.limit c.args.now) y c.settle.new.self.components.visits mid)
+    (sym c.emit.ensures.view) c.emit.ensures.visits) in
     let part = part_of_instant v.share.limit (network v.share.flat) n (input_at v n) v.components in
-    let after = returns-clause-reacted g c in
+    let instant : IsAfterInstant n v w =
+    subst (λ (y : View). IsAfterInstant (rank y.share.limit c.args.now) y w) (sym same) (returns-clause-reacted g c) in
     let grown : length (told c.outer.new.to).entries ≡ length (told x.record).entries + entries_at v n =
-    ap (λ (p : PartOf). length p.entries) after.committed
-    ∙ length-append v.committed.entries part.entries
-    ∙ ap (λ (p : PartOf). length p.entries + entries_at v n) (sym found.committed) in
+    ap (λ (p : PartOf). length p.entries) instant.committed ∙ length-append (told x.record).entries part.entries in
     let told_few : length (told c.commit.new.to).entries ≤ length (told x.record).entries + length xs =
-    reacted_few b g.A.Atomic.fits t k rs es xs c.commit.new.components.running (told x.record).entries (told c.commit.new.to).entries
+    reacted_few b g.A.Atomic.fits t n rs es xs c.commit.new.components.running (told x.record).entries (told c.commit.new.to).entries
     c.in_ok-commit.ensures.reacted in
     let least : entries_at v n ≤ length xs =
     omega (arith, grown, told_few, ap (λ (p : PartOf). length p.entries) c.in_ok-outer.ensures.told) in
     let held : ds ≡ arrivals_at c.args.now x.inbox = c.at.ensures in
     let taken = (c.emit.ensures.at_rest c.settle.ensures.at_rest).taken in
-    let input : (outside, deliveries_of ds) ≡ input_at (view_by b told x) k =
+    let input : (outside, deliveries_of ds) ≡ input_at v n =
     input_is b told x c.args.now outside ds of_run taken (c.in_ok-outside.ensures t.limit of_run) held in
-    let visited_few : length xs ≤ imminent_at v n + receiving_at v n =
-    subst (λ (m : ℕ). length xs ≤ imminent_at v m + receiving_at v m) same-k
-    (subst (λ (m : ℕ). length xs ≤ imminent_at v k + m) (receiving_found k n v (view_by b told x) found)
-    (subst (λ (m : ℕ). length xs ≤ m + receiving_at (view_by b told x) k)
-    (ap (λ (cs : List Component). count_by (is_imminent k) cs) found.components)
-    (received_few b g.A.Atomic.fits told x k outside (deliveries_of ds) xs (imminent_of t.limit c.args.now rs) input
+    let most : length xs ≤ imminent_at v n + receiving_at v n =
+    received_few b g.A.Atomic.fits told x n outside (deliveries_of ds) xs (imminent_of t.limit c.args.now rs) input
     c.in_ok-emit.ensures.emitted
     (subst (λ (fs : List (Indexed (Result (List Counts) Fault))). AreReceived t.members.items (coming t fs outside (deliveries_of ds)) xs)
     same-es c.in_ok-arrivals.ensures.received)
     (subst (λ (fs : List (Indexed (Result (List Counts) Fault))). AreTouched (indices_of fs) xs) same-es c.in_ok-arrivals.ensures.touched)
-    c.in_ok-emit.ensures.few))) in
-    instant_counted n (length xs) v (view_by b told x) w found least visited_few c.in_ok-commit.ensures.visits
+    c.in_ok-emit.ensures.few in
+    subst (λ (y : View). CountsInstant (rank y.share.limit c.args.now) y before after) same
+    (instant_counted n (length xs) v before mid after found least most c.in_ok-commit.ensures.visits)
 
 -- inputs are at times of the run
 pub outside_at-requires : goal.outside_at-requires
@@ -148,12 +142,9 @@ outside_at-requires g c =
     let b = g.A.Atomic.behaviour in
     let told = g.R.Record.told in
     let x = c.emit.new.self in
-    let v : View = view_by b told c.args.self.now in
-    let found : IsAfterEmission (rank v.share.limit c.args.now) v (view_by b told x) =
-    subst (λ (y : View). IsAfterEmission (rank y.share.limit c.args.now) y (view_by b told x)) c.settle.ensures.view
-    c.emit.ensures.found in (
+    let same : view_by b told x ≡ view_by b told c.args.self.now = c.emit.ensures.view ∙ c.settle.ensures.view in (
       x.share.tables.limit,
-      subst (λ (s : Share). IsOfRun s.limit c.args.now) (sym found.share) c.requires.of_run,
+      subst (λ (y : View). IsOfRun y.share.limit c.args.now) (sym same) c.requires.of_run,
       c.emit.ensures.kept.share.of_run,
     )
 
@@ -163,4 +154,4 @@ commit-requires-clause-is_open g c =
     let told = g.R.Record.told in
     open_after c.args.now (told c.emit.new.self.record)
     (subst (λ (p : PartOf). IsAllBefore c.args.now p)
-    (sym (c.emit.ensures.found.committed ∙ ap (λ (v : View). v.committed) c.settle.ensures.view)) c.requires.later)
+    (sym (ap (λ (v : View). v.committed) (c.emit.ensures.view ∙ c.settle.ensures.view))) c.requires.later)

@@ -314,10 +314,16 @@ returns-clause-visits g c =
     c.in-Ok.ensures.advance c.in-Ok.ensures.of_run in
     let view : g.L.Local.view c.finish-2.new.self.local ≡ w =
     ap (λ l. g.L.Local.view l) c.finish-2.ensures.local ∙ c.settle.ensures.view in
-    subst (λ (y : View). CountsTurn (rank v.share.limit clock) (rank v.share.limit c.finish-2.new.self.clock) v y) (sym view)
-    (subst (λ (u : Time). CountsTurn (rank v.share.limit clock) (rank v.share.limit u) v w) (sym c.finish-2.ensures.clock)
-    (subst (λ (l : ℕ). CountsTurn (rank l clock) (rank l now) v w) c.frame-frame.ensures.limit
-    (counted_turn (rank limit clock) (rank limit now) v w c.in-Ok.ensures.advance.instant rose c.in-Ok.ensures.visits)))
+    let x = g.L.Local.visits c.args.self.now.local in
+    let y = g.L.Local.visits c.step.new.local in
+    let visits : g.L.Local.visits c.finish-2.new.self.local ≡ y =
+    ap (λ l. g.L.Local.visits l) c.finish-2.ensures.local ∙ c.settle.ensures.visits in
+    subst (λ (z : ℕ). CountsTurn (rank v.share.limit clock) (rank v.share.limit c.finish-2.new.self.clock) v
+    (g.L.Local.view c.finish-2.new.self.local) x z) (sym visits)
+    (subst (λ (u : View). CountsTurn (rank v.share.limit clock) (rank v.share.limit c.finish-2.new.self.clock) v u x y) (sym view)
+    (subst (λ (u : Time). CountsTurn (rank v.share.limit clock) (rank v.share.limit u) v w x y) (sym c.finish-2.ensures.clock)
+    (subst (λ (l : ℕ). CountsTurn (rank l clock) (rank l now) v w x y) c.frame-frame.ensures.limit
+    (counted_turn (rank limit clock) (rank limit now) v w x y c.in-Ok.ensures.advance.instant rose c.in-Ok.ensures.visits))))
 
 pub returns-clause-visits_stay : goal.returns-clause-visits_stay
 returns-clause-visits_stay g c =
@@ -346,13 +352,20 @@ returns-clause-visits_stay g c =
     c.in-Ok.ensures.advance c.in-Ok.ensures.of_run in
     let view : g.L.Local.view c.finish-2.new.self.local ≡ w =
     ap (λ l. g.L.Local.view l) c.finish-2.ensures.local ∙ c.settle.ensures.view in
+    let x = g.L.Local.visits c.args.self.now.local in
+    let y = g.L.Local.visits c.step.new.local in
+    let visits : g.L.Local.visits c.finish-2.new.self.local ≡ y =
+    ap (λ l. g.L.Local.visits l) c.finish-2.ensures.local ∙ c.settle.ensures.visits in
     let counted : CountsTurn (rank v.share.limit clock) (rank v.share.limit c.finish-2.new.self.clock) v
-    (g.L.Local.view c.finish-2.new.self.local) =
-    subst (λ (y : View). CountsTurn (rank v.share.limit clock) (rank v.share.limit c.finish-2.new.self.clock) v y) (sym view)
-    (subst (λ (u : Time). CountsTurn (rank v.share.limit clock) (rank v.share.limit u) v w) (sym c.finish-2.ensures.clock)
-    (subst (λ (l : ℕ). CountsTurn (rank l clock) (rank l now) v w) c.frame-frame.ensures.limit
-    (counted_turn (rank limit clock) (rank limit now) v w c.in-Ok.ensures.advance.instant rose c.in-Ok.ensures.visits))) in
-    still_unseen v (g.L.Local.view c.finish-2.new.self.local) is c.finish-2.new.self.incoming.items xs c.finish-2.new.self.outgoing.items
-    clock c.finish-2.new.self.clock c.requires.process c.finish-2.ensures.process
+    (g.L.Local.view c.finish-2.new.self.local) x (g.L.Local.visits c.finish-2.new.self.local) =
+    subst (λ (z : ℕ). CountsTurn (rank v.share.limit clock) (rank v.share.limit c.finish-2.new.self.clock) v
+    (g.L.Local.view c.finish-2.new.self.local) x z) (sym visits)
+    (subst (λ (u : View). CountsTurn (rank v.share.limit clock) (rank v.share.limit c.finish-2.new.self.clock) v u x y) (sym view)
+    (subst (λ (u : Time). CountsTurn (rank v.share.limit clock) (rank v.share.limit u) v w x y) (sym c.finish-2.ensures.clock)
+    (subst (λ (l : ℕ). CountsTurn (rank l clock) (rank l now) v w x y) c.frame-frame.ensures.limit
+    (counted_turn (rank limit clock) (rank limit now) v w x y c.in-Ok.ensures.advance.instant rose c.in-Ok.ensures.visits)))) in
+    still_unseen v (g.L.Local.view c.finish-2.new.self.local) x (g.L.Local.visits c.finish-2.new.self.local) is
+    c.finish-2.new.self.incoming.items xs c.finish-2.new.self.outgoing.items clock c.finish-2.new.self.clock c.requires.process
+    c.finish-2.ensures.process
     (ap (λ (y : View). y.share) view ∙ c.in-Ok.ensures.advance.instant.share) (ap (λ is'. is'.items) c.finish-2.ensures.incoming)
     counted here there
