@@ -7,9 +7,9 @@ use Rattle.dv_syntax.specs.declared.tree.Prefix.{Prefix}
 use Rattle.dv_syntax.specs.declared.tree.Prefix.TheVariants.{Minus, Not}
 use Rattle.dv_syntax.specs.declared.tree.BagCall.{BagCall}
 use Rattle.dv_syntax.specs.declared.tree.BagCall.TheVariants as call
-use Rattle.dv_syntax.specs.declared.tree.Operator.{Operator}
-use Rattle.dv_syntax.specs.declared.tree.Operator.TheVariants.{Or, And, Add, Subtract, Multiply, Divide, Remainder, Equal}
-use Rattle.dv_syntax.specs.declared.tree.Operator.TheVariants.{Unequal, Less, AtMost, Greater, AtLeast}
+use Rattle.dv_syntax.specs.declared.tree.OperatorClass.{OperatorClass}
+use Rattle.dv_syntax.specs.declared.tree.OperatorClass.TheVariants.{Logic, Equality, Order, Arithmetic}
+use Rattle.dv_syntax.specs.Operators.{class_of}
 use Rattle.dv_syntax.specs.declared.tree.RuleSort.{RuleSort}
 use Rattle.dv_syntax.specs.declared.tree.RuleSort.TheVariants as rule
 use Rattle.dv_check.specs.declared.declarations.NameSort.{NameSort}
@@ -126,20 +126,11 @@ type_of_prefix Minus = Number
 type_of_prefix Not = Truth
 
 -- the type of the result of an operator, if its operands have the right types
-abbrev pub type_of_operator : Operator → Option ValueType → Option ValueType → Option ValueType
-type_of_operator Or a b = type_if (both_of Truth a b) Truth
-type_of_operator And a b = type_if (both_of Truth a b) Truth
-type_of_operator Add a b = type_if (both_of Number a b) Number
-type_of_operator Subtract a b = type_if (both_of Number a b) Number
-type_of_operator Multiply a b = type_if (both_of Number a b) Number
-type_of_operator Divide a b = type_if (both_of Number a b) Number
-type_of_operator Remainder a b = type_if (both_of Number a b) Number
-type_of_operator Equal a b = type_if (alike a b) Truth
-type_of_operator Unequal a b = type_if (alike a b) Truth
-type_of_operator Less a b = type_if (both_of Number a b) Truth
-type_of_operator AtMost a b = type_if (both_of Number a b) Truth
-type_of_operator Greater a b = type_if (both_of Number a b) Truth
-type_of_operator AtLeast a b = type_if (both_of Number a b) Truth
+abbrev pub type_by : OperatorClass → Option ValueType → Option ValueType → Option ValueType
+type_by Logic a b = type_if (both_of Truth a b) Truth
+type_by Equality a b = type_if (alike a b) Truth
+type_by Order a b = type_if (both_of Number a b) Truth
+type_by Arithmetic a b = type_if (both_of Number a b) Number
 
 -- the type of an expression; none if it, or a part of it, is refused
 abbrev pub type_of : Known → Expression → Option ValueType
@@ -148,7 +139,7 @@ type_of known (TruthValue offset value) = Some Truth
 type_of known (Named name) = type_of_name (known.sort name.number)
 type_of known (Parens offset e) = type_of known e
 type_of known (Prefixed operator offset e) = type_if (is_of (type_of_prefix operator) (type_of known e)) (type_of_prefix operator)
-type_of known (Binary operator a b) = type_of_operator operator (type_of known a) (type_of known b)
+type_of known (Binary operator a b) = type_by (class_of operator) (type_of known a) (type_of known b)
 type_of known (Call c offset bag) = type_if (is_readable (wanted_by c) known.rule (known.sort bag.number)) Number
 type_of known (Elapsed offset) = type_if (knows_elapsed known.rule) Number
 type_of known (Times offset e bag) =
@@ -169,20 +160,11 @@ abbrev pub operands_wanted : ValueType → Option ValueType → ℕ → Option V
 operands_wanted wanted a a_offset b b_offset = type_refusals wanted a a_offset ++ type_refusals wanted b b_offset
 
 -- what is wrong with the operands of an operator, which begin at these offsets
-abbrev pub operand_refusals : Operator → Option ValueType → ℕ → Option ValueType → ℕ → List Refusal
-operand_refusals Or a a_offset b b_offset = operands_wanted Truth a a_offset b b_offset
-operand_refusals And a a_offset b b_offset = operands_wanted Truth a a_offset b b_offset
-operand_refusals Equal a a_offset b b_offset = refusal_if (differ a b) E8 b_offset
-operand_refusals Unequal a a_offset b b_offset = refusal_if (differ a b) E8 b_offset
-operand_refusals Add a a_offset b b_offset = operands_wanted Number a a_offset b b_offset
-operand_refusals Subtract a a_offset b b_offset = operands_wanted Number a a_offset b b_offset
-operand_refusals Multiply a a_offset b b_offset = operands_wanted Number a a_offset b b_offset
-operand_refusals Divide a a_offset b b_offset = operands_wanted Number a a_offset b b_offset
-operand_refusals Remainder a a_offset b b_offset = operands_wanted Number a a_offset b b_offset
-operand_refusals Less a a_offset b b_offset = operands_wanted Number a a_offset b b_offset
-operand_refusals AtMost a a_offset b b_offset = operands_wanted Number a a_offset b b_offset
-operand_refusals Greater a a_offset b b_offset = operands_wanted Number a a_offset b b_offset
-operand_refusals AtLeast a a_offset b b_offset = operands_wanted Number a a_offset b b_offset
+abbrev pub operand_refusals : OperatorClass → Option ValueType → ℕ → Option ValueType → ℕ → List Refusal
+operand_refusals Logic a a_offset b b_offset = operands_wanted Truth a a_offset b b_offset
+operand_refusals Equality a a_offset b b_offset = refusal_if (differ a b) E8 b_offset
+operand_refusals Order a a_offset b b_offset = operands_wanted Number a a_offset b b_offset
+operand_refusals Arithmetic a a_offset b b_offset = operands_wanted Number a a_offset b b_offset
 
 -- a name where a value is wanted: it must be a variable, a flag or a loop variable
 abbrev pub value_name_refusals : Option NameSort → ℕ → List Refusal
@@ -218,7 +200,7 @@ expression_refusals known (Prefixed operator offset e) =
 expression_refusals known (Binary operator a b) =
     expression_refusals known a
     ++ (expression_refusals known b
-    ++ operand_refusals operator (type_of known a) (first_offset a) (type_of known b) (first_offset b))
+    ++ operand_refusals (class_of operator) (type_of known a) (first_offset a) (type_of known b) (first_offset b))
 expression_refusals known (Call c offset bag) = held_name_refusals (wanted_by c) known.rule (known.sort bag.number) bag.offset
 expression_refusals known (Elapsed offset) = refusal_if (not (knows_elapsed known.rule)) E9 offset
 expression_refusals known (Times offset e bag) =

@@ -8,7 +8,7 @@ ghost use Rattle.dv_check.specs.Rules.{known_at};
 ghost use Rattle.dv_check.specs.Names.{refusal_if};
 ghost use Rattle.dv_check.specs.Types.{alike, both_of, differ, held_name_refusals, is_of, is_readable, knows_elapsed, operands_wanted};
 ghost use Rattle.dv_check.specs.Types.{port_refusals, sees_inputs, suits_port, type_if, expression_refusals, first_offset};
-ghost use Rattle.dv_check.specs.Types.{operand_refusals, offset_refusals, type_of, type_of_operator, type_of_name, type_of_prefix};
+ghost use Rattle.dv_check.specs.Types.{operand_refusals, offset_refusals, type_by, type_of, type_of_name, type_of_prefix};
 ghost use Rattle.dv_check.specs.Types.{type_refusals, value_name_refusals, value_refusals};
 
 use crate::declarations::NameSort;
@@ -17,7 +17,7 @@ use crate::findings::Findings;
 use crate::wanted::Wanted;
 use dv_bag::ValueType;
 use dv_lex::RefusalNumber;
-use dv_syntax::{Expr, Name, Operator, Prefix, RuleSort};
+use dv_syntax::{Expr, Name, OperatorClass, Prefix, RuleSort};
 
 /// The type of an expression, if it is not refused, and the offset of its first token.
 #[derive(Clone, Copy)]
@@ -108,7 +108,7 @@ fn check_expression(environment: &Environment, expression: &Expr, found: &mut Fi
             let a = check_expression(environment, left, found);
             let b = check_expression(environment, right, found);
             Typed {
-                value_type: check_operands(*operator, a, b, found),
+                value_type: check_operands(operator.class(), a, b, found),
                 offset: a.offset,
             }
         }
@@ -266,31 +266,32 @@ pub fn check_held(
 }
 
 // The type of the result of an operator, if its operands have the right types.
-fn check_operands(operator: Operator, a: Typed, b: Typed, found: &mut Findings) -> Option<ValueType>
-    ensures value_type { result ≡ type_of_operator operator a.value_type b.value_type }
+fn check_operands(
+    class: OperatorClass,
+    a: Typed,
+    b: Typed,
+    found: &mut Findings,
+) -> Option<ValueType>
+    ensures value_type { result ≡ type_by class a.value_type b.value_type }
     ensures found { found.new ≡ with_refusals found.old
-        (operand_refusals operator a.value_type a.offset b.value_type b.offset) }
+        (operand_refusals class a.value_type a.offset b.value_type b.offset) }
 {
-    match operator {
-        Operator::Equal | Operator::Unequal => {
+    match class {
+        OperatorClass::Logic => {
+            want_both(ValueType::Truth, a, b, found);
+            type_if(both_of(ValueType::Truth, a, b), ValueType::Truth)
+        }
+        OperatorClass::Equality => {
             if differ(a.value_type, b.value_type) {
                 found.note(RefusalNumber::E8, b.offset);
             }
             type_if(alike(a.value_type, b.value_type), ValueType::Truth)
         }
-        Operator::Or | Operator::And => {
-            want_both(ValueType::Truth, a, b, found);
-            type_if(both_of(ValueType::Truth, a, b), ValueType::Truth)
-        }
-        Operator::Less | Operator::AtMost | Operator::Greater | Operator::AtLeast => {
+        OperatorClass::Order => {
             want_both(ValueType::Number, a, b, found);
             type_if(both_of(ValueType::Number, a, b), ValueType::Truth)
         }
-        Operator::Add
-        | Operator::Subtract
-        | Operator::Multiply
-        | Operator::Divide
-        | Operator::Remainder => {
+        OperatorClass::Arithmetic => {
             want_both(ValueType::Number, a, b, found);
             type_if(both_of(ValueType::Number, a, b), ValueType::Number)
         }

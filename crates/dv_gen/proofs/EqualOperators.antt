@@ -1,6 +1,7 @@
 -- Operators give the same by indices as by names, of operands of their types.
 use Rattle.std.proofs.Common.{◌≡◌, ℤ, Bool, true, false, if◌then◌else◌, List, [], ◌∷◌, refl, ap, ◌∙◌, Option, Some, Result, Ok}
 use Rattle.std.proofs.Common.{Err}
+use Rattle.dv_syntax.specs.Operators.{class_of}
 use Rattle.dv_syntax.specs.declared.tree.BagCall.{BagCall}
 use Rattle.dv_syntax.specs.declared.tree.BagCall.TheVariants as call
 use Rattle.dv_syntax.specs.declared.tree.Operator.{Operator}
@@ -18,7 +19,7 @@ use Rattle.dv_bag.specs.declared.value.ValueType.{ValueType}
 use Rattle.dv_bag.specs.declared.value.ValueType.TheVariants.{Number, Truth}
 use Rattle.dv_eval.specs.Meaning.{bag_or_none, call_result, is_decided, operator_result, truth_of as truth_in_text}
 use Rattle.dv_check.specs.declared.wanted.Wanted.TheVariants as want
-use Rattle.dv_check.specs.Types.{both_of, suits, type_if, type_of_operator, wanted_by}
+use Rattle.dv_check.specs.Types.{both_of, suits, type_by, type_if, wanted_by}
 use Rattle.law_accepted.specs.Fitting.{is_of_type}
 use Rattle.dv_code.specs.Operations.{bag_in, binary_value, collection_of, leaf_value, of_numbers, of_truths}
 use Rattle.dv_code.specs.declared.instruction.Source.{Source}
@@ -143,7 +144,7 @@ module _ (arrivals : Arrivals) (items : List ℤ) (s : State) (a b : Expression)
         let wanted = both_wanted Number given t p q typed in
         numbers_agree operation o (one Number wanted.0) (two Number wanted.1) same
 
-    pub operator_agrees : (o : Operator) → type_of_operator o p q ≡ Some t
+    pub operator_agrees : (o : Operator) → type_by (class_of o) p q ≡ Some t
         → indexed (infix_of o a b) ≡ (left >>= λ x. decided_or o x right)
     operator_agrees operator.Or typed =
         let wanted = both_wanted Truth Truth t p q typed in

@@ -1,6 +1,7 @@
 -- The value of what is accepted is the same by indices as by names, in a state that fits.
 use Rattle.std.proofs.Common.{◌≡◌, ℕ, ℤ, pos, true, ◌&&◌, List, [], refl, ap, ◌∙◌, Option, Some, None, Result, Ok}
 use Rattle.std.proofs.lemmas.Result.{IfOk-at_ok}
+use Rattle.dv_syntax.specs.Operators.{class_of}
 use Rattle.dv_syntax.specs.Trees.{AtomicTree, Expression as NamedExpression, Literal, TruthValue, Named, Parens, Prefixed, Binary}
 use Rattle.dv_syntax.specs.Trees.{Call, Elapsed, Times}
 use Rattle.dv_syntax.specs.declared.tree.Name.{Name}
@@ -131,7 +132,7 @@ module _ (m : AtomicTree) (none : atomic_refusals m ≡ []) (rule : Option RuleS
       let knows = knows_within m none rule bound in
       let left = type_in_text known a in
       let right = type_in_text known b in
-      let operands = operand_types o left right t typed in
+      let operands = operand_types (class_of o) left right t typed in
       operator_agrees arrivals (items_within bound) s (resolved (scope_of m) (loops_of bound) a) (resolved (scope_of m) (loops_of bound) b)
       (by_names a) (by_names b) (value_agrees a operands.left operands.left_is) (value_agrees b operands.right operands.right_is)
       left right t (gives_type a) (gives_type b) (λ u is. (expression_typed (scope_of m) rule (loops_of bound) known knows a u is).0)

@@ -1,10 +1,10 @@
 -- The types of the operands of an expression that has a type.
 use Rattle.std.proofs.Common.{◌≡◌, Bool, true, false, refl, Option, Some, None}
-use Rattle.dv_syntax.specs.declared.tree.Operator.{Operator}
-use Rattle.dv_syntax.specs.declared.tree.Operator.TheVariants as operator
+use Rattle.dv_syntax.specs.declared.tree.OperatorClass.{OperatorClass}
+use Rattle.dv_syntax.specs.declared.tree.OperatorClass.TheVariants.{Logic, Equality, Order, Arithmetic}
 use Rattle.dv_bag.specs.declared.value.ValueType.{ValueType}
 use Rattle.dv_bag.specs.declared.value.ValueType.TheVariants.{Number, Truth}
-use Rattle.dv_check.specs.Types.{alike, both_of, is_of, type_if, type_of_operator}
+use Rattle.dv_check.specs.Types.{alike, both_of, is_of, type_by, type_if}
 use Rattle.law_accepted.proofs.Fitting.{both_true}
 
 pub type_given : (b : Bool) (given t : ValueType) → type_if b given ≡ Some t → (b ≡ true) × (given ≡ t)
@@ -53,17 +53,8 @@ both_of_one_type t x y typed =
     let both = alike_wanted t x y typed in
     record { left = both.0; left_is = both.1; right = both.0; right_is = both.2 }
 
-pub operand_types : (o : Operator) (x y : Option ValueType) (t : ValueType) → type_of_operator o x y ≡ Some t → OperandTypes x y
-operand_types operator.Or x y t typed = both_of_type Truth Truth t x y typed
-operand_types operator.And x y t typed = both_of_type Truth Truth t x y typed
-operand_types operator.Add x y t typed = both_of_type Number Number t x y typed
-operand_types operator.Subtract x y t typed = both_of_type Number Number t x y typed
-operand_types operator.Multiply x y t typed = both_of_type Number Number t x y typed
-operand_types operator.Divide x y t typed = both_of_type Number Number t x y typed
-operand_types operator.Remainder x y t typed = both_of_type Number Number t x y typed
-operand_types operator.Equal x y t typed = both_of_one_type t x y typed
-operand_types operator.Unequal x y t typed = both_of_one_type t x y typed
-operand_types operator.Less x y t typed = both_of_type Number Truth t x y typed
-operand_types operator.AtMost x y t typed = both_of_type Number Truth t x y typed
-operand_types operator.Greater x y t typed = both_of_type Number Truth t x y typed
-operand_types operator.AtLeast x y t typed = both_of_type Number Truth t x y typed
+pub operand_types : (c : OperatorClass) (x y : Option ValueType) (t : ValueType) → type_by c x y ≡ Some t → OperandTypes x y
+operand_types Logic x y t typed = both_of_type Truth Truth t x y typed
+operand_types Equality x y t typed = both_of_one_type t x y typed
+operand_types Order x y t typed = both_of_type Number Truth t x y typed
+operand_types Arithmetic x y t typed = both_of_type Number Number t x y typed

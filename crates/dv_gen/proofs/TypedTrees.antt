@@ -2,6 +2,7 @@
 use Rattle.std.proofs.Common.{◌≡◌, ℕ, ◌+◌, ◌≤◌, Bool, true, false, ◌&&◌, List, [], ◌∷◌, length, refl, sym, ap, subst, ◌∙◌, Option, Some}
 use Rattle.std.proofs.Common.{None, IfSome, arith}
 use Rattle.std.specs.List.{All}
+use Rattle.dv_syntax.specs.Operators.{class_of}
 use Rattle.dv_syntax.specs.Grammar.{loop_depth}
 use Rattle.dv_syntax.specs.Trees.{AtomicTree, HoldTree, RuleTree, Expression as NamedExpression, Literal, TruthValue, Named}
 use Rattle.dv_syntax.specs.Trees.{Parens, Prefixed, Binary, Call, Elapsed, Times, Statements as NamedStatements, Done as Ended}
@@ -33,7 +34,7 @@ use Rattle.dv_check.specs.declared.wanted.Wanted.TheVariants as want
 use Rattle.dv_check.specs.Rules.{atomic_refusals, command_name_refusals, is_output_rule, known_in, known_in_loop, known_in_rule}
 use Rattle.dv_check.specs.Rules.{statements_refusals}
 use Rattle.dv_check.specs.Types.{Known, both_of, type_if, is_of, is_readable, knows_elapsed, offset_refusals, sees_inputs, suits}
-use Rattle.dv_check.specs.Types.{suits_port, type_of_name, type_of_operator, value_refusals, wanted_by, type_of as type_in_text}
+use Rattle.dv_check.specs.Types.{suits_port, type_by, type_of_name, value_refusals, wanted_by, type_of as type_in_text}
 use Rattle.dv_check.proofs.CheckedFiles.{not_false, not_refused}
 use Rattle.law_accepted.proofs.Fitting.{both_true}
 use Rattle.law_accepted.proofs.Typed.{index_typed}
@@ -141,7 +142,7 @@ module _ (shape : Shape) (inside : ℕ) where
         let two = right Number wanted.1 in
         infix_typed o t a b (result ∙ wanted.2) (one.0 ∙ sym takes, one.1) (two.0 ∙ sym takes, two.1)
 
-    operator_typed : (o : Operator) → type_of_operator o x y ≡ Some t → HasType shape inside t (infix_of o a b)
+    operator_typed : (o : Operator) → type_by (class_of o) x y ≡ Some t → HasType shape inside t (infix_of o a b)
     operator_typed operator.Or typed =
         let wanted = both_wanted Truth Truth t x y typed in
         let one = left Truth wanted.0 in

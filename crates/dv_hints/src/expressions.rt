@@ -8,7 +8,7 @@ use crate::taker::Taker;
 use crate::wanted::Wanted;
 use dv_bag::ValueType;
 use dv_lex::RefusalNumber;
-use dv_syntax::{Expr, Name, Operator, RuleSort};
+use dv_syntax::{Expr, Name, OperatorClass, RuleSort};
 
 /// The type of an expression, if it has one, and the offset of its first token.
 #[derive(Clone, Copy)]
@@ -74,7 +74,7 @@ fn look_through(known: &Known, around: &Around, expression: &Expr, search: &mut 
         } => {
             let a = look_through(known, around, left, search);
             let b = look_through(known, around, right, search);
-            of_type(operate(*operator, a, b, search), a.offset)
+            of_type(operate(operator.class(), a, b, search), a.offset)
         }
         Expr::Call { call, offset, bag } => {
             look_at_held(known, around, Wanted::by(*call), *bag, search);
@@ -130,41 +130,30 @@ pub fn look_at_held(
     }
 }
 
-/// Checks the operands of an operator, and answers the type of its result; `None` if an operand is
+/// Checks the operands of an operator of this class, and answers the type of its result; `None` if an operand is
 /// wrong.
-fn operate(operator: Operator, a: Typed, b: Typed, search: &mut Search) -> Option<ValueType> {
-    match Taker::by(operator) {
+fn operate(class: OperatorClass, a: Typed, b: Typed, search: &mut Search) -> Option<ValueType> {
+    match Taker::by(class) {
         Some(taker) => {
             let a = take(taker, a, search);
             let b = take(taker, b, search);
             if a.is_some() && b.is_some() {
-                Some(result_type(operator))
+                Some(result_type(class))
             } else {
                 None
             }
         }
         None => {
             take(Taker::Equality(a.value_type?), b, search)?;
-            Some(result_type(operator))
+            Some(result_type(class))
         }
     }
 }
 
-fn result_type(operator: Operator) -> ValueType {
-    match operator {
-        Operator::Add
-        | Operator::Subtract
-        | Operator::Multiply
-        | Operator::Divide
-        | Operator::Remainder => ValueType::Number,
-        Operator::Or
-        | Operator::And
-        | Operator::Equal
-        | Operator::Unequal
-        | Operator::Less
-        | Operator::AtMost
-        | Operator::Greater
-        | Operator::AtLeast => ValueType::Truth,
+fn result_type(class: OperatorClass) -> ValueType {
+    match class {
+        OperatorClass::Logic | OperatorClass::Equality | OperatorClass::Order => ValueType::Truth,
+        OperatorClass::Arithmetic => ValueType::Number,
     }
 }
 

@@ -1,7 +1,7 @@
 //! What uses the value of an expression.
 
 use dv_bag::{Change, ValueType};
-use dv_syntax::{Name, Operator, Prefix};
+use dv_syntax::{Name, OperatorClass, Prefix};
 use std::fmt;
 
 /// What uses the value of an expression, and so takes values of one type.
@@ -35,18 +35,12 @@ pub enum Taker {
 
 impl Taker {
     /// How an operator takes both operands; `None` for `=` and `!=`, where the left one decides.
-    pub fn by(operator: Operator) -> Option<Self> {
-        match operator {
-            Operator::Equal | Operator::Unequal => None,
-            Operator::Or | Operator::And => Some(Taker::Join),
-            Operator::Less | Operator::AtMost | Operator::Greater | Operator::AtLeast => {
-                Some(Taker::Order)
-            }
-            Operator::Add
-            | Operator::Subtract
-            | Operator::Multiply
-            | Operator::Divide
-            | Operator::Remainder => Some(Taker::Arithmetic),
+    pub fn by(class: OperatorClass) -> Option<Self> {
+        match class {
+            OperatorClass::Logic => Some(Taker::Join),
+            OperatorClass::Equality => None,
+            OperatorClass::Order => Some(Taker::Order),
+            OperatorClass::Arithmetic => Some(Taker::Arithmetic),
         }
     }
 

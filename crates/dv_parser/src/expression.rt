@@ -90,18 +90,11 @@ fn rank_of_operator(operator: Operator) -> u32
 fn least_left_rank(operator: Operator) -> u32
     ensures { result ≡ left_rank operator }
 {
-    match operator {
-        Operator::Or => 1,
-        Operator::And => 2,
-        Operator::Multiply | Operator::Divide | Operator::Remainder => 6,
-        Operator::Add
-        | Operator::Subtract
-        | Operator::Equal
-        | Operator::Unequal
-        | Operator::Less
-        | Operator::AtMost
-        | Operator::Greater
-        | Operator::AtLeast => 5,
+    let rank = rank_of_operator(operator);
+    if operator.class().is_comparison() {
+        rank + 1
+    } else {
+        rank
     }
 }
 

@@ -1,5 +1,5 @@
 -- The grammar of model texts: how a tree is spelled by tokens, and which trees are those of a text.
-use Rattle.std.specs.Prelude.{◌≡◌, ℕ, ◌+◌, ◌<◌, ◌≤◌, Bool, true, false, List, [], ◌∷◌, ◌++◌, length, Option, Some, None, max}
+use Rattle.std.specs.Prelude.{◌≡◌, ℕ, ◌+◌, ◌<◌, ◌≤◌, Bool, true, false, List, [], ◌∷◌, ◌++◌, length, Option, Some, None, if◌then◌else◌, max}
 use Rattle.std.specs.List.{flat_map, AllByRecursion}
 use Rattle.dv_bag.specs.declared.discipline.Change.{Change}
 use Rattle.dv_bag.specs.declared.discipline.Change.TheVariants as change
@@ -20,6 +20,7 @@ use Rattle.dv_syntax.specs.declared.tree.Prefix.{Prefix}
 use Rattle.dv_syntax.specs.declared.tree.Prefix.TheVariants as prefix
 use Rattle.dv_syntax.specs.declared.tree.Operator.{Operator}
 use Rattle.dv_syntax.specs.declared.tree.Operator.TheVariants as operator
+use Rattle.dv_syntax.specs.Operators.{class_of, is_comparison}
 use Rattle.dv_syntax.specs.declared.tree.BagCall.{BagCall}
 use Rattle.dv_syntax.specs.declared.tree.BagCall.TheVariants as call
 use Rattle.dv_syntax.specs.declared.tree.Command.{Command}
@@ -158,19 +159,7 @@ operator_rank operator.AtLeast = 4
 
 -- the least rank of a left operand: chains of one rank group to the left, but a comparison may not be an operand of another
 abbrev pub left_rank : Operator → ℕ
-left_rank operator.Or = 1
-left_rank operator.And = 2
-left_rank operator.Add = 5
-left_rank operator.Subtract = 5
-left_rank operator.Multiply = 6
-left_rank operator.Divide = 6
-left_rank operator.Remainder = 6
-left_rank operator.Equal = 5
-left_rank operator.Unequal = 5
-left_rank operator.Less = 5
-left_rank operator.AtMost = 5
-left_rank operator.Greater = 5
-left_rank operator.AtLeast = 5
+left_rank o = if is_comparison (class_of o) then operator_rank o + 1 else operator_rank o
 
 -- the rank of an expression: 8 if no operator is at its top
 abbrev pub rank : Expression → ℕ

@@ -16,6 +16,6 @@ pub mod tree;
 
 pub use tree::{
     Atomic, BagCall, Block, Bound, Command, Coupled, Declaration, End, Expr, File, Flag, Hold,
-    Link, Model, Name, Number, Operator, Part, Phases, Prefix, Rule, RuleSort, Start,
-    StateCollection, Stmt, Ticks, Variable, Version,
+    Link, Model, Name, Number, Operator, OperatorClass, Part, Phases, Prefix, Rule, RuleSort,
+    Start, StateCollection, Stmt, Ticks, Variable, Version,
 };

@@ -1,6 +1,9 @@
 //! Syntax trees: what a model text says. Items are sorted by kind; parentheses are kept, and the
 //! offsets that refusals name. An offset is the number of bytes of the text before a token.
 
+ghost use Rattle.std.specs.Prelude.{◌≡◌};
+ghost use Rattle.dv_syntax.specs.Operators.{class_of, is_comparison};
+
 use dv_bag::{Change, Discipline};
 use dv_lex::Numeral;
 
@@ -69,6 +72,51 @@ pub enum Operator {
     Greater,
     /// `>=`
     AtLeast,
+}
+
+/// What an operator between two operands takes, and what it gives.
+#[derive(Clone, Copy, PartialEq, Eq)]
+pub enum OperatorClass {
+    /// `or` and `and`: a truth value of two.
+    Logic,
+    /// `=` and `!=`: whether two values of one type are the same.
+    Equality,
+    /// `<`, `<=`, `>` and `>=`: whether two numbers are in this order.
+    Order,
+    /// `+`, `-`, `*`, `/` and `%`: a number of two.
+    Arithmetic,
+}
+
+impl Operator {
+    /// The class of this operator.
+    pub fn class(self) -> OperatorClass
+        ensures { result ≡ class_of self }
+    {
+        match self {
+            Operator::Or | Operator::And => OperatorClass::Logic,
+            Operator::Equal | Operator::Unequal => OperatorClass::Equality,
+            Operator::Less | Operator::AtMost | Operator::Greater | Operator::AtLeast => {
+                OperatorClass::Order
+            }
+            Operator::Add
+            | Operator::Subtract
+            | Operator::Multiply
+            | Operator::Divide
+            | Operator::Remainder => OperatorClass::Arithmetic,
+        }
+    }
+}
+
+impl OperatorClass {
+    /// Whether an operator of this class compares two values.
+    pub fn is_comparison(self) -> bool
+        ensures { result ≡ is_comparison self }
+    {
+        match self {
+            OperatorClass::Equality | OperatorClass::Order => true,
+            OperatorClass::Logic | OperatorClass::Arithmetic => false,
+        }
+    }
 }
 
 /// What a call asks of a collection.

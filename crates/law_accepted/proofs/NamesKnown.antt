@@ -3,6 +3,7 @@ use Rattle.std.proofs.Common.{◌≡◌, ℕ, ◌==◌, Bool, true, false, not, 
 use Rattle.std.proofs.Common.{Option, Some, None}
 use Rattle.std.specs.List.{AllByRecursion, All, flat_map}
 use Rattle.std.proofs.lemmas.List.Elements.{All-from_recursion}
+use Rattle.dv_syntax.specs.Operators.{class_of}
 use Rattle.dv_syntax.specs.declared.tree.Name.{Name}
 use Rattle.dv_syntax.specs.declared.tree.Command.{Command}
 use Rattle.dv_syntax.specs.declared.tree.Command.TheVariants as command
@@ -98,7 +99,7 @@ module _ (m : AtomicTree) (loops : List ℕ) (k : Known) (knows : Knows m loops 
   terms_known (Prefixed o offset e) none =
       terms_known e (both_nil (expression_refusals k e) (type_refusals (type_of_prefix o) (type_of k e) (first_offset e)) none).0
   terms_known (Binary o a b) none =
-      let operands = operand_refusals o (type_of k a) (first_offset a) (type_of k b) (first_offset b) in
+      let operands = operand_refusals (class_of o) (type_of k a) (first_offset a) (type_of k b) (first_offset b) in
       let left = both_nil (expression_refusals k a) (expression_refusals k b ++ operands) none in
       let right = both_nil (expression_refusals k b) operands left.1 in
       and_true _ (are_terms_known (scope_of m) k.rule loops b) (terms_known a left.0) (terms_known b right.0)

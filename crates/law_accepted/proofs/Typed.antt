@@ -8,6 +8,9 @@ use Rattle.dv_syntax.specs.declared.tree.Prefix.TheVariants.{Minus, Not}
 use Rattle.dv_syntax.specs.declared.tree.Operator.{Operator}
 use Rattle.dv_syntax.specs.declared.tree.Operator.TheVariants.{Or, And, Add, Subtract, Multiply, Divide, Remainder, Equal}
 use Rattle.dv_syntax.specs.declared.tree.Operator.TheVariants.{Unequal, Less, AtMost, Greater, AtLeast}
+use Rattle.dv_syntax.specs.declared.tree.OperatorClass.{OperatorClass}
+use Rattle.dv_syntax.specs.declared.tree.OperatorClass.TheVariants.{Logic, Equality, Order, Arithmetic}
+use Rattle.dv_syntax.specs.Operators.{class_of}
 use Rattle.dv_syntax.specs.declared.tree.Name.{Name}
 use Rattle.dv_syntax.specs.declared.tree.BagCall.{BagCall}
 use Rattle.dv_syntax.specs.declared.tree.BagCall.TheVariants.{Size, Sum, Least, Most, Front}
@@ -41,7 +44,7 @@ use Rattle.dv_check.specs.Names.{refusal_if}
 use Rattle.dv_check.specs.declared.wanted.Wanted.TheVariants as wanted
 use Rattle.dv_check.specs.Types.{Known, alike, both_of, differ, expression_refusals, first_offset, held_name_refusals, is_of}
 use Rattle.dv_check.specs.Types.{is_readable, knows_elapsed, operand_refusals, operands_wanted, offset_refusals, same_type, type_if}
-use Rattle.dv_check.specs.Types.{type_of, type_of_name, type_of_operator, type_of_prefix, type_refusals, value_name_refusals, wanted_by}
+use Rattle.dv_check.specs.Types.{type_by, type_of, type_of_name, type_of_prefix, type_refusals, value_name_refusals, wanted_by}
 use Rattle.dv_check.specs.Rules.{known_in, known_in_rule, sort_in}
 use Rattle.law_accepted.specs.Fitting.{context_within, datum_fits, fits_in, HoldsDatum, is_of_type, known_within, values_within}
 use Rattle.dv_check.proofs.CheckedFiles.{both_nil, not_false, not_refused}
@@ -75,28 +78,19 @@ both_alike Number Truth q e = absurd (cc)
 both_alike Truth Number q e = absurd (cc)
 both_alike Truth Truth q e = refl
 
-operator_typed : (o : Operator) (x y : ValueType) (p q : ℕ) → operand_refusals o (Some x) p (Some y) q ≡ []
-    → Typed (type_of_operator o (Some x) (Some y))
-operator_typed Or x y p q e = some_if _ Truth (both_wanted Truth x y p q e)
-operator_typed And x y p q e = some_if _ Truth (both_wanted Truth x y p q e)
-operator_typed Add x y p q e = some_if _ Number (both_wanted Number x y p q e)
-operator_typed Subtract x y p q e = some_if _ Number (both_wanted Number x y p q e)
-operator_typed Multiply x y p q e = some_if _ Number (both_wanted Number x y p q e)
-operator_typed Divide x y p q e = some_if _ Number (both_wanted Number x y p q e)
-operator_typed Remainder x y p q e = some_if _ Number (both_wanted Number x y p q e)
-operator_typed Equal x y p q e = some_if _ Truth (both_alike x y q e)
-operator_typed Unequal x y p q e = some_if _ Truth (both_alike x y q e)
-operator_typed Less x y p q e = some_if _ Truth (both_wanted Number x y p q e)
-operator_typed AtMost x y p q e = some_if _ Truth (both_wanted Number x y p q e)
-operator_typed Greater x y p q e = some_if _ Truth (both_wanted Number x y p q e)
-operator_typed AtLeast x y p q e = some_if _ Truth (both_wanted Number x y p q e)
+class_typed : (c : OperatorClass) (x y : ValueType) (p q : ℕ) → operand_refusals c (Some x) p (Some y) q ≡ []
+    → Typed (type_by c (Some x) (Some y))
+class_typed Logic x y p q e = some_if _ Truth (both_wanted Truth x y p q e)
+class_typed Equality x y p q e = some_if _ Truth (both_alike x y q e)
+class_typed Order x y p q e = some_if _ Truth (both_wanted Number x y p q e)
+class_typed Arithmetic x y p q e = some_if _ Number (both_wanted Number x y p q e)
 
-operands_typed : (o : Operator) (a b : Option ValueType) (p q : ℕ) → Typed a → Typed b → operand_refusals o a p b q ≡ []
-    → Typed (type_of_operator o a b)
-operands_typed o a b p q left right e =
-    let same = ap (λ x. operand_refusals o x p b q) left.1 ∙ ap (λ y. operand_refusals o (Some left.0) p y q) right.1 in
-    let h = operator_typed o left.0 right.0 p q (sym same ∙ e) in
-    (h.0, ap (λ x. type_of_operator o x b) left.1 ∙ ap (λ y. type_of_operator o (Some left.0) y) right.1 ∙ h.1)
+operands_typed : (c : OperatorClass) (a b : Option ValueType) (p q : ℕ) → Typed a → Typed b → operand_refusals c a p b q ≡ []
+    → Typed (type_by c a b)
+operands_typed c a b p q left right e =
+    let same = ap (λ x. operand_refusals c x p b q) left.1 ∙ ap (λ y. operand_refusals c (Some left.0) p y q) right.1 in
+    let h = class_typed c left.0 right.0 p q (sym same ∙ e) in
+    (h.0, ap (λ x. type_by c x b) left.1 ∙ ap (λ y. type_by c (Some left.0) y) right.1 ∙ h.1)
 
 value_name_typed : (o : Option NameSort) (offset : ℕ) → value_name_refusals o offset ≡ [] → Typed (type_of_name o)
 value_name_typed None offset e = absurd (cc)
@@ -133,10 +127,10 @@ module _ (known : Known) where
       let of_wanted = type_wanted wanted (type_of known e) (first_offset e) (expression_typed e both.0) both.1 in
       (wanted, ap (λ o. type_if (is_of wanted o) wanted) of_wanted ∙ same_if wanted)
   expression_typed (Binary o a b) none =
-      let operands = operand_refusals o (type_of known a) (first_offset a) (type_of known b) (first_offset b) in
+      let operands = operand_refusals (class_of o) (type_of known a) (first_offset a) (type_of known b) (first_offset b) in
       let left = both_nil (expression_refusals known a) (expression_refusals known b ++ operands) none in
       let right = both_nil (expression_refusals known b) operands left.1 in
-      operands_typed o (type_of known a) (type_of known b) (first_offset a) (first_offset b) (expression_typed a left.0)
+      operands_typed (class_of o) (type_of known a) (type_of known b) (first_offset a) (first_offset b) (expression_typed a left.0)
       (expression_typed b right.0) right.1
   expression_typed (Call c offset x) none =
       let w = wanted_by c in
@@ -179,7 +173,7 @@ remainder_number : (a b : ℤ) → IfOk (remainder a b) (OfType Number)
 remainder_number a b =
     if_ok_branch (int_eq b (pos 0)) (Err fault.Divide) (Ok (value.Number (int_rem a b))) (OfType Number) tt refl
 
-result_typed : (o : Operator) (a b : Option ValueType) (t : ValueType) (x y : Value) → type_of_operator o a b ≡ Some t
+result_typed : (o : Operator) (a b : Option ValueType) (t : ValueType) (x y : Value) → type_by (class_of o) a b ≡ Some t
     → IfOk (operator_result o x y) (OfType t)
 result_typed Or a b t x y typed = of_type_if _ Truth t (operator_result Or x y) typed refl
 result_typed And a b t x y typed = of_type_if _ Truth t (operator_result And x y) typed refl
@@ -204,7 +198,7 @@ ok_truth b = Ok (value.Truth b)
 
 -- where the left operand decides, the value is its truth value
 decided_typed : (o : Operator) (a b : Option ValueType) (t : ValueType) (x : Value) → is_decided o x ≡ true
-    → type_of_operator o a b ≡ Some t → OfType t (value.Truth (truth_of x))
+    → type_by (class_of o) a b ≡ Some t → OfType t (value.Truth (truth_of x))
 decided_typed Or a b t x decided typed = of_type_if _ Truth t (ok_truth (truth_of x)) typed refl
 decided_typed And a b t x decided typed = of_type_if _ Truth t (ok_truth (truth_of x)) typed refl
 decided_typed Add a b t x decided typed = absurd (cc)
@@ -221,7 +215,7 @@ decided_typed AtLeast a b t x decided typed = absurd (cc)
 
 -- the right operand is asked where the left one does not decide
 asked_typed : (c : Bool) (o : Operator) (a b : Option ValueType) (t : ValueType) (x : Value) (right : Result Value Fault)
-    → is_decided o x ≡ c → type_of_operator o a b ≡ Some t
+    → is_decided o x ≡ c → type_by (class_of o) a b ≡ Some t
     → IfOk (if c then ok_truth (truth_of x) else (right >>= λ y. operator_result o x y)) (OfType t)
 asked_typed true o a b t x right decided typed = decided_typed o a b t x decided typed
 asked_typed false o a b t x right asked typed =
