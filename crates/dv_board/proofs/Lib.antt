@@ -1,6 +1,7 @@
 pub mod Between
 pub mod Cutting
 pub mod Drained
+pub mod Ends
 pub mod Marks
 pub mod Indices
 pub mod Stretches

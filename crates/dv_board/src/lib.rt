@@ -6,6 +6,9 @@
 //! worker waits while the trace is put together. A board wakes no thread: a worker that posts also
 //! rings a bell of `dv_work`.
 //!
+//! A board also knows before which time a process has posted all that it committed. What it did not
+//! post in the end is a `Rest`, which only the board makes: it leaves no gap behind the posts.
+//!
 //! What is on a board depends on the threads, so no contract says when a piece arrives. The type of
 //! a board says that each piece is true: it has exactly the part of the job's trace that its
 //! process has between its two times. From that the reader may conclude what it can write. It joins
@@ -34,4 +37,4 @@ pub mod posts;
 
 pub use backlog::{Backlog, Unjoined};
 pub use board::Board;
-pub use posts::{Piece, Posts};
+pub use posts::{Piece, Posts, Rest};

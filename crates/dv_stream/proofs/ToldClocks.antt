@@ -14,6 +14,7 @@ use Rattle.dv_conservative.proofs.Told.{same_times}
 use Rattle.dv_devs.specs.Clocks.{least_rank}
 use Rattle.dv_plan.specs.Clocks.{least_time}
 use Rattle.dv_plan.proofs.LeastClock.{AllOfRun, least_above, least_below, least_of_same, least_time_of_run, least_time_rank}
+use Rattle.dv_stream.specs.Clocks.{shown_clocks}
 use Rattle.dv_work.proofs.Lists.{at_index}
 
 -- times of the run at one rank are the same
@@ -45,10 +46,6 @@ least_is limit t ts of_run all least =
     same_rank limit t (least_time ts) of_run (least_time_of_run limit ts all)
     (let is = least_time_rank limit ts some all in omega (arith, low, high, is))
 
--- the clocks that are told
-abbrev pub told : List Time → Time → List Time
-told times mark = if same_time (least_time times) mark then times else replicate (length times) mark
-
 pub replicated : (n : ℕ) (mark : Time) (p : ℕ) (t : Time) → slice_get (replicate n mark) p ≡ Some t → t ≡ mark
 replicated zero mark p t e = absurd (cc)
 replicated (suc n) mark zero t e = cc
@@ -59,7 +56,7 @@ replicated_length zero mark = refl
 replicated_length (suc n) mark = ap (λ (k : ℕ). suc k) (replicated_length n mark)
 
 -- what holds of all that were reached, and of the mark, holds of all that are told
-pub told_all : (P : Time → Type 0) (times : List Time) (mark : Time) → All P times → P mark → All P (told times mark)
+pub told_all : (P : Time → Type 0) (times : List Time) (mark : Time) → All P times → P mark → All P (shown_clocks times mark)
 told_all P times mark all one = by_test (same_time (least_time times) mark)
   where
     by_test : (t : Bool) → All P (if t then times else replicate (length times) mark)
@@ -69,7 +66,7 @@ told_all P times mark all one = by_test (same_time (least_time times) mark)
         subst P (sym (replicated (length times) mark k (slice_index_or (replicate (length times) mark) k d) at)) one
 
 -- as many are told as were reached
-pub told_count : (times : List Time) (mark : Time) → length (told times mark) ≡ length times
+pub told_count : (times : List Time) (mark : Time) → length (shown_clocks times mark) ≡ length times
 told_count times mark = by_test (same_time (least_time times) mark)
   where
     by_test : (t : Bool) → length (if t then times else replicate (length times) mark) ≡ length times
@@ -77,7 +74,7 @@ told_count times mark = by_test (same_time (least_time times) mark)
     by_test false = replicated_length (length times) mark
 
 module _ (limit : ℕ) (times : List Time) (mark : Time) (some : 0 < length times) (runs : All (IsOfRun limit) times) where
-  pub told_some : 0 < length (told times mark)
+  pub told_some : 0 < length (shown_clocks times mark)
   told_some = by_test (same_time (least_time times) mark)
     where
       by_test : (t : Bool) → 0 < length (if t then times else replicate (length times) mark)
@@ -85,7 +82,7 @@ module _ (limit : ℕ) (times : List Time) (mark : Time) (some : 0 < length time
       by_test false = subst (λ (n : ℕ). 0 < n) (sym (replicated_length (length times) mark)) some
 
   -- the mark is the least of the clocks that are told
-  pub told_least : rank limit mark ≡ least_rank limit (told times mark)
+  pub told_least : rank limit mark ≡ least_rank limit (shown_clocks times mark)
   told_least = by_test (same_time (least_time times) mark) refl
     where
       by_test : (t : Bool) → same_time (least_time times) mark ≡ t

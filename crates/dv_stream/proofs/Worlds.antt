@@ -1,5 +1,5 @@
 -- The clocks of the processes of a world.
-use Rattle.std.proofs.Common.{◌≡◌, ◌<◌, ◌≤◌, List, map, refl, subst, arith}
+use Rattle.std.proofs.Common.{◌<◌, ◌≤◌, List, map, refl, arith}
 use Rattle.dv_time.specs.Time.{end_of, rank}
 use Rattle.dv_time.specs.declared.time.Time.{Time}
 use Rattle.dv_conservative.specs.World.{Job, World}

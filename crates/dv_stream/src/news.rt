@@ -58,17 +58,18 @@ impl<N: OfJob> Signals<N> {
     ///
     /// # Errors
     ///
-    /// No memory for the bells and the leads.
+    /// No memory for the board, the bells and the leads.
     pub fn new(
         alloc: Global,
         processes: u32,
         workers: usize,
         components: usize,
     ) -> Result<Self, AllocError>
+        requires { processes ≡ N.job.processes }
         ensures { IfOk result (λ signals. length signals.bells.items ≡ workers) }
     {
         Ok(Signals {
-            board: Board::new(alloc),
+            board: Board::new(alloc, processes)?,
             begun: Flag::new(),
             paced: Flag::new(),
             news: Bell::new(),

@@ -46,10 +46,10 @@ pub struct Workers<'w, K, G> {
 /// Runs the processes of a plan from their start by workers, and writes the trace, with the names
 /// of a tree, while they run. Process p belongs to worker p mod the number of workers.
 ///
-/// The `watch` of the workers may stop the run for a cause. If it gives several workers a cause,
-/// that of the worker with the least number is returned. For any watch and any timing of the
-/// threads, what was written is the trace before the least of the clocks, none of which is past the
-/// end, and a run is reported whole exactly if every clock is at the end.
+/// The `watch` of the workers may stop the run for a cause. Why each worker ended, with its cause if
+/// it has one, is among the halts, in the order of the workers' numbers. For any watch and any
+/// timing of the threads, what was written is the trace before the least of the clocks, none of
+/// which is past the end, and a run is reported whole exactly if every clock is at the end.
 ///
 /// # Errors
 ///

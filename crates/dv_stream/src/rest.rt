@@ -1,14 +1,12 @@
 //! Writes what workers did not post, once they have ended.
 
-ghost use Rattle.std.specs.Prelude.{◌≡◌, ◌↔◌, ◌<◌, ◌≤◌, ℕ, IsTrue, Some, if◌then◌else◌, length, replicate};
+ghost use Rattle.std.specs.Prelude.{◌≡◌, ◌↔◌, ◌<◌, ◌≤◌, ℕ, IsTrue, Some, if◌then◌else◌, length};
 ghost use Rattle.std.specs.Prelude.{slice_get, IfOk, OnErr};
 ghost use Rattle.std.specs.List.{All};
 ghost use Rattle.dv_board.specs.Posts.{IsPiece};
-ghost use Rattle.dv_conservative.specs.Events.{same_time};
-ghost use Rattle.dv_plan.specs.Clocks.{least_time};
 ghost use Rattle.dv_time.specs.Time.{IsOfRun};
 ghost use Rattle.dv_time.specs.declared.time.Time.{Time as MeantTime};
-ghost use Rattle.dv_stream.specs.Clocks.{IsUpToEnd};
+ghost use Rattle.dv_stream.specs.Clocks.{IsUpToEnd, shown_clocks};
 ghost use Rattle.dv_stream.specs.Endings.{why_for};
 ghost use Rattle.dv_stream.specs.Written.{Falters, GoesOn};
 ghost use Rattle.dv_stream.specs.declared.ran.RunEnded.TheVariants.{Cut, Whole};
@@ -78,8 +76,7 @@ pub fn write_rest<N: OfJob, R: Wait, W: Write>(
 /// the mark.
 pub fn clocks_at(clocks: Vec<Time>, mark: Time) -> Vec<Time>
     requires { 0 < length clocks.items }
-    ensures { result.items ≡ (if same_time (least_time clocks.items) mark then clocks.items
-        else replicate (length clocks.items) mark) }
+    ensures { result.items ≡ shown_clocks clocks.items mark }
 {
     let mut clocks = clocks;
     if !is_same(least_clock(&clocks), mark) {

@@ -10,7 +10,7 @@ ghost use Rattle.dv_time.specs.Time.{IsOfRun};
 ghost use Rattle.dv_tree.specs.Tables.{Source};
 ghost use Rattle.dv_work.specs.Crews.{IsCrewFor};
 ghost use Rattle.dv_work.specs.Reached.{AreReached};
-ghost use Rattle.dv_stream.specs.Clocks.{IsUpToEnd};
+ghost use Rattle.dv_stream.specs.Clocks.{IsUpToEnd, shown_clocks};
 ghost use Rattle.dv_stream.specs.Endings.{HasRunByWorkers};
 ghost use Rattle.dv_stream.specs.Written.{IsBegun, IsWrittenTo};
 
@@ -82,7 +82,10 @@ where
     let report = run_streamed(rt, alloc, &job, crew, watch, signals.stream());
     signals.end(rt);
     match report {
-        Ok(Report { rest, halts, .. }) => Ok(Left { rest, halts }),
+        Ok(Report { rest, halts, .. }) => Ok(Left {
+            rest: rest.into_pieces(),
+            halts,
+        }),
         Err(error) => Err(error),
     }
 }
@@ -284,6 +287,8 @@ fn ran_by_workers<N: OfJob, J: PlannedJob, C: Drop>(
     requires of_run { IsOfRun N.job.limit written.mark }
     requires within { IsUpToEnd N.job written.mark }
     ensures run { IfOk result (HasRunByWorkers N.job) }
+    ensures clocks { IfOk result (λ r. r.ran.clocks.items
+        ≡ shown_clocks merger.now.backlog.clocks written.mark) }
     ensures written { IfOk result (λ r. r.ran.written ≡ written) }
 {
     let kept = merger.backlog.clocks(merger.alloc)?;

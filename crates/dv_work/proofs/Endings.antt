@@ -39,7 +39,7 @@ cancelled_is_stopped false false false None e = absurd (cc)
 cancelled_is_stopped false false false (Some x) e = refl
 
 pub cancelled_if_ok : {N C E : Type 0} (job : Job) (r : Result (Report N C) E)
-    → IfOk r (λ x. EndsFor job x.halts.items (is_some x.stopped) x.rest.items x.ended)
+    → IfOk r (λ x. EndsFor job x.halts.items (is_some x.stopped) x.rest.pieces x.ended)
     → IfOk r (λ x. x.ended ≡ ended.Cancelled → IsSome x.stopped)
 cancelled_if_ok job (Err e) ends = tt
 cancelled_if_ok job (Ok x) ends = λ is. cancelled_is_stopped ends.is_whole _ _ x.stopped (sym ends.is ∙ is)

@@ -15,11 +15,12 @@ ghost use Rattle.dv_work.specs.Seats.{Reports};
 use crate::bell::{FlagView, Raised};
 use crate::seat::Seat;
 use crate::worker::{Halt, Worked};
-use dv_board::Piece;
+use dv_board::{Board, Piece, Rest};
 use dv_core::{LogicalProcess, PlannedJob, ProcessHandsOver};
 use dv_time::Time;
 use dv_written::{OfJob, WrittenPart};
 use std::alloc::{AllocError, Global};
+use std::sync::Wait;
 
 /// How a run ended.
 #[derive(Clone, Copy, PartialEq, Eq)]
@@ -37,8 +38,10 @@ pub enum Ended {
 /// The report of a run by workers, after all workers have ended.
 #[derive(Drop)]
 pub struct Report<'a, N: OfJob, C> {
-    /// What each process committed and did not post, up to its clock, by its number.
-    pub rest: Vec<Piece<N>>,
+    /// What each process committed and did not post, up to its clock, by its number. Only the board
+    /// of the run makes it: what a process posted and this are, joined, its part before its clock.
+    /// If a piece of it was lost, its clock is the end of what it posted.
+    pub rest: Rest<'a, N>,
     /// Why each worker ended before its processes were done, or `None` if they are done: first the
     /// workers that got no thread, then the others, by their numbers.
     pub halts: Vec<Option<Halt<C>>>,
@@ -163,24 +166,26 @@ fn how_ended(is_whole: bool, memory: bool, is_caused: bool, is_stopped: bool) ->
 /// # Errors
 ///
 /// No memory for the lists of pieces and halts.
-pub fn report_of<'a, N: OfJob, J: PlannedJob, P: ProcessHandsOver<N>, C: Drop>(
+pub fn report_of<'a, N: OfJob, J: PlannedJob, P: ProcessHandsOver<N>, C: Drop, R: Wait>(
+    rt: &R,
     alloc: Global,
     job: &J,
     processes: usize,
     all: Vec<Worked<P, C>>,
+    board: &'a Board<N>,
     stop: FlagView<'a>,
 ) -> Result<Report<'a, N, C>, AllocError>
     requires job { N.job ≡ J.means job.now }
     requires count { processes ≡ N.job.processes }
     requires few { processes < 2 ^ 32 }
     requires reported { All (Reported N.job P.state P.handed P.valid) all.items }
-    ensures reached { IfOk result (λ r. AreReached N.job r.rest.items) }
+    ensures reached { IfOk result (λ r. AreReached N.job r.rest.pieces) }
     ensures whole { IfOk result (λ r. (r.ended ≡ Whole)
-        ↔ ((p : ℕ) (x : MeantPiece N) → slice_get r.rest.items p ≡ Some x
+        ↔ ((p : ℕ) (x : MeantPiece N) → slice_get r.rest.pieces p ≡ Some x
         → x.clock ≡ end_time N.job)) }
     ensures halts { IfOk result (λ r. r.halts.items ≡ map (λ worked. worked.halt) all.items) }
     ensures ended { IfOk result (λ r. EndsFor N.job r.halts.items
-        (is_some r.stopped) r.rest.items r.ended) }
+        (is_some r.stopped) r.rest.pieces r.ended) }
     ensures stopped { IfOk result (λ r. IfSome r.stopped (IsOfFlag stop.entry.flag.now)) }
 {
     let mut rest = nothing::<N>(alloc, processes)?;
@@ -194,7 +199,8 @@ pub fn report_of<'a, N: OfJob, J: PlannedJob, P: ProcessHandsOver<N>, C: Drop>(
         tick: job.horizon() + 1,
         micro: 0,
     };
-    let is_whole = all_reach(&rest, end);
+    let rest = board.rest(rt, rest);
+    let is_whole = all_reach(rest.pieces(), end);
     let stopped = stop.raised();
     let memory = lacked_memory(&halts);
     let is_caused = was_stopped(&halts);

@@ -270,17 +270,18 @@ where
     requires job { N.job ≡ J.means job.now }
     requires crew { IsCrewFor (J.means job.now) P.state P.handed P.valid crew }
     requires bells { length crew.works.items ≤ length stream.bells.now }
-    ensures reached { IfOk result (λ r. AreReached (J.means job.now) r.rest.items) }
+    ensures reached { IfOk result (λ r. AreReached (J.means job.now) r.rest.pieces) }
     ensures whole { IfOk result (λ r. (r.ended ≡ Whole)
-        ↔ ((p : ℕ) (x : MeantPiece N) → slice_get r.rest.items p ≡ Some x
+        ↔ ((p : ℕ) (x : MeantPiece N) → slice_get r.rest.pieces p ≡ Some x
         → x.clock ≡ end_time (J.means job.now))) }
     ensures ended { IfOk result (λ r. EndsFor (J.means job.now) r.halts.items
-        (is_some r.stopped) r.rest.items r.ended) }
+        (is_some r.stopped) r.rest.pieces r.ended) }
     ensures cancelled { IfOk result (λ r. r.ended ≡ Cancelled → IsSome r.stopped) }
     ensures stopped { IfOk result (λ r. IfSome r.stopped (IsOfFlag stream.entry.stop.flag.now)) }
 {
     let count = crew.processes.len();
+    let board = stream.board;
     let stop = stream.stop;
     let all = run_job::<N, P, G, R>(rt, alloc, crew, watch, stream)?;
-    report_of::<N, J, P, G::Cause>(alloc, job, count, all, stop)
+    report_of::<N, J, P, G::Cause, R>(rt, alloc, job, count, all, board, stop)
 }

@@ -1,4 +1,4 @@
-use Rattle.std.proofs.Common.{◌≡◌, ◌<◌, ◌≤◌, sym, ap, subst, ◌∙◌, arith}
+use Rattle.std.proofs.Common.{◌<◌, ◌≤◌, sym, ap, subst, ◌∙◌, arith}
 use Rattle.dv_time.specs.Time.{end_of, rank}
 use Rattle.dv_conservative.specs.World.{World, new_world}
 use Rattle.dv_core.specs.Worlds.{EndsAs, shown}

@@ -1,4 +1,4 @@
-use Rattle.std.proofs.Common.{sym, subst, ◌∙◌}
+use Rattle.std.proofs.Common.{sym, subst}
 use Rattle.dv_time.specs.Time.{rank}
 use Rattle.dv_bag.specs.Part.{IsByTime}
 use Rattle.dv_board.specs.Jobs.{trace}

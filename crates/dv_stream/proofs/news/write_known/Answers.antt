@@ -1,4 +1,4 @@
-use Rattle.std.proofs.Common.{◌≤◌, IfSome, sym, subst, ◌∙◌}
+use Rattle.std.proofs.Common.{◌≤◌, IfSome, sym, subst}
 use Rattle.std.specs.declared.result.Result.TheVariants.{Ok, Err}
 use Rattle.dv_time.specs.Time.{IsOfRun, end_of, rank}
 use Rattle.dv_bag.specs.Part.{IsByTime}

@@ -1,14 +1,10 @@
 use Rattle.std.proofs.Common.{◌≡◌, map, refl, sym, ap, subst, ◌∙◌}
-use Rattle.std.specs.Prelude.{◌↔◌}
 use Rattle.dv_conservative.specs.World.{new_world}
 use Rattle.dv_core.specs.Worlds.{EndsAs, IsWhole, kept_by, shown}
 use Rattle.dv_core.specs.declared.step.Ended.{Ended}
 use Rattle.dv_core.specs.declared.step.Ended.TheVariants.{Whole}
 use Rattle.dv_plan.specs.declared.ran.Committed.{Committed}
 use Rattle.dv_plan.proofs.Running.{clocks_of_world}
-use Rattle.dv_stream.specs.Endings.{by_rounds}
-use Rattle.dv_stream.specs.declared.ran.RunEnded.{RunEnded}
-use Rattle.dv_stream.specs.declared.ran.RunEnded.TheVariants as told
 use Rattle.dv_stream.proofs.Ended.{ends_as, ends_whole, whole_clocks}
 use Rattle.dv_stream.proofs.ran.ran_in_world.Goals as goal
 

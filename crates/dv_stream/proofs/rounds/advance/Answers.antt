@@ -1,14 +1,13 @@
-use Rattle.std.proofs.Common.{◌≡◌, ◌≤◌, List, map, refl, sym, ap, subst, ◌∙◌, arith}
+use Rattle.std.proofs.Common.{◌≤◌, List, map, sym, ap, subst, ◌∙◌, arith}
 use Rattle.dv_time.specs.declared.time.Time.{Time}
 use Rattle.dv_board.specs.Clocks.{IsLeast}
 use Rattle.dv_conservative.specs.World.{Job, World}
 use Rattle.dv_core.specs.Worlds.{EndsAs, IsTrueToModel, kept_by, shown}
-use Rattle.dv_plan.specs.Clocks.{least_time}
 use Rattle.dv_text.proofs.Taking.{OnErr-always}
 use Rattle.dv_stream.specs.Rounds.{AreJoined}
 use Rattle.dv_stream.proofs.ToldClocks.{least_is}
 use Rattle.dv_stream.proofs.Joining.{joined_later}
-use Rattle.dv_stream.proofs.Telling.{same_clocks, same_shown, still_true}
+use Rattle.dv_stream.proofs.Telling.{same_shown, still_true}
 use Rattle.dv_stream.proofs.Worlds.{are_clocks_in, clocks_in}
 use Rattle.dv_stream.proofs.Writing.{falters_at_once}
 use Rattle.dv_stream.proofs.rounds.advance.Goals as goal

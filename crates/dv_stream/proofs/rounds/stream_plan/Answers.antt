@@ -1,4 +1,4 @@
-use Rattle.std.proofs.Common.{◌≤◌, subst, arith}
+use Rattle.std.proofs.Common.{subst, arith}
 use Rattle.std.specs.Prelude.{IfOk, OnErr}
 use Rattle.dv_text.proofs.Taking.{AppendsBeginning-nothing, OnErr-always}
 use Rattle.dv_stream.specs.Written.{IsBegun, IsWrittenTo, lines_before}

@@ -1,4 +1,4 @@
-use Rattle.std.proofs.Common.{◌≡◌, ℕ, ◌+◌, ◌-◌, false, List, map, replicate, refl, sym, ap, subst, ◌∙◌, arith}
+use Rattle.std.proofs.Common.{◌≡◌, ℕ, ◌+◌, ◌-◌, false, List, map, refl, sym, ap, subst, ◌∙◌, arith}
 use Rattle.dv_time.specs.declared.time.Time.{Time}
 use Rattle.dv_core.specs.Worlds.{EndsAs, IsTrueToModel, kept_by, shown}
 use Rattle.dv_core.specs.declared.step.Ended.{Ended}

@@ -23,7 +23,8 @@ run_processes-requires-clause-kept g c =
 pub returns-clause-run : goal.returns-clause-run
 returns-clause-run g c =
     let bounds = c.args.bounds in
-    subst (λ j. IfOk c.run_processes.result (HasRunInRounds (g.J.PlannedJob.means j) bounds.capacity bounds.rounds)) c.in_ok-world.ensures.job
+    subst (λ j. IfOk c.run_processes.result (HasRunInRounds (g.J.PlannedJob.means j) bounds.capacity bounds.rounds))
+    c.in_ok-world.ensures.job
     (c.run_processes.ensures.run bounds.capacity c.in_ok-world.ensures.fresh)
 
 pub returns-clause-written : goal.returns-clause-written

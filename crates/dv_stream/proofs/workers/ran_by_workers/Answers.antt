@@ -51,8 +51,8 @@ returns-clause-run g c =
       whole = (
         λ is_whole. subst (AllAt told) is (subst (λ (ts : List Time). AllAt ts end) c.deref.ensures.value
             (c.all_are-is_whole.ensures.0 (whole_of whole why (sym told_as ∙ is_whole)))),
-        λ all. told_as ∙ whole_if whole why (c.all_are-is_whole.ensures.1 (subst (λ (ts : List Time). AllAt ts end) (sym c.deref.ensures.value)
-            (subst (AllAt told) (sym is) all))),
+        λ all. told_as ∙ whole_if whole why (c.all_are-is_whole.ensures.1
+            (subst (λ (ts : List Time). AllAt ts end) (sym c.deref.ensures.value) (subst (AllAt told) (sym is) all))),
       );
       cut = λ cut. told_as ∙ whole_or_cut whole why (λ is_whole. cut (told_as ∙ is_whole));
     }

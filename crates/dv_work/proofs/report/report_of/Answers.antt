@@ -1,5 +1,5 @@
 use Rattle.std.proofs.Common.{◌≡◌, ℕ, ◌+◌, [], ◌∷◌, ◌++◌, List, Some, sym, ap, subst, ◌∙◌}
-use Rattle.std.specs.List.{All, list_any, slice_get}
+use Rattle.std.specs.List.{list_any, slice_get}
 use Rattle.std.specs.Vec.Iter.{into_iter_items}
 use Rattle.std.proofs.lemmas.Iterator.Adapters.{YieldsList-from_vec}
 use Rattle.std.proofs.lemmas.Iterator.Consumers.{YieldsList-end}
@@ -13,6 +13,7 @@ use Rattle.dv_work.specs.Endings.{ended_by, is_caused, lacks_memory}
 use Rattle.dv_work.specs.Workers.{Reported}
 use Rattle.dv_work.specs.declared.worker.Worked.{Worked}
 use Rattle.dv_work.proofs.Endings.{halts_of}
+use Rattle.dv_work.proofs.Reporting.{pieces_reached, reached_again}
 use Rattle.dv_work.proofs.report.report_of.Goals as goal
 
 pub enter_all-requires-clause-seats : goal.enter_all-requires-clause-seats
@@ -36,6 +37,14 @@ loop-worked-preserved g c =
           ∙ sym (map-append (λ (z : Worked g.row.P.Denot g.row.C.Denot). z.halt) c.loop-worked.yielded (w ∷ [])),
     )
 
+pub rest-rest-requires : goal.rest-rest-requires
+rest-rest-requires g c = pieces_reached g.N.OfJob.job c.loop-worked.rest.items c.loop-worked.invariant.1
+
+pub returns-clause-reached : goal.returns-clause-reached
+returns-clause-reached g c =
+    reached_again g.N.OfJob.job c.loop-worked.rest.items c.rest-rest.result.pieces c.loop-worked.invariant.1 c.rest-rest.ensures.processes
+    c.rest-rest.ensures.each
+
 pub returns-clause-halts : goal.returns-clause-halts
 returns-clause-halts g c =
     let gives = c.into_iter-worked-iterator.ensures.into_iter_gives in
@@ -54,9 +63,9 @@ returns-clause-whole g c =
     (c.horizon.ensures.is ∙ ap (λ (j : Job). j.horizon) (sym c.requires.job)) in
     let tells = c.all_reach-is_whole.ensures in
     let how = c.how_ended-ended.ensures.whole in
-    let same = c.deref.ensures.value in (
-      (λ whole. subst (λ (e : Time). All e c.loop-worked.rest.items) is (subst (All end) same (tells.0 (how.0 whole)))),
-      λ all. how.1 (tells.1 (subst (All end) (sym same) (subst (λ (e : Time). All e c.loop-worked.rest.items) (sym is) all))),
+    let same = c.pieces.ensures in (
+      (λ whole. subst (λ (e : Time). All e c.rest-rest.result.pieces) is (subst (All end) same (tells.0 (how.0 whole)))),
+      λ all. how.1 (tells.1 (subst (All end) (sym same) (subst (λ (e : Time). All e c.rest-rest.result.pieces) (sym is) all))),
     )
 
 pub returns-clause-ended : goal.returns-clause-ended
@@ -68,19 +77,19 @@ returns-clause-ended g c =
     = ap (λ (n : ℕ). let t : Time = record { tick = n + 1; micro = 0 } in t)
     (c.horizon.ensures.is ∙ ap (λ (j : Job). j.horizon) (sym c.requires.job)) in
     let tells = c.all_reach-is_whole.ensures in
-    let same = c.deref.ensures.value in
+    let same = c.pieces.ensures in
     let whole = c.all_reach-is_whole.result in
     let halts = c.loop-worked.halts.items in
     record {
       is_whole = whole;
       whole = (
-        (λ w. subst (λ (e : Time). All e c.loop-worked.rest.items) is (subst (All end) same (tells.0 w))),
-        λ all. tells.1 (subst (All end) (sym same) (subst (λ (e : Time). All e c.loop-worked.rest.items) (sym is) all)),
+        (λ w. subst (λ (e : Time). All e c.rest-rest.result.pieces) is (subst (All end) same (tells.0 w))),
+        λ all. tells.1 (subst (All end) (sym same) (subst (λ (e : Time). All e c.rest-rest.result.pieces) (sym is) all)),
       );
       is = c.how_ended-ended.ensures.ended
           ∙ ap (λ m. ended_by whole m c.was_stopped-is_caused.result c.is_some.result)
-          (c.lacked_memory-memory.ensures ∙ ap (list_any lacks_memory) c.deref-2.ensures.value)
+          (c.lacked_memory-memory.ensures ∙ ap (list_any lacks_memory) c.deref.ensures.value)
           ∙ ap (λ k. ended_by whole (list_any lacks_memory halts) k c.is_some.result)
-          (c.was_stopped-is_caused.ensures ∙ ap (list_any is_caused) c.deref-3.ensures.value)
+          (c.was_stopped-is_caused.ensures ∙ ap (list_any is_caused) c.deref-2.ensures.value)
           ∙ ap (λ b. ended_by whole (list_any lacks_memory halts) (list_any is_caused halts) b) c.is_some.ensures;
     }

@@ -17,7 +17,7 @@ run_job-requires-clause-crew g c κs _ =
 pub returns-clause-whole : goal.returns-clause-whole
 returns-clause-whole g c =
     subst (λ (job : Job). IfOk c.report_of.result (λ r. (r.ended ≡ Whole)
-    ↔ ((p : ℕ) (x : Piece g.row.N.Denot) → slice_get r.rest.items p ≡ Some x → x.clock ≡ end_time job)))
+    ↔ ((p : ℕ) (x : Piece g.row.N.Denot) → slice_get r.rest.pieces p ≡ Some x → x.clock ≡ end_time job)))
     c.requires.job c.report_of.ensures.whole
 
 pub returns-clause-cancelled : goal.returns-clause-cancelled
@@ -25,5 +25,5 @@ returns-clause-cancelled g c = cancelled_if_ok g.N.OfJob.job c.report_of.result 
 
 pub returns-clause-ended : goal.returns-clause-ended
 returns-clause-ended g c =
-    subst (λ (job : Job). IfOk c.report_of.result (λ r. EndsFor job r.halts.items (is_some r.stopped) r.rest.items r.ended))
+    subst (λ (job : Job). IfOk c.report_of.result (λ r. EndsFor job r.halts.items (is_some r.stopped) r.rest.pieces r.ended))
     c.requires.job c.report_of.ensures.ended
