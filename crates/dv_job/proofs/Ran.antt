@@ -150,7 +150,14 @@ module _ (names : List (List ℕ)) (f : FileTree) (played : List Input) (groups 
     text_of_it ran.Whole at =
         inl (ap (λ (n : ℕ). lines_before names f played o.limit n ++ ending_text (text_end.Whole o.horizon)) (printed.whole at))
     text_of_it (ran.Cut w) at =
-        inr (r.clocks.items, printed.count, printed.some, printed.within, printed.short (λ whole. absurd (let e = sym at ∙ whole in cc)), refl)
+        inr (
+          r.clocks.items,
+          printed.count,
+          printed.some,
+          printed.within,
+          printed.short (λ whole. absurd (let e = sym at ∙ whole in cc)),
+          refl,
+        )
 
     behind : (text : List ℕ) → Appends mid new text → Appends old new (lines ++ text)
     behind text written = Appends-append old mid new lines text printed.lines written

@@ -29,8 +29,8 @@ returns-in_err-works-clause-err g c =
 pub returns-in_err-worked-clause-err : goal.returns-in_err-worked-clause-err
 returns-in_err-worked-clause-err g c =
     let j = c.args.job.now in
-    OnErr-always _ (is_cut_short j c.requires.ready.text c.requires.ready.accepted c.traces_of.ensures.laws {old = g.W.Write.contents c.args.writer.now}
-    {new = g.W.Write.contents c.work_components.new.writer} c.in_err-worked.ensures.err)
+    OnErr-always _ (is_cut_short j c.requires.ready.text c.requires.ready.accepted c.traces_of.ensures.laws
+    {old = g.W.Write.contents c.args.writer.now} {new = g.W.Write.contents c.work_components.new.writer} c.in_err-worked.ensures.err)
 
 pub returns-clause-printed : goal.returns-clause-printed
 returns-clause-printed g c =
