@@ -172,6 +172,14 @@ impl Variables {
         self.data.is_empty()
     }
 
+    /// All variables, flags, bags and queues, in the order of their declaration.
+    #[inline]
+    pub fn as_slice(&self) -> &[Datum]
+        ensures { result.now ≡ self.now }
+    {
+        self.data.as_slice()
+    }
+
     /// The variable, flag, bag or queue at an index, if there is one. A collection has at most
     /// `GREATEST_COUNT` values.
     pub fn get(&self, index: usize) -> Option<DatumView<'_>>
