@@ -1,5 +1,6 @@
 pub mod Appending
 pub mod Behind
+pub mod Digits
 pub mod LeftLines
 pub mod Naming
 pub mod Recording

@@ -3,7 +3,8 @@ use Rattle.std.proofs.Common.{◌≡◌, ℕ, ◌+◌, ◌≤◌, ◌<◌, List,
 use Rattle.std.proofs.Common.{refl, sym, ap, ◌∙◌, arith, subst, take-take, take_all, length-append, length-drop}
 use Rattle.std.proofs.lemmas.List.{drop-append-le, length-take, take-append-drop, take-append-le, take_more, map-append}
 use Rattle.std.proofs.Math.Seq.{drop-append_seam, take-append_seam}
-use Rattle.std.proofs.Common.{slice_get, unwrap_or, Option, None, Some}
+use Rattle.std.proofs.Common.{slice_get, unwrap_or, Option, None, Some, cond, nat_le, inl, inr}
+use Rattle.std.proofs.lemmas.Bool.{cases_lt}
 use Rattle.std.specs.Prelude.{Result, Ok, Err, OnOk, OnErr}
 use Rattle.std.specs.Option.{option_map}
 use Rattle.std.proofs.lemmas.Option.{get_or_from_slice_get, slice_get-get_or, slice_get-map, slice_get_within}
@@ -16,6 +17,7 @@ use Rattle.dv_text.specs.Names.{instance_names, tree_names}
 use Rattle.dv_text.specs.Texts.{ComponentNames, names_at, no_names}
 use Rattle.dv_lines.specs.Words.{WordTexts, word_text}
 use Rattle.dv_lines.specs.Tables.{AreRows, AreWords, Extends, IsRow, IsWord, decorated, row_words, with_ends}
+use Rattle.dv_lines.proofs.Digits.{head_text, part_text}
 use Rattle.dv_lines.specs.declared.pieces.Word.{Word}
 use Rattle.dv_lines.specs.declared.words.Row.{Row}
 
@@ -51,8 +53,9 @@ behind_is a b h = sym (take-append-drop (length a) b) ∙ ap (λ x. x ++ drop (l
 
 text_kept : (a r : List ℕ) (w : Word) → w.start + w.length ≤ length a → word_text (a ++ r) w ≡ word_text a w
 text_kept a r w within =
-    ap (take w.length) (drop-append-le w.start a r (omega (arith, within)))
-    ∙ take-append-le w.length (drop w.start a) r (omega (arith, within, length-drop w.start a))
+    ap (λ part. cond (nat_le w.length 16) (take w.length w.head) part)
+    (ap (take w.length) (drop-append-le w.start a r (omega (arith, within)))
+    ∙ take-append-le w.length (drop w.start a) r (omega (arith, within, length-drop w.start a)))
 
 pub word_kept : (a b : List ℕ) (w : Word) (t : List ℕ) → Extends a b → IsWord a w t → IsWord b w t
 word_kept a b w t h is = (
@@ -118,14 +121,23 @@ rows_texts b (r ∷ rs) [] are = absurd are
 rows_texts b (r ∷ rs) (t ∷ ts) are =
     ap (λ x. x ∷ map (row_words b) rs) (row_text b r t are.0) ∙ ap (λ xs. t ∷ xs) (rows_texts b rs ts are.1)
 
--- a text put behind all bytes is a word
-pub new_word : (a x b : List ℕ) (w : Word) → b ≡ a ++ x → w.start ≡ length a → w.length ≡ length x → IsWord b w x
-new_word a x b w e start long =
+-- a text put behind all bytes is a word, with its head if it is short
+pub new_word : (a x b : List ℕ) (w : Word) → b ≡ a ++ x → w.start ≡ length a → w.length ≡ length x →
+    (length x ≤ 16 → take (length x) w.head ≡ x) → IsWord b w x
+new_word a x b w e start long head =
     let whole = length-append a x in
     let size = ap (λ (y : List ℕ). length y) e in (
       omega (arith, whole, size, start, long),
-      ap (λ y. word_text y w) e ∙ ap (λ n. take w.length (drop n (a ++ x))) start ∙ ap (take w.length) (drop-append_seam a x)
-          ∙ take_all w.length x (omega (arith, long)),
+      elim (cases_lt 16 w.length) [
+        | inl more ↦
+            part_text b w more
+            ∙ ap (λ y. take w.length (drop w.start y)) e
+            ∙ ap (λ n. take w.length (drop n (a ++ x))) start
+            ∙ ap (take w.length) (drop-append_seam a x)
+            ∙ take_all w.length x (omega (arith, long))
+        | inr few ↦
+            head_text b w few ∙ ap (λ n. take n w.head) long ∙ head (omega (arith, few, long))
+      ],
     )
 
 -- one name more

@@ -1,7 +1,9 @@
 -- The words of a component: each name with the signs around it in a line.
-use Rattle.std.specs.Prelude.{ℕ, nat_eq, Bool, true, false, if◌then◌else◌, List, [], ◌∷◌, ◌++◌}
+use Rattle.std.specs.Prelude.{ℕ, ℤ, nat_eq, nat_le, Bool, true, false, if◌then◌else◌, List, [], ◌∷◌, ◌++◌}
 use Rattle.std.specs.Prelude.{map, take, drop, slice_get, unwrap_or, codes}
+use Rattle.std.specs.Fmt.{signed_decimal}
 use Rattle.std.specs.List.{flat_map}
+use Rattle.std.specs.Option.{option_map}
 use Rattle.dv_bag.specs.Bag.{Counts, size}
 use Rattle.dv_bag.specs.Words.{fault_word, kind_word}
 use Rattle.dv_bag.specs.declared.bags.PortBag.{PortBag}
@@ -14,9 +16,9 @@ use Rattle.dv_text.specs.Texts.{datum_text, values_text}
 use Rattle.dv_lines.specs.declared.pieces.Word.{Word}
 use Rattle.dv_lines.specs.declared.line.ComponentWords.{ComponentWords}
 
--- the bytes of a word
+-- the bytes of a word: its head if it is short, else a part of other bytes
 abbrev pub word_text : List ℕ → Word → List ℕ
-word_text bytes w = take w.length (drop w.start bytes)
+word_text bytes w = if nat_le w.length 16 then take w.length w.head else take w.length (drop w.start bytes)
 
 -- each variable after its word
 abbrev pub variables_words : List (List ℕ) → List Datum → List ℕ
@@ -43,6 +45,10 @@ has_some (w ∷ words) (b ∷ bags) = if nat_eq (size b) 0 then has_some words b
 abbrev pub sent_words : List (List ℕ) → List Counts → List ℕ
 sent_words words bags = if has_some words bags then 32 ∷ 62 ∷ ports_words words bags else []
 
+-- ` >` and one value that was sent at a port; nothing past the last port
+abbrev pub one_words : List (List ℕ) → ℕ → ℤ → List ℕ
+one_words words k v = unwrap_or (option_map (λ (w : List ℕ). 32 ∷ 62 ∷ (w ++ signed_decimal v)) (slice_get words k)) []
+
 -- what is left of it, with the ` >` before it if nothing was written yet
 abbrev pub sent_left : Bool → List (List ℕ) → List Counts → List ℕ
 sent_left is_first words bags = if is_first then sent_words words bags else ports_words words bags
@@ -57,7 +63,7 @@ pub record WordTexts : Type 0 where
 -- the words of the code
 abbrev pub words_found : ComponentWords → WordTexts
 words_found w = record {
-  path = word_text w.bytes.now w.path;
+  path = word_text w.bytes.now w.path.now;
   phases = map (word_text w.bytes.now) w.phases.now;
   variables = map (word_text w.bytes.now) w.variables.now;
   outputs = map (word_text w.bytes.now) w.outputs.now;

@@ -8,17 +8,20 @@
 //!
 //! A line is made of words. `Words` has the path, phases, state variables and outputs of each
 //! component as bytes, each with the signs around it, as ` PATH ` and ` NAME=`. They are laid out
-//! once, in one vector that all records share, and are copied 16 bytes at a time. A `Stamp` keeps
-//! the text of a time for all lines of that time; the next time mostly renews its last digits
-//! alone.
+//! once, in one vector that all records share. A word of at most 16 bytes holds them itself too, as
+//! its head, and is put in one step. A `Stamp` keeps the text of a time for all lines of that time;
+//! the next time mostly renews its last digits alone.
 //!
 //! Lines go into a `Room`, one after the other. A `Text` puts itself into the free part of the room
 //! if it fits there. If it does not, the room is doubled, and the text is put again. So no line is
 //! measured before, and most lines ask for no memory.
 #![tactic(auto)]
 
-/// Bytes, words and numbers.
+/// Bytes and words.
 mod pieces;
+
+/// Numbers.
+mod numbers;
 
 /// Values, state variables, and what was sent.
 mod values;
@@ -69,7 +72,8 @@ pub use faults::KnowsFaults;
 pub use leaving::all_left;
 pub use line::ComponentWords;
 pub use lines::Lines;
-pub use pieces::{Word, put_byte, put_digits, put_number, put_word};
+pub use numbers::{put_digits, put_number};
+pub use pieces::{Word, put_byte, put_word};
 pub use text_record::TextRecord;
 pub use told::{faulted, transition};
 pub use trace_writer::{TraceWriter, write_trace};

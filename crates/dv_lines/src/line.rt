@@ -6,7 +6,7 @@ ghost use Rattle.dv_time.specs.Time.{time_text};
 ghost use Rattle.dv_lines.specs.Rooms.{IsPut};
 ghost use Rattle.dv_lines.specs.Words.{phase_at, sent_words, words_found};
 
-use crate::pieces::{Word, put_byte, put_bytes, put_word};
+use crate::pieces::{Word, put_byte, put_bytes, put_path, put_word};
 use crate::room::Text;
 use crate::stamp::Stamp;
 use crate::values::{put_sent, put_values, put_variables};
@@ -18,7 +18,7 @@ pub struct ComponentWords<'w> {
     /// The bytes that the words are in.
     pub bytes: &'w [u8],
     /// The path of the component, with a blank on both sides.
-    pub path: Word,
+    pub path: &'w Word,
     /// The names of its phases in the order of their declaration, each after a blank.
     pub phases: &'w [Word],
     /// The names of its state variables in the order of their declaration, each as ` NAME=`.
@@ -35,7 +35,7 @@ fn put_front(to: &mut [u8], words: &ComponentWords, stamp: &Stamp) -> Option<usi
         (time_text stamp.now ++ (words_found words.now).path)) }
 {
     let at = stamp.put(to, 0)?;
-    put_word(to, at, words.bytes, words.path)
+    put_path(to, at, words.bytes, words.path)
 }
 
 // The letter of a kind of transition.
@@ -55,7 +55,7 @@ fn put_phase(to: &mut [u8], at: usize, words: &ComponentWords, phase: u32) -> Op
         (phase_at (words_found words.now).phases phase)) }
 {
     match words.phases.get(phase as usize) {
-        Some(word) => put_word(to, at, words.bytes, *word),
+        Some(word) => put_word(to, at, words.bytes, word),
         None => put_byte(to, at, b' '),
     }
 }
@@ -158,7 +158,7 @@ pub struct OutPort<'l> {
     /// The bytes that the word is in.
     pub bytes: &'l [u8],
     /// The name of the port, as ` NAME:`.
-    pub word: Word,
+    pub word: &'l Word,
     /// The values that left.
     pub values: &'l Bag,
 }
@@ -166,7 +166,7 @@ pub struct OutPort<'l> {
 impl<'l> Text for OutPort<'l> {
     ghost use Rattle.dv_lines.specs.Words.{port_words, word_text};
 
-    ghost bytes = { λ l. port_words (word_text l.bytes.now l.word) l.values.now };
+    ghost bytes = { λ l. port_words (word_text l.bytes.now l.word.now) l.values.now };
 
     fn put(&self, to: &mut [u8]) -> Option<usize> {
         if self.values.is_empty() {

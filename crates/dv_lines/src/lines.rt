@@ -144,9 +144,9 @@ impl Lines {
     /// # Errors
     ///
     /// No memory for it. The lines are as before.
-    pub fn left(&mut self, bytes: &[u8], word: Word, values: &Bag) -> Result<(), AllocError>
+    pub fn left(&mut self, bytes: &[u8], word: &Word, values: &Bag) -> Result<(), AllocError>
         ensures ok { OnOk result (self.new ≡ self.old
-            ++ port_words (word_text bytes.now word) values.now) }
+            ++ port_words (word_text bytes.now word.now) values.now) }
         ensures err { OnErr result (self.new ≡ self.old) }
     {
         let port = OutPort {

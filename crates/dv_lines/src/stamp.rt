@@ -3,9 +3,10 @@
 ghost use Rattle.std.specs.Prelude.{◌≡◌, ◌≤◌, ◌<◌, ◌∷◌, ◌++◌, ◌/◌, length, take, IfSome};
 ghost use Rattle.std.specs.Fmt.{decimal};
 ghost use Rattle.dv_time.specs.Time.{time_text};
-ghost use Rattle.dv_lines.specs.Rooms.{IsPut, last_four};
+ghost use Rattle.dv_lines.specs.Rooms.{IsPut};
 
-use crate::pieces::{Word, put_byte, put_bytes, put_digits, put_word};
+use crate::numbers::{put_digits, put_four};
+use crate::pieces::{part_of, put_byte, put_bytes, put_sixteen, sixteen_at};
 use dv_time::Time;
 use std::marker::Model;
 
@@ -36,21 +37,6 @@ impl Model for Stamp {
         × (0 < s.front → take s.front s.bytes ≡ decimal (s.time.tick / 10000)) };
 }
 
-// The four last digits of a number.
-#[inline(always)]
-fn last_digits(n: u64) -> [u8; 4]
-    ensures { result ≡ last_four n }
-{
-    let high = n % 10_000 / 100;
-    let low = n % 10_000 % 100;
-    [
-        b'0' + (high / 10) as u8,
-        b'0' + (high % 10) as u8,
-        b'0' + (low / 10) as u8,
-        b'0' + (low % 10) as u8,
-    ]
-}
-
 // How many of the first digits of a tick stay for the next one: `front`, or none.
 #[inline(always)]
 fn digits_kept(front: usize, tick: u64, next: u64) -> usize
@@ -74,9 +60,7 @@ fn put_tick(to: &mut [u8], front: usize, tick: u64) -> Option<usize>
     if front == 0 || front > to.len() {
         return put_digits(to, 0, tick);
     }
-    let digits = last_digits(tick);
-    let end = put_bytes(to, front, &digits)?;
-    Some(end)
+    put_four(to, front, tick)
 }
 
 // The rest of the text of a time: `.micro`.
@@ -168,10 +152,10 @@ impl Stamp {
         if self.length == 0 {
             return put_time(to, at, self.time);
         }
-        let word = Word {
-            start: 0,
-            length: self.length,
-        };
-        put_word(to, at, &self.bytes, word)
+        if self.length <= 16 && to.len() - at >= 16 {
+            put_sixteen(to, at, sixteen_at(&self.bytes, 0), self.length);
+            return Some(at + self.length);
+        }
+        put_bytes(to, at, part_of(&self.bytes, 0, self.length))
     }
 }

@@ -6,16 +6,16 @@ ghost use Rattle.std.specs.Fmt.{signed_decimal};
 ghost use Rattle.std.specs.List.{All};
 ghost use Rattle.dv_bag.specs.Bag.{values_of};
 ghost use Rattle.dv_bag.specs.Collections.{values_in};
-ghost use Rattle.dv_bag.specs.Reading.{datum_of};
 ghost use Rattle.dv_bag.specs.Sent.{RiseFrom, pairs_at};
 ghost use Rattle.dv_text.specs.Texts.{datum_text, numbers_text, values_text};
 ghost use Rattle.dv_text.specs.Writing.{values_from};
 ghost use Rattle.dv_lines.specs.Rooms.{IsPut};
-ghost use Rattle.dv_lines.specs.Words.{word_text, variables_words, sent_words};
+ghost use Rattle.dv_lines.specs.Words.{word_text, variables_words, one_words, sent_words};
 
-use crate::pieces::{Word, put_byte, put_bytes, put_number, put_word};
+use crate::numbers::put_number;
+use crate::pieces::{Word, put_byte, put_few_bytes, put_word};
 use dv_bag::sent::Sending;
-use dv_bag::{Bag, Collection, DatumView, Queue, Sent, Variables};
+use dv_bag::{Bag, Collection, Datum, Queue, Sent, Variables};
 
 // Puts a value, with a comma before it unless it is the first.
 #[inline(always)]
@@ -110,17 +110,16 @@ fn put_held(to: &mut [u8], at: usize, held: &Collection) -> Option<usize>
 
 /// Puts what a state variable holds: a number, `true` or `false`, or a bag or a queue in brackets.
 #[inline(always)]
-pub fn put_datum(to: &mut [u8], at: usize, datum: DatumView) -> Option<usize>
+pub fn put_datum(to: &mut [u8], at: usize, datum: &Datum) -> Option<usize>
     requires { at ≤ length to.old }
     ensures size { length to.new ≡ length to.old }
-    ensures text { IfSome result (λ end. IsPut to.old at to.new end
-        (datum_text (datum_of datum.entry))) }
+    ensures text { IfSome result (λ end. IsPut to.old at to.new end (datum_text datum.now)) }
 {
     match datum {
-        DatumView::Number(number) => put_number(to, at, number),
-        DatumView::Flag(true) => put_bytes(to, at, b"true"),
-        DatumView::Flag(false) => put_bytes(to, at, b"false"),
-        DatumView::Held(held) => put_held(to, at, held),
+        Datum::Number(number) => put_number(to, at, *number),
+        Datum::Flag(true) => put_few_bytes(to, at, b"true"),
+        Datum::Flag(false) => put_few_bytes(to, at, b"false"),
+        Datum::Held(held) => put_held(to, at, held.as_collection()),
     }
 }
 
@@ -139,11 +138,12 @@ pub fn put_variables(
         (variables_words (map (word_text bytes.now) words.now) variables.now)) }
 {
     let mut at = at;
+    let data = variables.as_slice();
     for (index, word) in words.iter().enumerate() {
-        let Some(datum) = variables.get(index) else {
+        let Some(datum) = data.get(index) else {
             return Some(at);
         };
-        at = put_word(to, at, bytes, *word)?;
+        at = put_word(to, at, bytes, word)?;
         at = put_datum(to, at, datum)?;
     }
     Some(at)
@@ -185,9 +185,47 @@ pub fn put_sent(
     ensures text { IfSome result (λ end. IsPut to.old at to.new end
         (sent_words (map (word_text bytes.now) words.now) sent.now)) }
 {
-    if sent.is_empty() {
+    let sendings = sent.as_slice();
+    if sendings.is_empty() {
         return Some(at);
     }
+    if sendings.len() == 1 && sendings[0].copies == 1 {
+        return put_one(to, at, bytes, words, sendings[0].port, sendings[0].value);
+    }
+    put_ports(to, at, bytes, words, sent)
+}
+
+// Puts one value that was sent at a port.
+#[inline(always)]
+fn put_one(
+    to: &mut [u8],
+    at: usize,
+    bytes: &[u8],
+    words: &[Word],
+    port: usize,
+    value: i64,
+) -> Option<usize>
+    requires { at ≤ length to.old }
+    ensures size { length to.new ≡ length to.old }
+    ensures text { IfSome result (λ end. IsPut to.old at to.new end
+        (one_words (map (word_text bytes.now) words.now) port value)) }
+{
+    let Some(word) = words.get(port) else {
+        return Some(at);
+    };
+    let at = put_few_bytes(to, at, b" >")?;
+    let at = put_word(to, at, bytes, word)?;
+    put_number(to, at, value)
+}
+
+// Puts each port at which something was sent with its values, after ` >`.
+#[inline(never)]
+fn put_ports(to: &mut [u8], at: usize, bytes: &[u8], words: &[Word], sent: &Sent) -> Option<usize>
+    requires { at ≤ length to.old }
+    ensures size { length to.new ≡ length to.old }
+    ensures text { IfSome result (λ end. IsPut to.old at to.new end
+        (sent_words (map (word_text bytes.now) words.now) sent.now)) }
+{
     let mut at = at;
     let mut is_first = true;
     let mut next = 0;
@@ -203,7 +241,7 @@ pub fn put_sent(
                 at,
                 is_first,
                 bytes,
-                *word,
+                word,
                 &sendings[index..],
                 sending.port,
             )?;
@@ -221,7 +259,7 @@ fn put_port(
     at: usize,
     is_first: bool,
     bytes: &[u8],
-    word: Word,
+    word: &Word,
     sendings: &[Sending],
     port: usize,
 ) -> Option<usize>
@@ -230,7 +268,7 @@ fn put_port(
     requires some { All (λ s. 0 < s.copies) sendings.now }
     ensures size { length to.new ≡ length to.old }
     ensures text { IfSome result (λ end. IsPut to.old at to.new end
-        ((if is_first then 32 ∷ 62 ∷ [] else []) ++ (word_text bytes.now word
+        ((if is_first then 32 ∷ 62 ∷ [] else []) ++ (word_text bytes.now word.now
         ++ values_from true (values_of (pairs_at port sendings.now))))) }
 {
     let mut at = at;

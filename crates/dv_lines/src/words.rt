@@ -1,6 +1,6 @@
 //! The words of all components of a tree, looked up once.
 
-ghost use Rattle.std.specs.Prelude.{◌≡◌, ◌<◌, [], ◌∷◌, length, map, IfOk, OnOk};
+ghost use Rattle.std.specs.Prelude.{◌≡◌, ◌<◌, ◌≤◌, [], ◌∷◌, length, map, take, IfOk, OnOk};
 ghost use Rattle.dv_syntax.specs.Trees.{file_of};
 ghost use Rattle.dv_text.specs.Names.{tree_names, tree_ports};
 ghost use Rattle.dv_text.specs.Texts.{names_at};
@@ -13,6 +13,20 @@ use crate::line::ComponentWords;
 use crate::pieces::Word;
 use dv_tree::Tree;
 use std::alloc::{AllocError, Global};
+
+// The path of no component.
+static NO_PATH: Word = Word {
+    start: 0,
+    length: 2,
+    head: *b"                ",
+};
+
+// The word of no port.
+static NO_PORT: Word = Word {
+    start: 0,
+    length: 2,
+    head: *b" :              ",
+};
 
 // The words of a component, within the bytes of `Words`.
 #[derive(Drop)]
@@ -69,17 +83,14 @@ impl Words {
         match self.rows.get(component as usize) {
             Some(row) => ComponentWords {
                 bytes: &self.bytes,
-                path: row.path,
+                path: &row.path,
                 phases: &row.phases,
                 variables: &row.variables,
                 outputs: &row.outputs,
             },
             None => ComponentWords {
-                bytes: b"  ",
-                path: Word {
-                    start: 0,
-                    length: 2,
-                },
+                bytes: &[],
+                path: &NO_PATH,
                 phases: &[],
                 variables: &[],
                 outputs: &[],
@@ -88,20 +99,25 @@ impl Words {
     }
 
     /// The word of an output port of the root, with the bytes that it is in.
-    pub fn port(&self, port: usize) -> (&[u8], Word)
-        ensures { word_text result.0.now result.1 ≡ port_at (ports_found self.now) port }
+    pub fn port(&self, port: usize) -> (&[u8], &Word)
+        ensures { word_text result.0.now result.1.now ≡ port_at (ports_found self.now) port }
     {
         match self.outputs.get(port) {
-            Some(word) => (&self.bytes, *word),
-            None => (
-                b" :",
-                Word {
-                    start: 0,
-                    length: 2,
-                },
-            ),
+            Some(word) => (&self.bytes, word),
+            None => (&[], &NO_PORT),
         }
     }
+}
+
+// The bytes of a word as a head, if there are at most 16.
+fn head_of(word: &[u8]) -> [u8; 16]
+    ensures { length word.now ≤ 16 → take (length word.now) result ≡ word.now }
+{
+    let mut head = [0; 16];
+    if word.len() <= 16 {
+        head[..word.len()].copy_from_slice(word);
+    }
+    head
 }
 
 // Appends a word: a blank, the name, and `last`.
@@ -114,9 +130,11 @@ fn push_word(bytes: &mut Vec<u8>, name: &str, last: &[u8]) -> Result<Word, Alloc
     bytes.push(b' ')?;
     bytes.extend_from_slice(name.as_bytes())?;
     bytes.extend_from_slice(last)?;
+    let word = &bytes[start..];
     Ok(Word {
         start,
-        length: bytes.len().saturating_sub(start),
+        length: word.len(),
+        head: head_of(word),
     })
 }
 

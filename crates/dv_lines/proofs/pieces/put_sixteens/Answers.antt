@@ -1,4 +1,4 @@
-use Rattle.std.proofs.Common.{◌≡◌, ◌+◌, ◌≤◌, ◌++◌, ap, ◌∙◌, append-nil, arith, drop, length, sym, take}
+use Rattle.std.proofs.Common.{◌≡◌, ◌+◌, ◌++◌, ap, ◌∙◌, append-nil, arith, drop, sym, take, take-take}
 use Rattle.dv_lines.proofs.Behind.{more_put, put_within}
 use Rattle.dv_lines.proofs.pieces.put_sixteens.Goals as goal
 
@@ -15,18 +15,22 @@ loop-done-init c =
 pub loop-done-preserved : goal.loop-done-preserved
 loop-done-preserved c =
     let held = c.loop-done.invariant in
+    let there = c.args.at + c.loop-done.done in
+    let from = c.args.start + c.loop-done.done in
+    let part = take-take 16 16 (drop from c.args.bytes.now) (omega arith) in
+    let step = ap (take 16) c.sixteen_at.ensures in
     record {
       size = omega (arith, held.size, c.put_sixteen.ensures.size);
       within = omega (arith, c.loop-done-test.true);
       text =
-          more_put (take c.args.at c.args.to.now) _ _ c.args.bytes.now c.args.at c.args.word.start c.loop-done.done 16 held.text
-          c.put_sixteen.ensures.text.1;
+          more_put (take c.args.at c.args.to.now) _ _ c.args.bytes.now c.args.at c.args.start c.loop-done.done 16 held.text
+          (c.put_sixteen.ensures.text.1 ∙ ap (λ ys. take there c.loop-done.to ++ ys) (step ∙ part));
     }
 
 pub returns-clause-text : goal.returns-clause-text
 returns-clause-text c =
     let held = c.loop-done.invariant in (
       omega (arith, held.size, c.requires.room),
-      put_within c.args.to.now _ (drop c.args.word.start c.args.bytes.now) c.args.at c.loop-done.done c.args.word.length
+      put_within c.args.to.now _ (drop c.args.start c.args.bytes.now) c.args.at c.loop-done.done c.args.count
           (omega (arith, c.requires.room)) (omega (arith, c.loop-done-test.false)) held.text,
     )

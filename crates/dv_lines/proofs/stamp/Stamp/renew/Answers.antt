@@ -1,4 +1,4 @@
-use Rattle.std.proofs.Common.{◌/◌, take, ap, ◌∙◌, sym, arith}
+use Rattle.std.proofs.Common.{take, ap, ◌∙◌, sym, arith}
 use Rattle.std.specs.Fmt.{decimal}
 use Rattle.dv_lines.proofs.stamp.Stamp.renew.Goals as goal
 
