@@ -9,6 +9,7 @@ its own as `E7 line 3` between backquotes is the answer to the model and the inp
 output goes on to a program that may be missing, only the status is looked at, and one that begins with such a program is left
 out."""
 
+import os
 import re
 import shutil
 import subprocess
@@ -23,7 +24,7 @@ DOCUMENTS = ("README.md", "docs/TUTORIAL.md", "docs/ERRORS.md", "docs/PARALLEL.m
 # A document that shows no models calls those of another one by these names.
 BORROWED = {"docs/LOOKING.md": ("README.md", ("plant.pd", "model.pd"), ("rain.txt",))}
 # What is there where a command is run, beside what it names itself.
-LINKED = ("examples", "tick.pd")
+LINKED = ("examples", "scripts", "tick.pd")
 # Programs that may be missing, whose output is a picture or is shown on a screen.
 FOREIGN = ("dot", "jq", "sqlite3", "gtkwave")
 CUT = re.compile(rf" \| ({'|'.join(FOREIGN)})\b.*")
@@ -108,8 +109,10 @@ def make_folder(root, bench, files):
 
 
 def run(folder, line):
-    """Runs a command in a folder: its status, and all that it prints, in both orders in which that can come."""
-    ended = subprocess.run(["bash", "-c", line], cwd=folder, capture_output=True, check=False, text=True, timeout=SECONDS)
+    """Runs a command in a folder: its status, and all that it prints, in both orders in which that can come. Scripts run the program of
+    the folder."""
+    words = {"cwd": folder, "env": {**os.environ, "PDEVS": str(folder / "pdevs")}, "timeout": SECONDS}
+    ended = subprocess.run(["bash", "-c", line], capture_output=True, check=False, text=True, **words)
     return ended.returncode, {ended.stderr + ended.stdout, ended.stdout + ended.stderr}
 
 

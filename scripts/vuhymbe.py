@@ -1,0 +1,60 @@
+"""Runs models and reads what comes out as numbers, for scripts and notebooks.
+
+    import vuhymbe
+    numbers = vuhymbe.stats("model.pd", horizon=1000)
+    numbers["phase", "server", "busy", "share"]
+
+Options of the program are named as there, with `_` for `-`: `inputs="inputs.txt"`, `processes=2`, `to=500`, `quantiles=True`. The program
+is ./pdevs of this repository, or the one that the environment variable PDEVS names.
+"""
+
+import csv
+import io
+import json
+import os
+import subprocess
+import tempfile
+from pathlib import Path
+
+PROGRAM = os.environ.get("PDEVS") or str(Path(__file__).resolve().parent.parent / "pdevs")
+
+
+class NotRun(Exception):
+    """The program refused what it was given, or did not finish. The text is what it told."""
+
+
+def call(*words, text=None):
+    """What the program prints for these words. A run with faults of components is a whole run."""
+    ended = subprocess.run([PROGRAM, *map(str, words)], input=text, capture_output=True, check=False, text=True)
+    if ended.returncode not in (0, 3):
+        raise NotRun(ended.stderr.strip() or f"status {ended.returncode}: the trace is partial")
+    return ended.stdout
+
+
+def words_of(options):
+    """Options as words of a command line."""
+    for name, value in options.items():
+        if value is True:
+            yield f"--{name.replace('_', '-')}"
+        elif value is not None and value is not False:
+            yield from (f"--{name.replace('_', '-')}", value)
+
+
+def run(model, horizon, **options):
+    """The trace of a run, as a text."""
+    return call("run", model, "--horizon", horizon, *words_of(options))
+
+
+def stats(model, horizon, **options):
+    """The numbers of a run by (kind, component, name, measure), as `run --stats --csv` prints them. A measure that a component does not
+    have is left out."""
+    rows = csv.DictReader(io.StringIO(run(model, horizon, stats=True, csv=True, **options)))
+    return {(row["kind"], row["component"], row["name"], row["measure"]): float(row["value"]) for row in rows if row["value"]}
+
+
+def table(model, horizon, inputs=None, **options):
+    """The rows of a run, as `table --json` prints them: one dictionary for each transition, value that was sent and value that came."""
+    with tempfile.NamedTemporaryFile("w", suffix=".trace", encoding="utf-8") as trace:
+        trace.write(run(model, horizon, inputs=inputs, **options))
+        trace.flush()
+        return [json.loads(line) for line in call("table", model, trace.name, "--json", *words_of({"inputs": inputs})).splitlines()]
