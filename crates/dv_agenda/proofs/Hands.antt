@@ -6,17 +6,17 @@ use Rattle.std.proofs.lemmas.Bool.Decides.{nat_tests}
 use Rattle.dv_time.specs.Time.{earliest, rank}
 use Rattle.dv_time.specs.declared.time.Time.{Time}
 use Rattle.dv_agenda.specs.Agendas.{IsAgenda, IsKept, IsKnown}
+use Rattle.dv_agenda.specs.Sets.{has}
 use Rattle.dv_agenda.specs.Waits.{due_at, due_from, ends_at, first_of, same_time, unless_at, without}
-use Rattle.dv_agenda.specs.Wheel.{AreFrom, IsFrom, IsHeld, IsOfSlot, least_at, slot}
+use Rattle.dv_agenda.specs.Wheel.{AreFrom, IsFrom, IsHeld, IsOfSlot, least_at, nothing, slot}
 use Rattle.dv_agenda.specs.declared.least.Least.{Least}
-use Rattle.dv_agenda.specs.declared.least.Least.TheVariants.{Known, Unknown}
 use Rattle.dv_agenda.specs.declared.first_wait.FirstWait.{FirstWait}
 use Rattle.dv_agenda.specs.declared.hand.Hand.{Hand}
 use Rattle.dv_agenda.specs.declared.wheel.Wheel.{Wheel}
-use Rattle.dv_agenda.proofs.Leasts.{elsewhere, written}
+use Rattle.dv_agenda.proofs.Leasts.{elsewhere, nothing_held, written}
 use Rattle.dv_agenda.proofs.FirstWaits.{either, first_is, first_least, first_there, same_tick, twice}
 use Rattle.dv_agenda.proofs.OrderOfWaits.{earliest_comm, same}
-use Rattle.dv_agenda.proofs.Wheels.{later_by, tick_from}
+use Rattle.dv_agenda.proofs.Wheels.{held_on, in_at, later_by, tick_from}
 
 pub without_at : (t : Time) (ws : List (Option Time)) (p : ℕ) → get_or (without t ws) p None ≡ unless_at t (get_or ws p None)
 without_at t [] zero = refl
@@ -219,10 +219,9 @@ from_unless t now w h = by (ends_at t w) refl
 pub from_without : (t : Time) (now : ℕ) (ws : List (Option Time)) → AreFrom ws now → AreFrom (without t ws) now
 from_without t now ws h = λ p. subst (IsFrom now) (sym (without_at t ws p)) (from_unless t now (get_or ws p None) (h p))
 
-of_slot_without : (t : Time) (ws : List (Option Time)) (now q : ℕ) (w : Option Time) → slot t.tick now ≢ q → IsOfSlot ws now q w
-    → IsOfSlot (without t ws) now q w
-of_slot_without t ws now q None ne h = tt
-of_slot_without t ws now q (Some u) ne h = (
+of_slot_without : (t : Time) (ws : List (Option Time)) (now q : ℕ) (u : Time) → slot t.tick now ≢ q → IsOfSlot ws now q u
+    → IsOfSlot (without t ws) now q u
+of_slot_without t ws now q u ne h = (
   h.0,
   (
     h.1.0,
@@ -237,19 +236,26 @@ of_slot_without t ws now q (Some u) ne h = (
 
 held_by : (t : Time) (ws : List (Option Time)) (now q : ℕ) (l : Least) → slot t.tick now ≢ q → IsHeld ws now q l
     → IsHeld (without t ws) now q l
-held_by t ws now q Unknown ne h = tt
-held_by t ws now q (Known w) ne h = of_slot_without t ws now q w ne h
+held_by t ws now q l ne h = λ u told. of_slot_without t ws now q u ne (h u told)
 
--- what is known of the slots, but for that of a time, is so without the components that wait for the time
-pub held_without : (t : Time) (ws : List (Option Time)) (now s : ℕ) (leasts : List Least) → s ≡ slot t.tick now → s < length leasts
-    → ((q : ℕ) → IsHeld ws now q (least_at leasts q))
-    → (q : ℕ) → IsHeld (without t ws) now q (least_at (set leasts s Unknown) q)
-held_without t ws now s leasts is lt h q = elim (cases_eq q s) [
-  | inl d ↦ subst (IsHeld (without t ws) now q) (sym (written leasts s q Unknown lt d)) tt
+-- what is known of the slots when time goes on to a time, without the components that wait for it, where nothing is left in its slot
+pub held_due : (t : Time) (ws : List (Option Time)) (now s : ℕ) (leasts : List Least) → now ≤ t.tick → AreFrom ws t.tick
+    → s ≡ slot t.tick now → s < length leasts → ((q : ℕ) → IsHeld ws now q (least_at leasts q))
+    → (q : ℕ) → IsHeld (without t ws) t.tick q (least_at (set leasts s nothing) q)
+held_due t ws now s leasts on from is lt h q = elim (cases_eq q s) [
+  | inl d ↦ subst (IsHeld (without t ws) t.tick q) (sym (written leasts s q nothing lt d)) (nothing_held (without t ws) t.tick q)
   | inr ne ↦
-      subst (IsHeld (without t ws) now q) (sym (elsewhere leasts s q Unknown ne))
-      (held_by t ws now q (least_at leasts q) (λ e. ne (sym e ∙ sym is)) (h q))
+      subst (IsHeld (without t ws) t.tick q) (sym (elsewhere leasts s q nothing ne))
+      (held_on (without t ws) now t.tick q (least_at leasts q) on (from_without t t.tick ws from) (λ e. ne (sym e ∙ sym is))
+      (held_by t ws now q (least_at leasts q) (λ e. ne (sym e ∙ sym is)) (h q)))
 ]
+
+-- a component that waits for a time is in the set of its slot
+pub due_there : (ws : List (Option Time)) (wheel : Wheel) (s p : ℕ) (t : Time) → s ≡ slot t.tick wheel.present → IsKept ws wheel
+    → ends_at t (get_or ws p None) ≡ true → has wheel.members (s * wheel.span + p) ≡ 1
+due_there ws wheel s p t is kept e =
+    ap (λ (x : ℕ). has wheel.members (x * wheel.span + p)) is
+    ∙ (in_at ws wheel p t kept (ends_is t (get_or ws p None) e)).1
 
 -- no component is in hand
 pub nothing_left : (ws : List (Option Time)) (wheel : Wheel) (first : FirstWait) (hand : Hand) → hand.left ≡ 0 → length ws ≤ 2 ^ 32

@@ -1,25 +1,22 @@
 -- What is known of the least waits in the slots when a component has another wait.
-use Rattle.std.proofs.Common.{◌≡◌, ◌≢◌, inl, inr, ◌⊎◌, ℕ, zero, suc, ◌<◌, List, length, replicate, set, get_or-set_same, get_or-set_other}
-use Rattle.std.proofs.Common.{get_or, Option, Some, None, refl, sym, ap, subst, ◌∙◌}
+use Rattle.std.proofs.Common.{◌≡◌, ◌≢◌, inl, inr, ℕ, zero, suc, ◌<◌, List, length, replicate, set, get_or-set_same, get_or-set_other}
+use Rattle.std.proofs.Common.{get_or, Option, Some, None, sym, ap, subst, arith, ◌∙◌}
 use Rattle.std.proofs.lemmas.Bool.{cases_eq}
 use Rattle.std.proofs.lemmas.List.{get_or_default}
 use Rattle.dv_time.specs.declared.time.Time.{Time}
-use Rattle.dv_time.specs.Time.{earliest}
-use Rattle.dv_agenda.specs.Wheel.{IsHeld, IsLow, IsOfSlot, least_at, slot}
+use Rattle.dv_agenda.specs.Wheel.{IsHeld, IsLow, IsOfSlot, least_at, nothing, slot, unknown}
 use Rattle.dv_agenda.specs.declared.least.Least.{Least}
-use Rattle.dv_agenda.specs.declared.least.Least.TheVariants.{Known, Unknown}
-use Rattle.dv_agenda.proofs.FirstWaits.{either}
 
 -- what is known of a slot, where that of a slot is written
 pub elsewhere : (leasts : List Least) (s q : ℕ) (l : Least) → q ≢ s → least_at (set leasts s l) q ≡ least_at leasts q
-elsewhere leasts s q l ne = get_or-set_other leasts s q l Unknown ne
+elsewhere leasts s q l ne = get_or-set_other leasts s q l unknown ne
 
 pub written : (leasts : List Least) (s q : ℕ) (l : Least) → s < length leasts → q ≡ s → least_at (set leasts s l) q ≡ l
-written leasts s q l lt e = ap (least_at (set leasts s l)) e ∙ get_or-set_same leasts s l Unknown lt
+written leasts s q l lt e = ap (least_at (set leasts s l)) e ∙ get_or-set_same leasts s l unknown lt
 
 -- what is read at a slot is what is known of it
 pub known_is : (leasts : List Least) (at : ℕ) (l : Least) → at < length leasts → l ≡ get_or leasts at l → least_at leasts at ≡ l
-known_is leasts at l lt read = get_or_default leasts at Unknown l lt ∙ sym read
+known_is leasts at l lt read = get_or_default leasts at unknown l lt ∙ sym read
 
 -- what is low in the slots stays so, where what is written at one keeps what was low there
 pub low_written : (leasts : List Least) (at : ℕ) (old l : Least) → at < length leasts → old ≡ get_or leasts at old
@@ -44,30 +41,38 @@ held_written leasts ws now at old l lt read keeps h s = elim (cases_eq s at) [
   | inr ne ↦ subst (IsHeld ws now s) (sym (elsewhere leasts at s l ne)) (h s)
 ]
 
--- one more component waits for a time of a slot
-pub of_slot_entered : (ws : List (Option Time)) (now at index : ℕ) (least : Option Time) (t : Time) → get_or ws index None ≡ Some t
-    → slot t.tick now ≡ at → IsOfSlot ws now at least → IsOfSlot ws now at (earliest least (Some t))
-of_slot_entered ws now at index least t e is h = by (either least (Some t))
-  where
-    by : (earliest least (Some t) ≡ least) ⊎ (earliest least (Some t) ≡ Some t) → IsOfSlot ws now at (earliest least (Some t))
-    by (inl d) = subst (IsOfSlot ws now at) (sym d) h
-    by (inr d) = subst (IsOfSlot ws now at) (sym d) (is, (index, e))
+pub unknown_held : (ws : List (Option Time)) (now s : ℕ) → IsHeld ws now s unknown
+unknown_held ws now s t told =
+    let e : unknown.time ≡ t = told.0 in
+    let tick : 0 ≡ t.tick = ap (λ (u : Time). u.tick) e in
+    let lt : 0 < t.tick = told.1.0 in
+    absurd (omega arith)
+
+pub nothing_held : (ws : List (Option Time)) (now s : ℕ) → IsHeld ws now s nothing
+nothing_held ws now s t told =
+    let e : nothing.time ≡ t = told.0 in
+    let tick : 18446744073709551615 ≡ t.tick = ap (λ (u : Time). u.tick) e in
+    let lt : t.tick < 18446744073709551615 = told.1.1 in
+    absurd (omega arith)
 
 -- a wait of a slot is one still when a component has another wait, unless the component had it
-of_slot_still : (ws : List (Option Time)) (now s index : ℕ) (w f : Option Time) → index < length ws
-    → ((t : Time) → f ≡ Some t → slot t.tick now ≡ s → get_or ws index None ≢ Some t)
-    → IsOfSlot ws now s f → IsOfSlot (set ws index w) now s f
-of_slot_still ws now s index w None lt other h = tt
-of_slot_still ws now s index w (Some t) lt other h =
-    let ne : h.1.0 ≢ index = λ d. other t refl h.0 (ap (λ (i : ℕ). get_or ws i None) (sym d) ∙ h.1.1) in
+of_slot_still : (ws : List (Option Time)) (now s index : ℕ) (w : Option Time) (t : Time) → index < length ws
+    → (slot t.tick now ≡ s → get_or ws index None ≢ Some t) → IsOfSlot ws now s t → IsOfSlot (set ws index w) now s t
+of_slot_still ws now s index w t lt other h =
+    let ne : h.1.0 ≢ index = λ d. other h.0 (ap (λ (i : ℕ). get_or ws i None) (sym d) ∙ h.1.1) in
     (h.0, (h.1.0, get_or-set_other ws index h.1.0 w None ne ∙ h.1.1))
 
 -- a component of another slot, or of none
 pub held_by : (ws : List (Option Time)) (now s index : ℕ) (w : Option Time) (l : Least) → index < length ws
     → ((t : Time) → slot t.tick now ≡ s → get_or ws index None ≢ Some t)
     → IsHeld ws now s l → IsHeld (set ws index w) now s l
-held_by ws now s index w Unknown lt other h = tt
-held_by ws now s index w (Known f) lt other h = of_slot_still ws now s index w f lt (λ t e is. other t is) h
+held_by ws now s index w l lt other h = λ t told. of_slot_still ws now s index w t lt (other t) (h t told)
+
+-- a component whose wait is not the least one of its slot
+pub held_still : (ws : List (Option Time)) (now s index : ℕ) (w : Option Time) (u : Time) (l : Least) → index < length ws
+    → get_or ws index None ≡ Some u → (Some l.time ≡ Some u → ⊥) → IsHeld ws now s l → IsHeld (set ws index w) now s l
+held_still ws now s index w u l lt e other h = λ t told.
+    of_slot_still ws now s index w t lt (λ is d. other (ap Some told.0 ∙ sym d ∙ e)) (h t told)
 
 pub held_none : (ws : List (Option Time)) (now s index : ℕ) (w : Option Time) (l : Least) → index < length ws
     → get_or ws index None ≡ None → IsHeld ws now s l → IsHeld (set ws index w) now s l
@@ -110,27 +115,11 @@ held_left ws now at index w t leasts old l lt fits e is read keeps h s =
     held_after ws now at index s w t l leasts lt fits e is
     (keeps (subst (IsHeld ws now at) (known_is leasts at old lt read) (h at))) h
 
-none_in : (ws : List (Option Time)) (now s n q : ℕ) → IsHeld ws now s (get_or (replicate n (Known None)) q Unknown)
-none_in ws now s zero q = tt
-none_in ws now s (suc n) zero = tt
+none_in : (ws : List (Option Time)) (now s n q : ℕ) → IsHeld ws now s (least_at (replicate n nothing) q)
+none_in ws now s zero q = unknown_held ws now s
+none_in ws now s (suc n) zero = nothing_held ws now s
 none_in ws now s (suc n) (suc q) = none_in ws now s n q
 
 -- no slot is known to have a wait
-pub held_empty : (ws : List (Option Time)) (now n s : ℕ) → IsHeld ws now s (least_at (replicate n (Known None)) s)
+pub held_empty : (ws : List (Option Time)) (now n s : ℕ) → IsHeld ws now s (least_at (replicate n nothing) s)
 held_empty ws now n s = none_in ws now s n s
-
--- what is known of a slot is forgotten
-pub low_unknown : (leasts : List Least) (s q : ℕ) (w : Option Time) → s < length leasts → IsLow (least_at leasts q) w
-    → IsLow (least_at (set leasts s Unknown) q) w
-low_unknown leasts s q w lt h = elim (cases_eq q s) [
-  | inl d ↦ subst (λ (k : Least). IsLow k w) (sym (written leasts s q Unknown lt d)) tt
-  | inr ne ↦ subst (λ (k : Least). IsLow k w) (sym (elsewhere leasts s q Unknown ne)) h
-]
-
--- nothing is known of a slot but that no wait is
-pub held_closed : (leasts : List Least) (ws : List (Option Time)) (now at : ℕ) → at < length leasts
-    → ((q : ℕ) → IsHeld ws now q (least_at leasts q)) → (s : ℕ) → IsHeld ws now s (least_at (set leasts at (Known None)) s)
-held_closed leasts ws now at lt h s = elim (cases_eq s at) [
-  | inl d ↦ subst (IsHeld ws now s) (sym (written leasts at s (Known None) lt d)) tt
-  | inr ne ↦ subst (IsHeld ws now s) (sym (elsewhere leasts at s (Known None) ne)) (h s)
-]

@@ -288,19 +288,42 @@ headed_taken heads heads2 words at h lt size others =
       ];
     }
 
-pub headed_written : (heads heads2 words : List ℕ) (at x : ℕ) → IsHeaded heads words → length heads2 ≡ length heads
-    → has heads2 at ≡ 1 → ((q : ℕ) → q ≢ at → has heads2 q ≡ has heads q) → IsHeaded heads2 (set words at x)
-headed_written heads heads2 words at x h size there others =
-    let same : length (set words at x) ≡ length words = length-set words at x in
-    let room : length words ≤ 64 * length heads = h.room in
-    let few : length words ≤ 2 ^ 50 = h.few in
-    let heads_few : length heads ≤ 2 ^ 50 = h.heads_few in
-    record {
-      room = omega arith;
-      few = omega arith;
-      heads_few = omega arith;
-      headed = λ p e. elim (cases_eq (p / 64) at) [
-        | inl d ↦ ap (has heads2) d ∙ there
-        | inr ne ↦ others (p / 64) ne ∙ h.headed p (sym (others_written words at x p ne) ∙ e)
-      ];
-    }
+-- a word that is not 0 has its lowest bit
+lowest_there : (x : ℕ) → x ≢ 0 → x < 2 ^ 64 → (trailing_zeros w64 x < 64) × (bit_at x (trailing_zeros w64 x) ≡ 1)
+lowest_there x some small =
+    let zeros = bit_at-trailing_zeros w64 x (omega arith) small in (
+      elim (cases_lt (trailing_zeros w64 x) 64) [
+        | inl lt ↦ lt
+        | inr ge ↦
+            let no : ◌≡◌ {A = ℕ} 1 0 = sym zeros.1 ∙ bit_at_above x 64 (trailing_zeros w64 x) small ge in
+            absurd (omega arith)
+      ],
+      zeros.1,
+    )
+
+-- one more number in a word that has some
+pub headed_more : (heads words words2 : List ℕ) (n x : ℕ) → IsHeaded heads words → length words2 ≡ length words
+    → get_or words (n / 64) 0 ≡ x → x ≢ 0 → x < 2 ^ 64 → ((q : ℕ) → q ≢ n → has words2 q ≡ has words q) → IsHeaded heads words2
+headed_more heads words words2 n x h size is some small others =
+    let low = lowest_there x some small in
+    let lt : trailing_zeros w64 x < 64 = low.0 in
+    let word : (64 * (n / 64) + trailing_zeros w64 x) / 64 ≡ n / 64 = omega arith in
+    let member : has words (64 * (n / 64) + trailing_zeros w64 x) ≡ 1 =
+    has_word words (n / 64) (trailing_zeros w64 x) lt ∙ ap (λ (y : ℕ). bit_at y (trailing_zeros w64 x)) is ∙ low.1 in
+    headed_insert heads heads words words2 n h size refl others
+    (ap (has heads) (sym word) ∙ h.headed (64 * (n / 64) + trailing_zeros w64 x) member) (λ q ne. refl)
+
+-- the lowest bit of what is left of a word from a number on is above the number, where the set does not have it
+pub none_at : (words : List ℕ) (at rest : ℕ) → rest ≡ get_or words (at / 64) 0 / 2 ^ (at % 64) → rest ≢ 0 → rest < 2 ^ 64
+    → has words at ≡ 0 → 0 < trailing_zeros w64 rest
+none_at words at rest is some small gone = elim (cases_lt 0 (trailing_zeros w64 rest)) [
+  | inl lt ↦ lt
+  | inr ge ↦
+      let low = lowest_there rest some small in
+      let first : trailing_zeros w64 rest ≡ 0 = omega arith in
+      let here : at % 64 + 0 ≡ at % 64 = omega arith in
+      let no : ◌≡◌ {A = ℕ} 1 0 =
+      sym low.1 ∙ ap (bit_at rest) first ∙ ap (λ (x : ℕ). bit_at x 0) is
+      ∙ left_bit (get_or words (at / 64) 0) (at % 64) 0 ∙ ap (bit_at (get_or words (at / 64) 0)) here ∙ sym (has_is words at) ∙ gone in
+      absurd (omega arith)
+]

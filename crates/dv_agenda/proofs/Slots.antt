@@ -228,21 +228,3 @@ lead_below x pos small =
     let top = leading_top 64 x pos small in
     let sum : count_leading_zeros 64 x + suc top.0 ≡ 64 = top.1 in
     omega arith
-
--- a slot of the first level has one tick
-pub one_tick : (n u now : ℕ) → slot n now ≡ slot u now → slot n now < 64 → slot u n ≡ slot u now
-unfolding slot
-one_tick n u now e lt = elim (cases_eq (n / 64) (now / 64)) [
-  | inl d ↦ elim (cases_eq (u / 64) (now / 64)) [
-    | inl d2 ↦
-        slot_same 9 0 u n (d2 ∙ sym d) ∙ sym (slot_same 9 0 u now d2)
-    | inr ne ↦
-        let s : slot_from 10 0 u now ≡ slot_from 9 1 (u / 64) (now / 64) = slot_other 9 0 u now ne in
-        let l : 64 * 1 ≤ slot_from 9 1 (u / 64) (now / 64) = slot_low 9 1 (u / 64) (now / 64) in
-        absurd (omega arith)
-  ]
-  | inr ne ↦
-      let s : slot_from 10 0 n now ≡ slot_from 9 1 (n / 64) (now / 64) = slot_other 9 0 n now ne in
-      let l : 64 * 1 ≤ slot_from 9 1 (n / 64) (now / 64) = slot_low 9 1 (n / 64) (now / 64) in
-      absurd (omega arith)
-]

@@ -13,15 +13,14 @@ use Rattle.dv_time.specs.Time.{earliest}
 use Rattle.dv_agenda.specs.Agendas.{AreHeld, AreIn, HasMore, HasRoom, IsIn, IsKept}
 use Rattle.dv_agenda.specs.Sets.{has}
 use Rattle.dv_agenda.specs.Waits.{ends_at, first_of, same_time}
-use Rattle.dv_agenda.specs.Wheel.{AreFrom, IsFrom, IsHeld, IsLow, IsOfSlot, in_slot, least_at, slot}
+use Rattle.dv_agenda.specs.Wheel.{AreFrom, IsFrom, IsHeld, IsLow, IsOfSlot, IsTold, in_slot, least_at, nothing, slot}
 use Rattle.dv_agenda.specs.declared.least.Least.{Least}
-use Rattle.dv_agenda.specs.declared.least.Least.TheVariants.{Known, Unknown}
 use Rattle.dv_agenda.specs.declared.wheel.Wheel.{Wheel}
 use Rattle.dv_agenda.proofs.FirstWaits.{earlier_first, first_least, first_there, nothing_first, same_tick}
-use Rattle.dv_agenda.proofs.Leasts.{elsewhere, held_empty, written}
-use Rattle.dv_agenda.proofs.OrderOfWaits.{earliest-none, earliest_comm}
+use Rattle.dv_agenda.proofs.Leasts.{elsewhere, held_empty}
+use Rattle.dv_agenda.proofs.OrderOfWaits.{earliest_comm}
 use Rattle.dv_agenda.proofs.Sets.{has_word}
-use Rattle.dv_agenda.proofs.Slots.{one_tick, slot_below, slot_stays, slots_ordered}
+use Rattle.dv_agenda.proofs.Slots.{slot_below, slot_stays, slots_ordered}
 
 not_due_by : (wheel : Wheel) (p : ℕ) (t : Time) (w : Option Time) → IsIn wheel p w
     → has wheel.members (slot t.tick wheel.present * wheel.span + p) ≡ 0 → ends_at t w ≡ false
@@ -39,6 +38,16 @@ not_due_by wheel p t (Some u) h none = by (same_time u t) refl
 pub not_due : (ws : List (Option Time)) (wheel : Wheel) (p : ℕ) (t : Time) → IsKept ws wheel
     → has wheel.members (slot t.tick wheel.present * wheel.span + p) ≡ 0 → ends_at t (get_or ws p None) ≡ false
 not_due ws wheel p t h none = not_due_by wheel p t (get_or ws p None) (h.there p) none
+
+-- a component is not due where each that is due from a number on is in a set, and it is not
+pub not_due_there : (ws : List (Option Time)) (members : List ℕ) (t : Time) (n at p : ℕ)
+    → ((q : ℕ) → ends_at t (get_or ws q None) ≡ true → at ≤ n + q → has members (n + q) ≡ 1)
+    → at ≤ n + p → has members (n + p) ≡ 0 → ends_at t (get_or ws p None) ≡ false
+not_due_there ws members t n at p still le none = by (ends_at t (get_or ws p None)) refl
+  where
+    by : (b : Bool) → ends_at t (get_or ws p None) ≡ b → ends_at t (get_or ws p None) ≡ false
+    by false d = d
+    by true d = let one : has members (n + p) ≡ 1 = still p d le in absurd (omega arith)
 
 past_by : (now : ℕ) (t : Time) (w : Option Time) → IsFrom now w → t.tick < now → ends_at t w ≡ false
 past_by now t None h lt = refl
@@ -186,6 +195,15 @@ in_more before after p (Some t) more h =
           (more.low (slot t.tick before.present) (Some t) h.2),
     )
 
+pub more_same : (wheel : Wheel) → HasMore wheel wheel
+more_same wheel = record {
+  present = refl;
+  span = refl;
+  used = λ s h. h;
+  members = λ p h. h;
+  low = λ s w h. h;
+}
+
 pub more_more : (a b c : Wheel) → HasMore a b → HasMore b c → HasMore a c
 more_more a b c one two = record {
   present = two.present ∙ one.present;
@@ -218,16 +236,17 @@ room_after before after h same e d l =
 
 -- When time goes on, a component stands in the set of its slot, or else it is one of the slot that the present tick had before, and its
 -- turn comes.
-pub started : (ws : List (Option Time)) (before after : Wheel) (s at : ℕ) → IsKept ws before → before.present ≤ after.present
+pub started : (ws : List (Option Time)) (before after : Wheel) (s at : ℕ) → ((p : ℕ) (t : Time) → get_or ws p None ≡ Some t → IsIn before p (Some t))
+    → before.present ≤ after.present
     → AreFrom ws after.present → s ≡ slot after.present before.present → after.span ≡ before.span
     → ((q : ℕ) → q ≢ s → has before.used q ≡ 1 → has after.used q ≡ 1) → after.members ≡ before.members
-    → after.leasts.items ≡ set before.leasts.items s (Known None)
+    → after.leasts.items ≡ set before.leasts.items s nothing
     → ((q : ℕ) → s * before.span ≤ q → q < at → has before.members q ≡ 0) → (p : ℕ) (t : Time)
     → get_or ws p None ≡ Some t
     → (IsIn after p (Some t)) ⊎ ((at ≤ s * before.span + p) × (has before.members (s * before.span + p) ≡ 1))
 started ws before after s at h on from is wide others members leasts none p t e =
     let le : after.present ≤ t.tick = from_at ws after.present p t from e in
-    let here = in_at ws before p t h e in
+    let here = h p t e in
     elim (cases_eq (slot t.tick before.present) s) [
       | inl d ↦
           let one : has before.members (s * before.span + p) ≡ 1 =
@@ -247,7 +266,7 @@ started ws before after s at h on from is wide others members leasts none p t e 
           slot_stays after.present t.tick before.present on le (λ x. ne (sym x ∙ sym is)) in
           let least : least_at after.leasts.items (slot t.tick after.present) ≡ least_at before.leasts.items q =
           ap (least_at after.leasts.items) same ∙ ap (λ (ls : List Least). least_at ls q) leasts
-          ∙ elsewhere before.leasts.items s q (Known None) ne in
+          ∙ elsewhere before.leasts.items s q nothing ne in
           inl (
             ap (has after.used) same ∙ others q ne here.0,
             ap (λ (ps : List ℕ). has ps (slot t.tick after.present * after.span + p)) members
@@ -258,28 +277,15 @@ started ws before after s at h on from is wide others members leasts none p t e 
     ]
 
 -- a wait of a slot, where none ends before a tick, when time goes on to the tick
-of_slot_on : (ws : List (Option Time)) (before now q : ℕ) (w : Option Time) → before ≤ now
-    → AreFrom ws now → slot now before ≢ q → IsOfSlot ws before q w → IsOfSlot ws now q w
-of_slot_on ws before now q None on from ne h = tt
-of_slot_on ws before now q (Some t) on from ne h =
+of_slot_on : (ws : List (Option Time)) (before now q : ℕ) (t : Time) → before ≤ now
+    → AreFrom ws now → slot now before ≢ q → IsOfSlot ws before q t → IsOfSlot ws now q t
+of_slot_on ws before now q t on from ne h =
     let le : now ≤ t.tick = tick_from now (get_or ws h.1.0 None) t h.1.1 (from h.1.0) in
     (slot_stays now t.tick before on le (λ x. ne (x ∙ h.0)) ∙ h.0, h.1)
 
 pub held_on : (ws : List (Option Time)) (before now q : ℕ) (l : Least) → before ≤ now
     → AreFrom ws now → slot now before ≢ q → IsHeld ws before q l → IsHeld ws now q l
-held_on ws before now q Unknown on from ne h = tt
-held_on ws before now q (Known w) on from ne h = of_slot_on ws before now q w on from ne h
-
--- what is known of slots when time goes on and that of the tick's slot is that nothing is left in it
-pub held_started : (ws : List (Option Time)) (before now : ℕ) (leasts : List Least) (s q : ℕ) → before ≤ now → s < length leasts
-    → AreFrom ws now → s ≡ slot now before
-    → ((r : ℕ) → IsHeld ws before r (least_at leasts r)) → IsHeld ws now q (least_at (set leasts s (Known None)) q)
-held_started ws before now leasts s q on lt from is h = elim (cases_eq q s) [
-  | inl e ↦ subst (IsHeld ws now q) (sym (written leasts s q (Known None) lt e)) tt
-  | inr ne ↦
-      subst (IsHeld ws now q) (sym (elsewhere leasts s q (Known None) ne))
-      (held_on ws before now q (least_at leasts q) on from (λ x. ne (sym x ∙ sym is)) (h q))
-]
+held_on ws before now q l on from ne h = λ t told. of_slot_on ws before now q t on from ne (h t told)
 
 -- a number that is in a word that was taken, or not
 moved_by : (ws : List (Option Time)) (before after : Wheel) (span s at p q : ℕ) (t : Time)
@@ -305,25 +311,27 @@ moved_by ws before after span s at p q t whole low high e lt one removed there =
     ]
 
 -- the turn of a word: each of its components stands in the set of its slot then
-pub moved_on : (ws : List (Option Time)) (before after : Wheel) (span s at then p : ℕ) (t : Time)
+pub moved_on : (ws : List (Option Time)) (before after : Wheel) (taken : List ℕ) (span s at then p : ℕ) (t : Time)
     → span ≡ 64 * (span / 64) → s * (span / 64) ≤ at → at < s * (span / 64) + span / 64
     → get_or ws p None ≡ Some t → p < span → before.span ≡ span → after.present ≡ before.present
     → after.span ≡ before.span
-    → ((n : ℕ) → n / 64 ≢ at → has before.members n ≡ 1 → has after.members n ≡ 1)
+    → ((n : ℕ) → n / 64 ≢ at → has before.members n ≡ 1 → has taken n ≡ 1)
+    → ((n : ℕ) → has taken n ≡ 1 → has after.members n ≡ 1)
     → ((j : ℕ) → j < 64 → bit_at (get_or before.members at 0) j ≡ 1
     → IsIn after (64 * (at - s * (span / 64)) + j) (get_or ws (64 * (at - s * (span / 64)) + j) None))
     → ((n : ℕ) → has before.used n ≡ 1 → has after.used n ≡ 1)
     → ((n : ℕ) (v : Option Time) → IsLow (least_at before.leasts.items n) v → IsLow (least_at after.leasts.items n) v)
-    → ((n : ℕ) → 64 * (at + 1) ≤ n → n < 64 * then → has after.members n ≡ 0)
+    → ((n : ℕ) → 64 * (at + 1) ≤ n → n < 64 * then → has taken n ≡ 0)
     → (IsIn before p (Some t)) ⊎ ((64 * at ≤ s * span + p) × (has before.members (s * span + p) ≡ 1))
     → (IsIn after p (Some t)) ⊎ ((64 * then ≤ s * span + p) × (has after.members (s * span + p) ≡ 1))
-moved_on ws before after span s at then p t whole low high e lt is now_is wide removed there more lesser none old =
+moved_on ws before after taken span s at then p t whole low high e lt is now_is wide removed added there more lesser none old =
+    let kept : (n : ℕ) → n / 64 ≢ at → has before.members n ≡ 1 → has after.members n ≡ 1 = λ n ne one. added n (removed n ne one) in
     let q : ℕ = slot t.tick before.present in
     let same : slot t.tick after.present ≡ slot t.tick before.present = ap (slot t.tick) now_is in
     let number : q * before.span + p ≡ q * span + p = ap (λ (n : ℕ). q * n + p) is in
     elim old [
       | inl i ↦ elim (moved_by ws before after span s at p q t whole low high e lt
-          (ap (has before.members) (sym number) ∙ i.1) removed there) [
+          (ap (has before.members) (sym number) ∙ i.1) kept there) [
             | inl k ↦ inl k
             | inr k ↦ inl (
               ap (has after.used) same ∙ more q i.0,
@@ -331,14 +339,17 @@ moved_on ws before after span s at then p t whole low high e lt is now_is wide r
               subst (λ (n : ℕ). IsLow (least_at after.leasts.items n) (Some t)) (sym same) (lesser q (Some t) i.2),
             )
           ]
-      | inr i ↦ elim (moved_by ws before after span s at p s t whole low high e lt i.1 removed there) [
+      | inr i ↦ elim (moved_by ws before after span s at p s t whole low high e lt i.1 kept there) [
         | inl k ↦ inl k
         | inr k ↦
             let from : 64 * at ≤ s * span + p = i.0 in
             let not_at : (s * span + p) / 64 ≢ at = k.1 in
             inr (
               elim (cases_lt (s * span + p) (64 * then)) [
-                | inl l ↦ let nil : has after.members (s * span + p) ≡ 0 = none (s * span + p) (omega arith) l in absurd (omega arith)
+                | inl l ↦
+                    let one : has taken (s * span + p) ≡ 1 = removed (s * span + p) not_at i.1 in
+                    let nil : has taken (s * span + p) ≡ 0 = none (s * span + p) (omega arith) l in
+                    absurd (omega arith)
                 | inr ge ↦ ge
               ],
               k.0,
@@ -383,52 +394,6 @@ earliest_from now then (Some t) le h = omega arith
 from_earlier : (ws : List (Option Time)) (now then : ℕ) → then ≤ now → AreFrom ws now → AreFrom ws then
 from_earlier ws now then le h = λ p. earliest_from now then (get_or ws p None) le (h p)
 
--- a tick's slot is the same when time goes on to a tick of the first level
-same_near : (now tick t : ℕ) → now ≤ tick → tick ≤ t → slot tick now < 64 → slot t tick ≡ slot t now
-same_near now tick t on le lt = elim (cases_eq (slot tick now) (slot t now)) [
-  | inl d ↦ one_tick tick t now d lt
-  | inr ne ↦ slot_stays tick t now on le ne
-]
-
-of_slot_near : (ws : List (Option Time)) (now tick q : ℕ) (w : Option Time) → now ≤ tick
-    → AreFrom ws tick → slot tick now < 64 → IsOfSlot ws now q w → IsOfSlot ws tick q w
-of_slot_near ws now tick q None on from lt h = tt
-of_slot_near ws now tick q (Some t) on from lt h =
-    (same_near now tick t.tick on (tick_from tick (get_or ws h.1.0 None) t h.1.1 (from h.1.0)) lt ∙ h.0, h.1)
-
-held_near : (ws : List (Option Time)) (now tick q : ℕ) (l : Least) → now ≤ tick
-    → AreFrom ws tick → slot tick now < 64 → IsHeld ws now q l → IsHeld ws tick q l
-held_near ws now tick q Unknown on from lt h = tt
-held_near ws now tick q (Known w) on from lt h = of_slot_near ws now tick q w on from lt h
-
--- time goes on to a tick of the first level
-pub near : (ws : List (Option Time)) (wheel : Wheel) (tick : ℕ) → IsKept ws wheel → wheel.present ≤ tick → AreFrom ws tick
-    → slot tick wheel.present < 64 → IsKept ws (record wheel { present = tick })
-near ws wheel tick h on from lt =
-    let now : ℕ = wheel.present in
-    record {
-      room = record {
-        slots = h.room.slots;
-        room = h.room.room;
-        known = h.room.known;
-        few = h.room.few;
-        small = h.room.small;
-        whole = h.room.whole;
-        narrow = h.room.narrow;
-      };
-      fits = h.fits;
-      from = from;
-      there = λ p. all_by (record wheel { present = tick }) p (get_or ws p None) (λ t e.
-          let here = in_at ws wheel p t h e in
-          let le : tick ≤ t.tick = from_at ws tick p t from e in
-          let same : slot t.tick tick ≡ slot t.tick wheel.present = same_near wheel.present tick t.tick on le lt in (
-            ap (has wheel.used) same ∙ here.0,
-            ap (λ (x : ℕ). has wheel.members (x * wheel.span + p)) same ∙ here.1,
-            subst (λ (q : ℕ). IsLow (least_at wheel.leasts.items q) (Some t)) (sym same) here.2,
-          ));
-      held = λ q. held_near ws now tick q (least_at wheel.leasts.items q) on from lt (h.held q);
-    }
-
 -- a component is taken out of the set of a slot, and the slot out of use where it is empty then
 pub left_by : (before after : Wheel) (s index : ℕ) → after.present ≡ before.present → after.span ≡ before.span
     → index < before.span
@@ -456,22 +421,22 @@ left_by before after s index now_is wide l removed rest p (Some t) lp ne h =
           absurd (omega arith)
     ]
 
-of_slot_above : (ws : List (Option Time)) (now s : ℕ) (w : Option Time) → IsOfSlot ws now s w
-    → earliest (first_of ws) w ≡ first_of ws
-of_slot_above ws now s None h = earliest-none (first_of ws)
-of_slot_above ws now s (Some t) h = ap (earliest (first_of ws)) (sym h.1.1) ∙ first_least ws h.1.0
+of_slot_above : (ws : List (Option Time)) (now s : ℕ) (t : Time) → IsOfSlot ws now s t
+    → earliest (first_of ws) (Some t) ≡ first_of ws
+of_slot_above ws now s t h = ap (earliest (first_of ws)) (sym h.1.1) ∙ first_least ws h.1.0
 
 -- no wait ends before the first, so that one that is known of a slot does not either
-pub known_above : (ws : List (Option Time)) (now s : ℕ) (l : Least) (w : Option Time) → l ≡ Known w → IsHeld ws now s l
-    → earliest (first_of ws) w ≡ first_of ws
-known_above ws now s l w e h = of_slot_above ws now s w (subst (IsHeld ws now s) e h)
+pub known_above : (ws : List (Option Time)) (now s : ℕ) (l : Least) (t : Time) → IsTold l t → IsHeld ws now s l
+    → earliest (first_of ws) (Some t) ≡ first_of ws
+known_above ws now s l t told h = of_slot_above ws now s t (h t told)
 
 -- no wait of a slot ends before the least one that is known of it
-pub known_below : (ws : List (Option Time)) (wheel : Wheel) (s p : ℕ) (t : Time) (w : Option Time) → IsKept ws wheel
-    → least_at wheel.leasts.items s ≡ Known w → get_or ws p None ≡ Some t → slot t.tick wheel.present ≡ s
-    → earliest w (Some t) ≡ w
-known_below ws wheel s p t w h l e is =
-    subst (λ (k : Least). IsLow k (Some t)) (ap (least_at wheel.leasts.items) is ∙ l) (in_at ws wheel p t h e).2
+pub known_below : (ws : List (Option Time)) (wheel : Wheel) (s p : ℕ) (t l : Time) → IsKept ws wheel
+    → IsTold (least_at wheel.leasts.items s) l → get_or ws p None ≡ Some t → slot t.tick wheel.present ≡ s
+    → earliest (Some l) (Some t) ≡ Some l
+known_below ws wheel s p t l h told e is =
+    subst (λ (u : Time). earliest (Some u) (Some t) ≡ Some u)
+    (ap (λ (q : ℕ). (least_at wheel.leasts.items q).time) is ∙ told.0) (in_at ws wheel p t h e).2
 
 not_below : (used : List ℕ) (n at : ℕ) → ((p : ℕ) → p < at → has used p ≡ 0) → has used n ≡ 1 → at ≤ n
 not_below used n at none one = elim (cases_lt n at) [
@@ -481,14 +446,14 @@ not_below used n at none one = elim (cases_lt n at) [
 
 -- The least wait that is known of the lowest slot in use is the first of all,
 pub known_lowest : (ws : List (Option Time)) (wheel : Wheel) (s : ℕ) (t : Time) → IsKept ws wheel
-    → ((p : ℕ) → p < s → has wheel.used p ≡ 0) → least_at wheel.leasts.items s ≡ Known (Some t) → Some t ≡ first_of ws
-known_lowest ws wheel s t h none l =
+    → ((p : ℕ) → p < s → has wheel.used p ≡ 0) → IsTold (least_at wheel.leasts.items s) t → Some t ≡ first_of ws
+known_lowest ws wheel s t h none told =
     let now : ℕ = wheel.present in
-    let held : IsOfSlot ws wheel.present s (Some t) = subst (IsHeld ws now s) l (h.held s) in
+    let held : IsOfSlot ws wheel.present s t = h.held s t told in
     lowest_first ws wheel s (Some t) h
     (λ p u e. not_below wheel.used (slot u.tick now) s none (in_at ws wheel p u h e).0)
-    (known_above ws now s (least_at wheel.leasts.items s) (Some t) l (h.held s))
-    (λ p u e is. known_below ws wheel s p u (Some t) h l e is)
+    (of_slot_above ws now s t held)
+    (λ p u e is. known_below ws wheel s p u t h told e is)
     (eq-eqb (slot t.tick now) s held.0)
 
 pub nothing_by : (w : Option Time) → ((t : Time) → w ≡ Some t → ⊥) → w ≡ None
@@ -552,7 +517,7 @@ nothing_there (suc n) (suc p) = nothing_there n p
 
 -- a wheel at the first tick that knows of no wait, where no component has one
 pub kept_empty : (wheel : Wheel) (n : ℕ) → HasRoom wheel → n ≤ wheel.span → wheel.present ≡ 0
-    → wheel.leasts.items ≡ replicate 641 (Known None) → IsKept (replicate n None) wheel
+    → wheel.leasts.items ≡ replicate 641 nothing → IsKept (replicate n None) wheel
 kept_empty wheel n room fits now_is leasts =
     let size : length (replicate {A = Option Time} n None) ≡ n = length-replicate {A = Option Time} n None in
     let ws : List (Option Time) = replicate n None in
@@ -574,54 +539,3 @@ kept_all ws wheel w first room fits from there held = record {
   there = there;
   held = held;
 }
-
--- a slot without components is taken out of use
-pub closed_by : (before after : Wheel) (s : ℕ) → after.present ≡ before.present → after.span ≡ before.span
-    → after.members ≡ before.members
-    → ((q : ℕ) → q ≢ s → has before.used q ≡ 1 → has after.used q ≡ 1)
-    → ((q : ℕ) → q ≢ s → least_at after.leasts.items q ≡ least_at before.leasts.items q)
-    → ((i : ℕ) → i < before.span → has before.members (s * before.span + i) ≡ 0)
-    → (p : ℕ) (w : Option Time) → p < before.span → IsIn before p w → IsIn after p w
-closed_by before after s now_is wide members used leasts none p None lt h = tt
-closed_by before after s now_is wide members used leasts none p (Some t) lt h =
-    let q : ℕ = slot t.tick before.present in
-    let same : slot t.tick after.present ≡ slot t.tick before.present = ap (slot t.tick) now_is in
-    elim (cases_eq (slot t.tick before.present) s) [
-      | inl d ↦
-          let one : has before.members (slot t.tick before.present * before.span + p) ≡ 1 = h.1 in
-          let nil : has before.members (slot t.tick before.present * before.span + p) ≡ 0 =
-          ap (λ (x : ℕ). has before.members (x * before.span + p)) d ∙ none p lt in
-          absurd (omega arith)
-      | inr ne ↦ (
-        ap (has after.used) same ∙ used q ne h.0,
-        ap (has after.members) (same_number before after t.tick p now_is wide)
-            ∙ ap (λ (ns : List ℕ). has ns (q * before.span + p)) members ∙ h.1,
-        subst (λ (n : ℕ). IsLow (least_at after.leasts.items n) (Some t)) (sym same)
-            (subst (λ (k : Least). IsLow k (Some t)) (sym (leasts q ne)) h.2),
-      )
-    ]
-
--- a number that is in a word of which those that are due are taken out
-pub still_there : (members members2 : List ℕ) (ws : List (Option Time)) (span s at p q : ℕ) (t time : Time)
-    → span ≡ 64 * (span / 64) → s * (span / 64) ≤ at → at < s * (span / 64) + span / 64 → p < span
-    → get_or ws p None ≡ Some t → ends_at time (Some t) ≡ false → has members (q * span + p) ≡ 1
-    → ((n : ℕ) → n / 64 ≢ at → has members n ≡ 1 → has members2 n ≡ 1)
-    → ((j : ℕ) → j < 64 → bit_at (get_or members at 0) j ≡ 1
-    → ends_at time (get_or ws (64 * (at - s * (span / 64)) + j) None) ≡ false → bit_at (get_or members2 at 0) j ≡ 1)
-    → has members2 (q * span + p) ≡ 1
-still_there members members2 ws span s at p q t time whole low high lt e later one others there =
-    elim (cases_eq ((q * span + p) / 64) at) [
-      | inl d ↦
-          let j : ℕ = (q * span + p) % 64 in
-          let sum : q * span + p ≡ 64 * at + (q * span + p) % 64 = omega arith in
-          let row : s * span ≡ 64 * (s * (span / 64)) = aligned s span whole in
-          let bit : bit_at (get_or members at 0) ((q * span + p) % 64) ≡ 1 =
-          sym (has_word members at ((q * span + p) % 64) (omega arith)) ∙ ap (has members) (sym sum) ∙ one in
-          let here : p ≡ 64 * (at - s * (span / 64)) + (q * span + p) % 64 =
-          same_index q s span p (64 * (at - s * (span / 64)) + (q * span + p) % 64) lt (omega arith) (omega arith) in
-          ap (has members2) sum
-          ∙ has_word members2 at ((q * span + p) % 64) (omega arith)
-          ∙ there j (omega arith) bit
-          (ap (λ (i : ℕ). ends_at time (get_or ws i None)) (sym here) ∙ ap (ends_at time) e ∙ later)
-      | inr ne ↦ others (q * span + p) ne one
-    ]

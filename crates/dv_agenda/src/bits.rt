@@ -48,6 +48,33 @@ pub(crate) fn next(words: &[u64], from: usize, end: usize) -> usize
     end
 }
 
+/// Removes a number from a set, and returns the next greater one below `end`, or `end` if there is
+/// none.
+#[inline]
+pub(crate) fn pass(words: &mut [u64], number: usize, end: usize) -> usize
+    requires within { end ≤ 64 * length words.old }
+    requires number { number < end }
+    requires small { length words.old ≤ 2 ^ 50 }
+    ensures size { length words.new ≡ length words.old }
+    ensures others { (p : ℕ) → p ≢ number → has words.new p ≡ has words.old p }
+    ensures low { number < result }
+    ensures high { result ≤ end }
+    ensures none { (p : ℕ) → number < p → p < result → has words.new p ≡ 0 }
+{
+    remove(words, number);
+    let rest = words[number / 64] >> (number % 64);
+    if rest != 0 {
+        let found = number + rest.trailing_zeros() as usize;
+        return if found < end { found } else { end };
+    }
+    let after = 64 * (number / 64 + 1);
+    if after < end {
+        next(words, after, end)
+    } else {
+        end
+    }
+}
+
 /// The word with the bit of a number cleared.
 #[inline]
 pub(crate) fn without(word: u64, number: usize) -> u64

@@ -1,6 +1,6 @@
 //! What an agenda knows of its first wait.
 
-ghost use Rattle.std.specs.Prelude.{◌≡◌, ℕ, ◌<◌, true, List, Option, None, length, slice_index_or, slice_set};
+ghost use Rattle.std.specs.Prelude.{◌≡◌, ℕ, ◌<◌, true, List, Option, None, Some, length, slice_index_or, slice_set};
 ghost use Rattle.dv_time.specs.declared.time.Time.{Time};
 ghost use Rattle.dv_agenda.specs.Agendas.{IsKnown};
 ghost use Rattle.dv_agenda.specs.Waits.{first_of};
@@ -25,14 +25,15 @@ pub(crate) fn found(wait: Option<Time>) -> FirstWait
     FirstWait { wait, known: true }
 }
 
-/// A first wait that is not known.
+/// A first wait that is known if it is a time.
 #[inline]
-pub(crate) fn not_found() -> FirstWait
-    ensures { (ws : List (Option Time)) → IsKnown result ws }
+pub(crate) fn if_found(wait: Option<Time>) -> FirstWait
+    ensures { (ws : List (Option Time)) → ((t : Time) → wait ≡ Some t → Some t ≡ first_of ws)
+        → IsKnown result ws }
 {
     FirstWait {
-        wait: None,
-        known: false,
+        wait,
+        known: wait.is_some(),
     }
 }
 

@@ -3,19 +3,41 @@
 ghost use Rattle.std.specs.Prelude.{◌≡◌, ℕ, ◌<◌, List, None, Option, Some, length, slice_index_or};
 ghost use Rattle.std.specs.Prelude.{slice_set};
 ghost use Rattle.dv_time.specs.declared.time.Time.{Time};
-ghost use Rattle.dv_agenda.specs.Wheel.{IsHeld, IsLow, slot};
+ghost use Rattle.dv_agenda.specs.Wheel.{IsHeld, IsLow, IsTold, slot};
 
 use crate::wait::is_same;
-use dv_time::{Time, earliest};
+use dv_time::Time;
 
-/// The least wait of the components in a slot, if it is known.
+/// A time before which no wait of a slot ends. It is the least wait of the slot, unless its tick is
+/// the first one, which stands for a wait that is not known, or the last one.
 #[derive(Clone, Copy)]
-pub(crate) enum Least {
-    Known(Option<Time>),
-    Unknown,
+pub(crate) struct Least {
+    pub(crate) time: Time,
 }
 
 impl Least {
+    /// The least wait is not known.
+    pub(crate) const UNKNOWN: Least = Least { time: Time::ZERO };
+
+    /// There is no component.
+    pub(crate) const NOTHING: Least = Least {
+        time: Time {
+            tick: u64::MAX,
+            micro: 0,
+        },
+    };
+
+    /// The least wait, if it is known.
+    #[inline]
+    pub(crate) fn known(self) -> Option<Time>
+        ensures { (t : Time) → result ≡ Some t → IsTold self t }
+    {
+        if (self.time.tick == 0) | (self.time.tick == u64::MAX) {
+            return None;
+        }
+        Some(self.time)
+    }
+
     /// Updates the least wait of a slot when a component with this wait is added.
     #[inline]
     pub(crate) fn enter(&mut self, time: Time)
@@ -25,8 +47,8 @@ impl Least {
             → slice_index_or ws index None ≡ Some time → slot time.tick now ≡ s
             → IsHeld ws now s self.old → IsHeld ws now s self.new }
     {
-        if let Least::Known(least) = *self {
-            *self = Least::Known(earliest(least, Some(time)));
+        if time.is_before(self.time) {
+            self.time = time;
         }
     }
 
@@ -39,10 +61,8 @@ impl Least {
             → slot time.tick now ≡ s → IsHeld ws now s self.old
             → IsHeld (slice_set ws index w) now s self.new }
     {
-        if let Least::Known(least) = *self {
-            if is_same(least, Some(time)) {
-                *self = Least::Unknown;
-            }
+        if is_same(Some(self.time), Some(time)) {
+            *self = Least::UNKNOWN;
         }
     }
 }

@@ -51,8 +51,11 @@ impl Set {
         ensures there { has self.new number ≡ 1 }
         ensures others { (p : ℕ) → has self.old p ≡ 1 → has self.new p ≡ 1 }
     {
+        let was_empty = self.words[number / 64] == 0;
         bits::insert(&mut self.words, number);
-        bits::insert(&mut self.heads, number / 64);
+        if was_empty {
+            bits::insert(&mut self.heads, number / 64);
+        }
     }
 
     /// Removes a number.
@@ -68,28 +71,6 @@ impl Set {
         if self.words[number / 64] == 0 {
             bits::remove(&mut self.heads, number / 64);
         }
-    }
-
-    /// The least number in `from..end`, or `end` if there is none.
-    #[inline]
-    pub(crate) fn next(&self, from: usize, end: usize) -> usize
-        requires within { end ≤ 64 * length self.now }
-        requires order { from ≤ end }
-        ensures low { from ≤ result }
-        ensures high { result ≤ end }
-        ensures none { (p : ℕ) → from ≤ p → p < result → has self.now p ≡ 0 }
-    {
-        let mut at = from;
-        while at < end {
-            let after = 64 * (at / 64 + 1);
-            let stop = if after < end { after } else { end };
-            let found = bits::next(&self.words, at, stop);
-            if found < stop || stop == end {
-                return found;
-            }
-            at = 64 * bits::next(&self.heads, at / 64 + 1, (end - 1) / 64 + 1);
-        }
-        end
     }
 
     /// The first word in `from..end` that is not 0, or `end` if there is none.
@@ -113,33 +94,22 @@ impl Set {
         self.words[at]
     }
 
-    /// Removes all numbers of a word, and returns the word.
+    /// Removes all numbers of a word, and returns the word and the next one below `end` that is not
+    /// 0, or `end` if there is none.
     #[inline]
-    pub(crate) fn take_word(&mut self, at: usize) -> u64
-        requires { at < length self.old }
-        ensures word { result ≡ slice_index_or self.old at 0 }
+    pub(crate) fn take_word(&mut self, at: usize, end: usize) -> (u64, usize)
+        requires within { end ≤ length self.old }
+        requires at { at < end }
+        ensures word { result.0 ≡ slice_index_or self.old at 0 }
         ensures size { length self.new ≡ length self.old }
         ensures others { (p : ℕ) → p / 64 ≢ at → has self.old p ≡ 1 → has self.new p ≡ 1 }
+        ensures low { at < result.1 }
+        ensures high { result.1 ≤ end }
+        ensures none { (p : ℕ) → 64 * (at + 1) ≤ p → p < 64 * result.1 → has self.new p ≡ 0 }
     {
         let word = self.words[at];
         self.words[at] = 0;
-        bits::remove(&mut self.heads, at);
-        word
-    }
-
-    /// Writes a word: bit `i` says whether `64 * at + i` is in the set from now on.
-    #[inline]
-    pub(crate) fn set_word(&mut self, at: usize, word: u64)
-        requires { at < length self.old }
-        ensures size { length self.new ≡ length self.old }
-        ensures there { slice_index_or self.new at 0 ≡ word }
-        ensures others { (p : ℕ) → p / 64 ≢ at → has self.old p ≡ 1 → has self.new p ≡ 1 }
-    {
-        self.words[at] = word;
-        if word == 0 {
-            bits::remove(&mut self.heads, at);
-        } else {
-            bits::insert(&mut self.heads, at);
-        }
+        let next = bits::pass(&mut self.heads, at, end);
+        (word, next)
     }
 }

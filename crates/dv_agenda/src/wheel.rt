@@ -1,6 +1,6 @@
 //! A wheel of times: each component is in the slot of its wait.
 
-ghost use Rattle.std.specs.Prelude.{◌≡◌, ◌≢◌, ℕ, None, Some, false, ◌+◌, ◌*◌, ◌^◌, ◌<◌, ◌≤◌, ◌++◌, IfOk, IsTrue, Option, OnErr, OnOk, List};
+ghost use Rattle.std.specs.Prelude.{◌≡◌, ◌≢◌, ℕ, None, Some, true, false, ◌+◌, ◌*◌, ◌^◌, ◌<◌, ◌≤◌, ◌++◌, IfOk, IsTrue, Option, OnErr, OnOk, List};
 ghost use Rattle.std.specs.Prelude.{length, replicate, slice_index_or, slice_set, take};
 ghost use Rattle.std.specs.Int.{bit_at};
 ghost use Rattle.std.specs.Vec.{vec_capacity, vec_len};
@@ -12,7 +12,7 @@ ghost use Rattle.dv_agenda.specs.Waits.{due_at, ends_at, first_of, without};
 ghost use Rattle.dv_agenda.specs.Wheel.{AreFrom, IsFrom, in_slot, slot};
 
 use crate::bits;
-use crate::first_wait::{FirstWait, found, not_found};
+use crate::first_wait::{FirstWait, found, if_found};
 use crate::hand::Hand;
 use crate::least::Least;
 use crate::set::Set;
@@ -29,11 +29,11 @@ use std::alloc::{AllocError, Global};
 pub(crate) struct Wheel {
     /// The present tick. No component waits for an earlier one.
     pub(crate) present: u64,
-    /// The slots that may have a component.
-    used: Set,
+    /// The slots that may have a component, as the bits of a word for each level.
+    used: [u64; 11],
     /// The components of each slot, with the numbers `slot * span + index`.
     members: Set,
-    /// The least wait in each slot.
+    /// What is known of the least wait in each slot.
     leasts: Vec<Least>,
     /// How many numbers a slot has: a multiple of 64 that is at least the number of components.
     span: usize,
@@ -92,24 +92,6 @@ fn gather_word(
     Ok(())
 }
 
-/// A word of components without those that wait for a time.
-#[inline]
-fn later_of_word(waits: &[Option<Time>], word: u64, base: usize, time: Time) -> u64
-    requires small { base ≤ 2 ^ 40 }
-    ensures { (p : ℕ) → p < 64 → bit_at word p ≡ 1
-        → ends_at time (slice_index_or waits.now (base + p) None) ≡ false → bit_at result p ≡ 1 }
-{
-    let mut rest = word;
-    let mut later = word;
-    while rest != 0 {
-        let number = bits::take_least(&mut rest);
-        if is_due(waits, base + number, time) {
-            later = bits::without(later, number);
-        }
-    }
-    later
-}
-
 /// Whether the time of a wait has this slot.
 #[inline]
 fn in_slot(wait: Option<Time>, slot: usize, now: u64) -> bool
@@ -149,18 +131,17 @@ impl Wheel {
     ///
     /// # Errors
     ///
-    /// No memory for 641 bits a component and 641 waits.
+    /// No memory for 641 bits a component and 641 times.
     pub(crate) fn new(alloc: Global, components: u32) -> Result<Self, AllocError>
         ensures { IfOk result (λ wheel. IsKept (replicate components None) wheel) }
     {
-        let words = components as usize / 64 + 1;
+        let words = (components as usize + 63) / 64;
         let mut leasts = Vec::new(alloc);
-        leasts.resize(641, Least::Known(None))?;
-        let used = Set::new(alloc, 11)?;
+        leasts.resize(641, Least::NOTHING)?;
         let members = Set::new(alloc, 641 * words)?;
         Ok(Wheel {
             present: 0,
-            used,
+            used: [0; 11],
             members,
             leasts,
             span: 64 * words,
@@ -180,7 +161,7 @@ impl Wheel {
     {
         if let Some(time) = wait {
             let slot = slot_of(time.tick, self.present);
-            self.used.insert(slot);
+            bits::insert(&mut self.used, slot);
             self.members.insert(slot * self.span + index);
             self.leasts[slot].enter(time);
         }
@@ -217,7 +198,7 @@ impl Wheel {
         for (index, wait) in waits.iter().enumerate() {
             if let Some(time) = *wait {
                 let slot = slot_of(time.tick, self.present);
-                self.used.remove(slot);
+                bits::remove(&mut self.used, slot);
                 self.members.remove(slot * self.span + index);
             }
         }
@@ -236,7 +217,7 @@ impl Wheel {
         ensures held { AreHeld waits.now self.new }
     {
         self.take_all(waits);
-        self.leasts.fill(Least::Known(None));
+        self.leasts.fill(Least::NOTHING);
         self.present = earlier(self.present, wait);
         self.put_all(waits);
     }
@@ -277,8 +258,8 @@ impl Wheel {
             let slot = slot_of(time.tick, self.present);
             self.members.remove(slot * self.span + index);
             if self.is_empty(slot, index) {
-                self.used.remove(slot);
-                self.leasts[slot] = Least::Known(None);
+                bits::remove(&mut self.used, slot);
+                self.leasts[slot] = Least::NOTHING;
             } else {
                 self.leasts[slot].leave(time);
             }
@@ -296,6 +277,19 @@ impl Wheel {
             → IsKept ws self.old → IsKept (slice_set ws index wait) self.new }
     {
         self.leave(index, before);
+        self.put(index, wait);
+    }
+
+    /// Puts a component that is in no slot into the slot of its wait.
+    #[inline(always)]
+    pub(crate) fn enter(&mut self, index: usize, wait: Option<Time>)
+        requires room { HasRoom self.old }
+        requires index { index < self.old.span }
+        ensures present { self.new.present ≡ self.old.present }
+        ensures kept { (ws : List (Option Time)) → index < length ws
+            → slice_index_or ws index None ≡ None → IsFrom self.old.present wait
+            → IsKept ws self.old → IsKept (slice_set ws index wait) self.new }
+    {
         self.put(index, wait);
     }
 
@@ -349,9 +343,9 @@ impl Wheel {
         ensures below { (p : ℕ) (t : Time) → slice_index_or waits.now p None ≡ Some t
             → slot t.tick self.now.present ≡ at → earliest result (Some t) ≡ result }
     {
-        match self.leasts[at] {
-            Least::Known(least) => least,
-            Least::Unknown => self.least_in(waits, at),
+        match self.leasts[at].known() {
+            Some(time) => Some(time),
+            None => self.least_in(waits, at),
         }
     }
 
@@ -360,15 +354,28 @@ impl Wheel {
         requires { IsKept waits.now self.now }
         ensures { result ≡ first_of waits.now }
     {
-        let mut slot = self.used.next(0, 641);
+        let mut slot = bits::next(&self.used, 0, 641);
         while slot < 641 {
             let least = self.least_of(waits, slot);
             if in_slot(least, slot, self.present) {
                 return least;
             }
-            slot = self.used.next(slot + 1, 641);
+            slot = bits::next(&self.used, slot + 1, 641);
         }
         None
+    }
+
+    /// Finds the first wait if it is not known.
+    #[inline(always)]
+    pub(crate) fn find(&self, waits: &[Option<Time>], first: &mut FirstWait)
+        requires kept { IsKept waits.now self.now }
+        requires known { IsKnown first.old waits.now }
+        ensures known { first.new.known ≡ true }
+        ensures wait { first.new.wait ≡ first_of waits.now }
+    {
+        if !first.known {
+            *first = found(self.first(waits));
+        }
     }
 
     /// The first wait, if it can be told without a walk through a slot.
@@ -377,17 +384,11 @@ impl Wheel {
         requires { HasRoom self.now }
         ensures { (waits : List (Option Time)) → IsKept waits self.now → IsKnown result waits }
     {
-        let at = self.used.next(0, 641);
+        let at = bits::next(&self.used, 0, 641);
         if at == 641 {
             return found(None);
         }
-        match self.leasts[at] {
-            Least::Known(first) => match first {
-                Some(time) => found(Some(time)),
-                None => not_found(),
-            },
-            Least::Unknown => not_found(),
-        }
+        if_found(self.leasts[at].known())
     }
 
     /// Adds the components that wait for a time to a list, in ascending order.
@@ -417,44 +418,6 @@ impl Wheel {
         Ok(())
     }
 
-    /// Takes a slot out of use if it has no component.
-    fn close(&mut self, slot: usize)
-        requires room { HasRoom self.old }
-        requires slot { slot < 641 }
-        ensures room { HasRoom self.new }
-        ensures present { self.new.present ≡ self.old.present }
-        ensures span { self.new.span ≡ self.old.span }
-        ensures others { (p : ℕ) (w : Option Time) → p < self.old.span → IsIn self.old p w
-            → IsIn self.new p w }
-        ensures held { (ws : List (Option Time)) → AreHeld ws self.old → AreHeld ws self.new }
-    {
-        let base = slot * (self.span / 64);
-        let end = base + self.span / 64;
-        if self.members.next_word(base, end) == end {
-            self.used.remove(slot);
-            self.leasts[slot] = Least::Known(None);
-        }
-    }
-
-    /// Removes the components that wait for a time from its slot.
-    pub(crate) fn remove_due(&mut self, waits: &[Option<Time>], time: Time)
-        requires kept { IsKept waits.now self.old }
-        ensures kept { IsKept (without time waits.now) self.new }
-        ensures present { self.new.present ≡ self.old.present }
-    {
-        let slot = slot_of(time.tick, self.present);
-        self.leasts[slot] = Least::Unknown;
-        let base = slot * (self.span / 64);
-        let end = base + self.span / 64;
-        let mut at = self.members.next_word(base, end);
-        while at < end {
-            let later = later_of_word(waits, self.members.word(at), 64 * (at - base), time);
-            self.members.set_word(at, later);
-            at = self.members.next_word(at + 1, end);
-        }
-        self.close(slot);
-    }
-
     /// Puts the components in hand back into their slots.
     pub(crate) fn take_back(&mut self, waits: &[Option<Time>], first: FirstWait, hand: Hand)
         requires { IsAgenda waits.now self.old first hand }
@@ -465,60 +428,118 @@ impl Wheel {
         }
     }
 
-    /// Puts the components of a word into the slots of their waits.
-    #[inline]
-    fn spread_word(&mut self, waits: &[Option<Time>], word: u64, base: usize)
+    /// Adds a component to a list if it waits for a time, or else puts it into the slot of its wait.
+    #[inline(always)]
+    fn part(
+        &mut self,
+        waits: &[Option<Time>],
+        index: usize,
+        time: Time,
+        into: &mut Vec<u32>,
+    ) -> Result<(), AllocError>
         requires room { HasRoom self.old }
-        requires within { base + 64 ≤ self.old.span }
-        requires held { AreHeld waits.now self.old }
+        requires index { index < self.old.span }
+        requires few { length waits.now ≤ 2 ^ 32 }
+        requires held { AreHeld (without time waits.now) self.old }
         ensures room { HasRoom self.new }
         ensures more { HasMore self.old self.new }
-        ensures there { (p : ℕ) → p < 64 → bit_at word p ≡ 1
-            → IsIn self.new (base + p) (slice_index_or waits.now (base + p) None) }
-        ensures held { AreHeld waits.now self.new }
+        ensures there { OnOk result
+            (IsIn self.new index (slice_index_or (without time waits.now) index None)) }
+        ensures held { AreHeld (without time waits.now) self.new }
+        ensures due { (before : List ℕ)
+            → into.old.items ≡ before ++ due_at time (take index waits.now)
+            → OnOk result (into.new.items ≡ before ++ due_at time (take (index + 1) waits.now)) }
+        ensures capacity { vec_capacity into.old ≤ vec_capacity into.new }
+        ensures full { (before : List ℕ)
+            → into.old.items ≡ before ++ due_at time (take index waits.now)
+            → OnErr result (vec_capacity into.old < length before + length
+            (due_at time waits.now)) }
+    {
+        if is_due(waits, index, time) {
+            return push_due(waits, index, time, into);
+        }
+        self.put(index, wait_at(waits, index));
+        Ok(())
+    }
+
+    /// Adds the components of a word that wait for a time to a list, in ascending order, and puts
+    /// the others into the slots of their waits.
+    #[inline(always)]
+    fn part_word(
+        &mut self,
+        waits: &[Option<Time>],
+        word: u64,
+        base: usize,
+        time: Time,
+        into: &mut Vec<u32>,
+    ) -> Result<(), AllocError>
+        requires room { HasRoom self.old }
+        requires within { base + 64 ≤ self.old.span }
+        requires few { length waits.now ≤ 2 ^ 32 }
+        requires held { AreHeld (without time waits.now) self.old }
+        requires others { (p : ℕ) → p < 64 → bit_at word p ≡ 0
+            → ends_at time (slice_index_or waits.now (base + p) None) ≡ false }
+        ensures room { HasRoom self.new }
+        ensures more { HasMore self.old self.new }
+        ensures there { OnOk result ((p : ℕ) → p < 64 → bit_at word p ≡ 1
+            → IsIn self.new (base + p) (slice_index_or (without time waits.now) (base + p) None)) }
+        ensures held { AreHeld (without time waits.now) self.new }
+        ensures due { (before : List ℕ)
+            → into.old.items ≡ before ++ due_at time (take base waits.now)
+            → OnOk result (into.new.items ≡ before ++ due_at time (take (base + 64) waits.now)) }
+        ensures capacity { vec_capacity into.old ≤ vec_capacity into.new }
+        ensures full { (before : List ℕ)
+            → into.old.items ≡ before ++ due_at time (take base waits.now)
+            → OnErr result (vec_capacity into.old < length before + length
+            (due_at time waits.now)) }
     {
         let mut rest = word;
         while rest != 0 {
             let index = base + bits::take_least(&mut rest);
-            self.put(index, wait_at(waits, index));
+            self.part(waits, index, time, into)?;
         }
+        Ok(())
     }
 
-    /// Moves the present tick on to a tick, and the components in the slot of that tick to the
-    /// slots that they have then.
-    fn spread(&mut self, waits: &[Option<Time>], tick: u64)
+    /// Moves the present tick on to the tick of a time before which no component waits.
+    ///
+    /// The components in the slot of that tick leave it: those that wait for the time are added to
+    /// a list, in ascending order, and the others move to the slots that they have then.
+    ///
+    /// # Errors
+    ///
+    /// No memory for the list. The components of the slot may be in no slot then.
+    pub(crate) fn take_due(
+        &mut self,
+        waits: &[Option<Time>],
+        time: Time,
+        into: &mut Vec<u32>,
+    ) -> Result<(), AllocError>
         requires kept { IsKept waits.now self.old }
-        requires on { self.old.present ≤ tick }
-        requires from { AreFrom waits.now tick }
-        ensures kept { IsKept waits.now self.new }
-        ensures present { self.new.present ≡ tick }
+        requires few { length waits.now ≤ 2 ^ 32 }
+        requires on { self.old.present ≤ time.tick }
+        requires from { AreFrom waits.now time.tick }
+        ensures kept { OnOk result (IsKept (without time waits.now) self.new) }
+        ensures room { HasRoom self.new }
+        ensures present { self.new.present ≡ time.tick }
+        ensures span { self.new.span ≡ self.old.span }
+        ensures due { OnOk result (into.new.items ≡ into.old.items ++ due_at time waits.now) }
+        ensures capacity { vec_capacity into.old ≤ vec_capacity into.new }
+        ensures full { OnErr result (vec_capacity into.old < vec_len into.old + length
+            (due_at time waits.now)) }
     {
-        let slot = slot_of(tick, self.present);
-        self.present = tick;
-        self.used.remove(slot);
-        self.leasts[slot] = Least::Known(None);
+        let slot = slot_of(time.tick, self.present);
+        self.present = time.tick;
+        bits::remove(&mut self.used, slot);
+        self.leasts[slot] = Least::NOTHING;
         let base = slot * (self.span / 64);
         let end = base + self.span / 64;
         let mut at = self.members.next_word(base, end);
         while at < end {
-            let word = self.members.take_word(at);
-            self.spread_word(waits, word, 64 * (at - base));
-            at = self.members.next_word(at + 1, end);
+            let (word, next) = self.members.take_word(at, end);
+            self.part_word(waits, word, 64 * (at - base), time, into)?;
+            at = next;
         }
-    }
-
-    /// Moves the present tick on to a tick before which no component waits.
-    pub(crate) fn go_on(&mut self, waits: &[Option<Time>], tick: u64)
-        requires kept { IsKept waits.now self.old }
-        requires on { self.old.present ≤ tick }
-        requires from { AreFrom waits.now tick }
-        ensures kept { IsKept waits.now self.new }
-        ensures present { self.new.present ≡ tick }
-    {
-        if slot_of(tick, self.present) >= 64 {
-            self.spread(waits, tick);
-        } else {
-            self.present = tick;
-        }
+        Ok(())
     }
 }

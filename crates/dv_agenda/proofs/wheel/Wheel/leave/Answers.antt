@@ -1,10 +1,9 @@
-use Rattle.std.proofs.Common.{inl, inr, ◌<◌, ◌≤◌, None, length, refl, subst, sym, arith, ◌∙◌}
+use Rattle.std.proofs.Common.{inl, inr, ◌<◌, ◌≤◌, length, refl, set, subst, sym, arith, ◌∙◌}
 use Rattle.std.proofs.lemmas.Bool.{cases_eq}
 use Rattle.std.specs.Vec.{with_item}
-use Rattle.dv_agenda.specs.Wheel.{IsLow}
+use Rattle.dv_agenda.specs.Wheel.{IsLow, least_at, nothing}
 use Rattle.dv_agenda.specs.declared.least.Least.{Least}
-use Rattle.dv_agenda.specs.declared.least.Least.TheVariants.{Known}
-use Rattle.dv_agenda.proofs.Leasts.{elsewhere, held_after, held_left, low_written}
+use Rattle.dv_agenda.proofs.Leasts.{elsewhere, held_after, held_left, held_none, low_written, nothing_held}
 use Rattle.dv_agenda.proofs.Wheels.{left_by}
 use Rattle.dv_agenda.proofs.wheel.Wheel.leave.Goals as goal
 
@@ -12,17 +11,17 @@ pub returns-then-is_empty-clause-others : goal.returns-then-is_empty-clause-othe
 returns-then-is_empty-clause-others c =
     left_by c.args.self.now
     (record c.args.self.now {
-      used = c.remove-then-is_empty.new.self;
+      used = c.remove-then-is_empty.new.words;
       members = c.remove.new.self;
-      leasts = with_item c.args.self.now.leasts c.slot_of-slot.result (Known None);
+      leasts = with_item c.args.self.now.leasts c.slot_of-slot.result nothing;
     })
     c.slot_of-slot.result c.args.index refl refl c.requires.index c.remove.ensures.others
     (λ q one. elim (cases_eq q c.slot_of-slot.result) [
       | inl e ↦ inr (e, c.is_empty.ensures c.if-is_empty.true)
       | inr d ↦ inl (
-        c.remove-then-is_empty.ensures.others q d one,
+        c.remove-then-is_empty.ensures.others q d ∙ one,
         λ v low. subst (λ (k : Least). IsLow k v)
-            (sym (elsewhere c.args.self.now.leasts.items c.slot_of-slot.result q (Known None) d)) low,
+            (sym (elsewhere c.args.self.now.leasts.items c.slot_of-slot.result q nothing d)) low,
       )
     ])
 
@@ -30,8 +29,9 @@ pub returns-then-is_empty-clause-held : goal.returns-then-is_empty-clause-held
 returns-then-is_empty-clause-held c = λ ws w lt at h s.
     let high : c.slot_of-slot.result < 641 = c.slot_of-slot.ensures.high in
     let room : 641 ≤ length c.args.self.now.leasts.items = c.requires.room.known in
-    held_after ws c.args.self.now.present c.slot_of-slot.result c.args.index s w c.in-Some.time (Known None) c.args.self.now.leasts.items
-    (omega arith) lt (at ∙ c.in-Some.is) (sym c.slot_of-slot.ensures.slot) tt h
+    held_after ws c.args.self.now.present c.slot_of-slot.result c.args.index s w c.in-Some.time nothing c.args.self.now.leasts.items
+    (omega arith) lt (at ∙ c.in-Some.is) (sym c.slot_of-slot.ensures.slot)
+    (nothing_held (set ws c.args.index w) c.args.self.now.present c.slot_of-slot.result) h
 
 pub returns-else-is_empty-clause-others : goal.returns-else-is_empty-clause-others
 returns-else-is_empty-clause-others c =
@@ -59,3 +59,7 @@ returns-else-is_empty-clause-held c = λ ws w lt at h.
     c.index_mut-else-is_empty.ensures.value
     (c.leave.ensures.held ws c.args.self.now.present c.slot_of-slot.result c.args.index w lt (at ∙ c.in-Some.is)
     (sym c.slot_of-slot.ensures.slot)) h
+
+pub returns-in_default-clause-held : goal.returns-in_default-clause-held
+returns-in_default-clause-held c = λ ws w lt e h s.
+    held_none ws c.args.self.now.present s c.args.index w (least_at c.args.self.now.leasts.items s) lt (e ∙ c.in_default.is) (h s)

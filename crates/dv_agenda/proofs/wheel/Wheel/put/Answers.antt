@@ -1,5 +1,6 @@
 use Rattle.std.proofs.Common.{◌<◌, ◌≤◌, length, refl, sym, arith, ◌∙◌}
 use Rattle.dv_agenda.proofs.Leasts.{held_written, low_written}
+use Rattle.dv_agenda.proofs.Sets.{kept_by}
 use Rattle.dv_agenda.proofs.wheel.Wheel.put.Goals as goal
 
 pub returns-in-Some-clause-more : goal.returns-in-Some-clause-more
@@ -9,7 +10,7 @@ returns-in-Some-clause-more c =
     record {
       present = refl;
       span = refl;
-      used = c.insert.ensures.others;
+      used = λ q one. kept_by c.args.self.now.used c.insert.new.words c.slot_of-slot.result q c.insert.ensures.there c.insert.ensures.others one;
       members = c.insert-in-Some.ensures.others;
       low = low_written c.args.self.now.leasts.items c.slot_of-slot.result c.index_mut.result.now c.enter.new.self (omega arith)
           c.index_mut.ensures.value c.enter.ensures.low;

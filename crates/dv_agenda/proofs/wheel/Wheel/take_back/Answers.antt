@@ -1,4 +1,4 @@
-use Rattle.std.proofs.Common.{◌≡◌, ◌≤◌, Some, length, arith, ◌∙◌}
+use Rattle.std.proofs.Common.{◌≡◌, ◌≤◌, Some, length, arith}
 use Rattle.dv_agenda.specs.Agendas.{IsKept}
 use Rattle.dv_agenda.specs.Waits.{without}
 use Rattle.dv_agenda.proofs.Hands.{first_hand, length-without}
