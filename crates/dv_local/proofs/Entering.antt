@@ -1,14 +1,14 @@
 -- What comes in at a time is what inputs deliver to the outside.
 use Rattle.std.proofs.Common.{◌≡◌, inl, inr, ℕ, zero, suc, ◌+◌, List, [], ◌∷◌, ◌++◌}
-use Rattle.std.proofs.Common.{filter, map, refl, sym, ap, ◌∙◌}
+use Rattle.std.proofs.Common.{filter, map, replicate, refl, sym, ap, ◌∙◌}
 use Rattle.std.proofs.lemmas.List.{append-nil, append_assoc}
 use Rattle.dv_time.specs.declared.time.Time.{Time}
 use Rattle.dv_bag.specs.Bag.{Counts}
-use Rattle.dv_bag.specs.Inputs.{bags_from, is_at, values_into}
+use Rattle.dv_bag.specs.Inputs.{bags_at, bags_from, is_at, values_into}
 use Rattle.dv_bag.specs.declared.inputs.Input.{Input}
 use Rattle.dv_conservative.specs.Links.{Delivery as Meant, delivered, inbox}
 use Rattle.dv_share.specs.Links.{delivery_of}
-use Rattle.dv_share.proofs.Inboxes.{delivered_more}
+use Rattle.dv_share.proofs.Inboxes.{delivered_more, inbox_nothing}
 use Rattle.dv_share.proofs.Indices.{yes_or_no}
 use Rattle.dv_local.specs.Arrivals.{entered_by}
 
@@ -38,3 +38,7 @@ entered_bags t port zero inputs = refl
 entered_bags t port (suc n) inputs =
     ap (λ (b : Counts). b ∷ inbox 0 (all_entered t inputs) (port + 1) n) (sym (into_delivered t port inputs []))
     ∙ ap (λ (bs : List Counts). values_into t port inputs [] ∷ bs) (entered_bags t (port + 1) n inputs)
+
+-- without inputs nothing comes in
+pub nothing_enters : (t : Time) (ports : ℕ) → bags_at ports [] t ≡ replicate ports []
+nothing_enters t ports = sym (entered_bags t 0 ports []) ∙ inbox_nothing 0 0 ports

@@ -73,6 +73,7 @@ impl Inbox {
     }
 
     /// The first time, not before `from`, at which something arrives.
+    #[inline]
     pub fn first_from(&self, from: dv_time::Time) -> Option<dv_time::Time>
         ensures there { MatchOption result
             ((t : Time) → is_before t from ≡ false → arrivals_at t self.now ≡ [])
@@ -84,6 +85,19 @@ impl Inbox {
         if self.is_empty() {
             return None;
         }
+        self.searched_from(from)
+    }
+
+    // `first_from`, by a search.
+    #[inline(never)]
+    fn searched_from(&self, from: dv_time::Time) -> Option<dv_time::Time>
+        ensures there { MatchOption result
+            ((t : Time) → is_before t from ≡ false → arrivals_at t self.now ≡ [])
+            (λ first. (is_before first from ≡ false) × (0 < length (arrivals_at first self.now))) }
+        ensures least { IfSome result (λ first. (t : Time) → is_before t from ≡ false
+            → is_before t first ≡ true
+            → arrivals_at t self.now ≡ []) }
+    {
         match self.by_time.range(from..).next() {
             Some((time, _)) => Some(*time),
             None => None,
@@ -127,6 +141,7 @@ impl Inbox {
     }
 
     /// Removes what arrives at a time.
+    #[inline]
     pub fn remove(&mut self, time: dv_time::Time)
         ensures { (t : Time) → arrivals_at t self.new
             ≡ (if same_time time t then [] else arrivals_at t self.old) }
@@ -134,6 +149,15 @@ impl Inbox {
         if self.is_empty() {
             return;
         }
+        self.take_out(time);
+    }
+
+    // `remove`, by a search.
+    #[inline(never)]
+    fn take_out(&mut self, time: dv_time::Time)
+        ensures { (t : Time) → arrivals_at t self.new
+            ≡ (if same_time time t then [] else arrivals_at t self.old) }
+    {
         self.by_time.remove(&time);
     }
 }

@@ -26,6 +26,8 @@
 //! decides when an instant may be committed.
 #![tactic(auto)]
 
+mod arriving;
+
 /// A process as its run begins.
 pub mod beginning;
 mod by_time;

@@ -19,6 +19,7 @@ ghost use Rattle.dv_written.specs.Rest.{rest_length};
 ghost use Rattle.dv_local.specs.Shares.{IsShare, share_by};
 ghost use Rattle.dv_local.specs.States.{IsAtRest, IsKept, imminent_of, sent_of, settled_by, view_by};
 
+use crate::arriving::arrive;
 use crate::commit::commit;
 use crate::components::Components;
 use crate::emission::emit_all;
@@ -29,14 +30,14 @@ use crate::moment::Moment;
 use crate::scratch::Scratch;
 use crate::share::Share;
 use crate::undo::{Undo, agenda_of, let_go, put_all_back};
-use crate::waiting::{first_held, first_outside, is_taken, outside_at};
+use crate::waiting::{first_held, first_outside, is_taken};
 use dv_agenda::Agenda;
 use dv_bag::{Fault, Response, Sent};
 use dv_proc::{Event, Frame};
 use dv_react::{Atomic, Instant, Running};
 use dv_record::Record;
 use dv_share::tables::index_of;
-use dv_share::{Indexed, arrivals, away, outer};
+use dv_share::{Indexed, away, outer};
 use dv_time::{Time, earliest};
 use dv_written::{HandsOver, OfJob, WrittenPart};
 use std::alloc::{AllocError, Global};
@@ -222,6 +223,7 @@ impl<A: Atomic, R: Record> LocalState<A, R> {
     /// # Errors
     ///
     /// No memory. No component has changed.
+    #[inline(always)]
     pub fn emit(&mut self, work: &mut A::Work, now: Time) -> Result<(), AllocError>
         requires kept { IsKept A.behaviour A.fits A.comes self.old }
         requires of_run { IsOfRun (view_by A.behaviour R.told self.old).share.limit now }
@@ -302,18 +304,19 @@ impl<A: Atomic, R: Record> LocalState<A, R> {
         self.settle();
         self.emit(work, now)?;
         self.emitted_at = None;
-        let tables = &self.share.tables;
+        let share = &self.share;
+        let tables = &share.tables;
         let instant = Instant {
             time: now,
             limit: tables.limit,
         };
         let emitted = self.emitted.as_slice();
-        let outside = outside_at(self.alloc, &self.share.inputs, self.share.ports, now)?;
-        arrivals(
-            tables,
+        arrive(
+            self.alloc,
+            share,
             emitted,
-            &outside,
             self.inbox.at(now),
+            now,
             &mut self.scratch.carried,
             &mut self.scratch.received,
         )?;
@@ -371,6 +374,7 @@ impl<A: Atomic, R: Record> LocalState<A, R> {
 
     /// Makes all changes final: empties the undo log, and removes the arrivals of the committed
     /// time.
+    #[inline(always)]
     pub fn settle(&mut self)
         requires { IsKept A.behaviour A.fits A.comes self.old }
         ensures kept { IsKept A.behaviour A.fits A.comes self.new }

@@ -34,6 +34,7 @@ pub(crate) fn time_of(wait: Wait) -> Option<Time>
 }
 
 /// Removes what arrives at a time, if there is one.
+#[inline]
 pub(crate) fn let_go(inbox: &mut Inbox, taken: Option<Time>)
     ensures { (t : TimeOfCode) → arrivals_at t inbox.new ≡ arrivals_but taken t inbox.old }
 {

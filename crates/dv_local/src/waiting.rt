@@ -19,6 +19,7 @@ use std::alloc::{AllocError, Global};
 
 /// The first time, not before `from`, at which an event arrives. The arrivals of the time `taken`
 /// are committed and do not count.
+#[inline]
 pub(crate) fn first_held(inbox: &Inbox, taken: Option<Time>, from: Time) -> Option<Time>
     requires small { (t : TimeOfCode) → 0 < length (arrivals_at t inbox.now)
         → t.micro ≤ greatest_limit }
@@ -41,6 +42,7 @@ pub(crate) fn first_held(inbox: &Inbox, taken: Option<Time>, from: Time) -> Opti
 }
 
 /// Whether a time is the one that is taken, if one is.
+#[inline]
 pub(crate) fn is_taken(taken: Option<Time>, time: Time) -> bool
     ensures { result ≡ is_taken taken time }
 {
@@ -51,6 +53,7 @@ pub(crate) fn is_taken(taken: Option<Time>, time: Time) -> bool
 }
 
 /// The time of the first input that is not before `from`.
+#[inline]
 pub(crate) fn first_outside(inputs: &[Input], from: Time) -> Option<Time>
     requires { IsByTime inputs.now }
     ensures { (limit : ℕ) → AreOfRun limit inputs.now → result ≡ next_from limit inputs.now from }

@@ -1,5 +1,5 @@
 -- Steps of loops that carry.
-use Rattle.std.proofs.Common.{◌≡◌, ℕ, suc, ◌+◌, ◌<◌, List, [], ◌∷◌, ◌++◌, length, get_or, drop, sym, ap, ◌∙◌, add-one}
+use Rattle.std.proofs.Common.{◌≡◌, ℕ, suc, ◌+◌, ◌<◌, List, [], ◌∷◌, ◌++◌, length, get_or, drop, refl, sym, ap, ◌∙◌, add-one, arith}
 use Rattle.std.proofs.lemmas.List.{append_assoc, map-append}
 use Rattle.std.proofs.Math.Seq.{drop-cons}
 use Rattle.dv_conservative.specs.Links.{Delivery as Meant}
@@ -17,3 +17,12 @@ carry_more new old ds rest all more so_far = ap (λ (es : List Meant). es ++ res
 
 pub pushed : (new old : List Delivery) (d : Delivery) → new ≡ old ++ d ∷ [] → deliveries_of new ≡ deliveries_of old ++ delivery_of d ∷ []
 pushed new old d more = ap deliveries_of more ∙ map-append delivery_of old (d ∷ [])
+
+pub drop_at : {X : Type 0} (xs : List X) (i : ℕ) (d : X) → i < length xs → drop i xs ≡ get_or xs i d ∷ drop (i + 1) xs
+drop_at {X} xs i d lt = drop-cons xs i d lt ∙ ap (λ (n : ℕ). get_or xs i d ∷ drop n xs) (sym (add-one i))
+
+-- a list of one item
+pub only_one : {X : Type 0} (xs : List X) (d : X) → length xs ≡ 1 → xs ≡ get_or xs 0 d ∷ []
+only_one [] d one = absurd (omega (arith, one))
+only_one (x ∷ []) d one = refl
+only_one (x ∷ y ∷ xs) d one = absurd (omega (arith, one))

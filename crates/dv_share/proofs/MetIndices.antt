@@ -2,8 +2,8 @@
 use Rattle.std.proofs.Common.{◌≡◌, inl, inr, ℕ, zero, suc, ◌+◌, ◌<◌, ◌≤◌, Bool, true, false, nat_eq, List, [], ◌∷◌, ◌++◌}
 use Rattle.std.proofs.Common.{length, get_or, set, map, replicate, IsPermutation, IsTrue, refl, sym, ap, ◌∙◌, subst, arith}
 use Rattle.std.specs.List.{All}
-use Rattle.std.specs.Ordering.{is_lt, nat_cmp}
-use Rattle.std.proofs.lemmas.Bool.{cases_lt, eq-eqb, eqb-true, lt-ltb}
+use Rattle.std.specs.List.Sorted.{IsNonDecreasing}
+use Rattle.std.proofs.lemmas.Bool.{cases_lt, eq-eqb, eqb-true}
 use Rattle.std.proofs.lemmas.List.{length-append, map-append, get_or-set_same, get_or-set_other, length-set}
 use Rattle.std.proofs.lemmas.List.Sorted.{All-permutation, sum_by-IsPermutation}
 use Rattle.dv_bag.specs.Bag.{Counts}
@@ -227,26 +227,10 @@ met_moved receipts ps qs h same = record {
   within = All-permutation (λ p. p < length receipts) ps qs same h.within;
 }
 
-pub met_rise : (receipts : List Receipt) (ps : List ℕ) → AreMet receipts ps
-    → ((k : ℕ) (d : ℕ) → 0 ≤ k → k + 1 < length ps → is_lt (nat_cmp (get_or ps (k + 1) d) (get_or ps k d)) ≡ false) →
-    AreRising (indices_of (indexed_at receipts ps))
+pub met_rise : (receipts : List Receipt) (ps : List ℕ) → AreMet receipts ps → IsNonDecreasing ps → AreRising (indices_of (indexed_at receipts ps))
 met_rise receipts ps h sorted = subst AreRising (sym (indices_met receipts ps h))
-    (rise_by_counts 0 ps (λ k d lt. omega arith)
-    (λ k d lt.
-    let next : k + 1 ≡ suc k = omega arith in
-    subst (λ (i : ℕ). get_or ps k d ≤ get_or ps i d) next
-    (not_less (get_or ps (k + 1) d) (get_or ps k d) (sorted k d (omega arith) (omega (arith, lt)))))
-    (λ p. once p))
+    (rise_by_counts 0 ps (λ k d lt. omega arith) (λ k d lt. sorted k (suc k) d (omega arith) lt) (λ p. once p))
   where
-    not_less : (a b : ℕ) → is_lt (nat_cmp a b) ≡ false → b ≤ a
-    not_less a b e = elim (cases_lt a b) [
-      | inl less ↦ absurd (false_true (sym e ∙ less_is a b less))
-      | inr ge ↦ ge
-    ]
-      where
-        less_is : (a b : ℕ) → a < b → is_lt (nat_cmp a b) ≡ true
-        less_is a b less = rw (lt-ltb a b less) refl
-
     most : (t : Bool) → one_if t ≤ 1
     most true = omega arith
     most false = omega arith

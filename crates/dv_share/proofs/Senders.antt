@@ -1,9 +1,9 @@
 -- Links in order of their senders carry what the senders' rows carry, one after the other.
 use Rattle.std.proofs.Common.{◌≡◌, inl, inr, ℕ, zero, suc, ◌+◌, ◌<◌, ◌≤◌, true, false, nat_eq, List, [], ◌∷◌, ◌++◌, length}
-use Rattle.std.proofs.Common.{get_or, map, Option, Some, None, Result, Ok, refl, sym, ap, ◌∙◌, subst, arith}
+use Rattle.std.proofs.Common.{get_or, map, replicate, Option, Some, None, Result, Ok, refl, sym, ap, ◌∙◌, subst, arith}
 use Rattle.std.specs.List.{All, filter, slice_get}
 use Rattle.std.proofs.lemmas.Bool.{cases_lt, eq-eqb, eqb-true}
-use Rattle.std.proofs.lemmas.List.{append_assoc}
+use Rattle.std.proofs.lemmas.List.{append_assoc, get_or-replicate, get_or_past, length-replicate}
 use Rattle.std.proofs.lemmas.Option.{slice_get-get_or, slice_get_within}
 use Rattle.std.specs.Option.{unwrap_or}
 use Rattle.dv_bag.specs.Bag.{Counts, bag_at}
@@ -30,6 +30,18 @@ Rise low ls = RiseBy (λ (l : Link). l.from) low ls
 pub carried_none : (ls : List Link) (S : ℕ → List Counts) → ((k : ℕ) → S k ≡ []) → carried ls S ≡ []
 carried_none [] S h = refl
 carried_none (l ∷ ls) S h = rw (h l.from) (carried_none ls S h)
+
+-- empty bags are carried nowhere
+pub carried_empty : (ls : List Link) (n : ℕ) → carried ls (λ k. replicate n []) ≡ []
+carried_empty [] n = refl
+carried_empty (l ∷ ls) n =
+    ap (λ (b : Counts). carried_by l b ++ carried ls (λ k. replicate n [])) (empty_at l.from_port) ∙ carried_empty ls n
+  where
+    empty_at : (port : ℕ) → bag_at (replicate n []) port ≡ []
+    empty_at port = elim (cases_lt port n) [
+      | inl lt ↦ get_or-replicate n port [] [] lt
+      | inr ge ↦ get_or_past (replicate n []) port [] (omega (arith, ge, length-replicate {A = Counts} n []))
+    ]
 
 module _ (S : ℕ → List Counts) where
   abbrev pub groups : List ℕ → List Link → List Delivery
@@ -222,3 +234,8 @@ rows_are_carried ms links es up h indices =
         let start : 0 + e.index ≡ e.index = omega arith in
         ap (λ (p : ℕ). sent_of (given_at p es)) start
         ∙ ap (λ (o : Option (Result (List Counts) Fault)). sent_of (unwrap_or o (Ok []))) (found_at 0 i e es indices.rise at)
+
+-- without links nothing is carried
+pub rows_none : (ms : List Member) (es : List (Indexed (Result (List Counts) Fault))) → rows ms [] es ≡ []
+rows_none ms [] = refl
+rows_none ms (e ∷ es) = rows_none ms es

@@ -1,11 +1,11 @@
 -- What arrives at components by index, while deliveries are put in one after the other.
-use Rattle.std.specs.Prelude.{◌≡◌, ℕ, ◌<◌, false, if◌then◌else◌, nat_eq, List, [], ◌∷◌, ◌++◌, length, map, replicate, slice_get}
+use Rattle.std.specs.Prelude.{◌≡◌, ℕ, ◌<◌, ◌≤◌, false, if◌then◌else◌, nat_eq, List, [], ◌∷◌, ◌++◌, length, map, replicate, slice_get}
 use Rattle.std.specs.Prelude.{slice_index_or, slice_set, Some}
 use Rattle.std.specs.List.{All, sum_by}
 use Rattle.dv_bag.specs.Bag.{Counts, bag_at, with_copies}
 use Rattle.dv_conservative.specs.Links.{Delivery}
 use Rattle.dv_share.specs.Indices.{is_in, indices_of}
-use Rattle.dv_share.specs.Share.{inbox_of}
+use Rattle.dv_share.specs.Share.{AreAmong, AreTouched, inbox_of}
 use Rattle.dv_share.specs.declared.index.Indexed.{Indexed}
 use Rattle.dv_share.specs.declared.received.Receipt.{Receipt}
 use Rattle.dv_share.specs.declared.tables.Member.{Member}
@@ -56,3 +56,15 @@ pub record AreGathered (ms : List Member) (ds : List Delivery) (xs : List (Index
   pub within : All (λ (x : Indexed (List Counts)). x.index < length ms) xs
   pub bags : All (λ (x : Indexed (List Counts)). (m : Member) → slice_get ms x.index ≡ Some m → x.what ≡ inbox_of m ds) xs
   pub rest : (p : ℕ) (m : Member) → slice_get ms p ≡ Some m → is_in p (indices_of xs) ≡ false → inbox_of m ds ≡ replicate m.inputs []
+
+-- there is room for each component, and some deliveries were gathered
+pub record IsReady (ms : List Member) (r : ReceivedOf) : Type 0 where
+  pub room : length ms ≤ r.room
+  pub gathered : (ds : List Delivery) × AreGathered ms ds r.items
+
+-- Deliveries are put in beside those that were gathered before. No index goes, and one that comes was touched.
+pub record HasTaken (ms : List Member) (ds : List Delivery) (old new : ReceivedOf) : Type 0 where
+  pub room : new.room ≡ old.room
+  pub gathered : (es : List Delivery) → AreGathered ms es old.items → AreGathered ms (es ++ ds) new.items
+  pub among : AreAmong (indices_of old.items) (indices_of new.items)
+  pub touched : (ps : List ℕ) → AreTouched ps old.items → AreTouched ps new.items

@@ -22,6 +22,7 @@ use std::alloc::{AllocError, Global};
 /// # Errors
 ///
 /// No memory for the deliveries.
+#[inline(always)]
 pub fn carry_emitted(
     deliveries: &mut Vec<Delivery>,
     members: &[Member],
@@ -34,6 +35,9 @@ pub fn carry_emitted(
         ≡ deliveries_of deliveries.old.items
         ++ carried links.now (sent_in members.now emitted.now)) }
 {
+    if links.is_empty() {
+        return Ok(());
+    }
     // For the prover alone.
     links.are_in_order();
     carry_rows(deliveries, members, links, emitted)

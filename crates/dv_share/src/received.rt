@@ -1,18 +1,23 @@
 //! What arrives at the components of a share at an instant, by index.
 
 ghost use Rattle.std.specs.Prelude.{◌≡◌, ℕ, ◌++◌, ◌∷◌, ◌<◌, ◌≤◌, List, [], IsPermutation, IsTrue, OnOk, Some};
-ghost use Rattle.std.specs.Prelude.{length, map, replicate, slice_get};
+ghost use Rattle.std.specs.Prelude.{length, map, replicate, slice_get, slice_index_or};
 ghost use Rattle.std.specs.List.{All};
-ghost use Rattle.dv_conservative.specs.Links.{Delivery as Meant};
-ghost use Rattle.dv_share.specs.Links.{deliveries_of, delivery_of};
+ghost use Rattle.std.specs.List.Sorted.{IsNonDecreasing};
+ghost use Rattle.dv_conservative.specs.Links.{Delivery as Meant, carried, carried_by};
+ghost use Rattle.dv_share.specs.Links.{RiseByPort, deliveries_of, delivery_of, link_of, links_of, pairs_of};
 ghost use Rattle.dv_share.specs.Indices.{AreRising, is_in, indices_of};
-ghost use Rattle.dv_share.specs.Received.{AreGathered, met_of, with_delivery_at, with_index};
-ghost use Rattle.dv_share.specs.Share.{AreAmong, AreReceived, AreTouched, StandByIndex, numbers_of};
+ghost use Rattle.dv_share.specs.Received.{AreGathered, HasTaken, IsReady, met_of, with_delivery_at, with_index};
+ghost use Rattle.dv_share.specs.Rows.{carried_each, rows};
+ghost use Rattle.dv_share.specs.Share.{AreAmong, AreReceived, AreTouched, StandByIndex, numbers_of, sent_in};
 
 use crate::index::Indexed;
-use crate::link::Delivery;
-use crate::tables::{Member, index_of};
+use crate::link::{Delivery, Link};
+use crate::routes::{Routes, links_at};
+use crate::run::{ByPort, run_end};
+use crate::tables::{Member, distance, searched_index, stands_at};
 use crate::tally::Tally;
+use dv_bag::sent::Sending;
 use dv_bag::{Bags, Fault, Sent};
 use std::alloc::{AllocError, Global};
 use std::marker::Model;
@@ -133,7 +138,74 @@ impl Received {
         Ok(())
     }
 
+    /// Replaces all arrivals by those of what links carry of what was emitted, with an index also
+    /// for each component that emitted something. What links carry goes into the bags as it comes,
+    /// so this is for few values of each component.
+    ///
+    /// # Errors
+    ///
+    /// No memory for the bags.
+    pub(crate) fn gather_inside(
+        &mut self,
+        members: &[Member],
+        links: &Routes,
+        emitted: &[Indexed<Result<Sent, Fault>>],
+    ) -> Result<(), AllocError>
+        requires numbers { AreRising (numbers_of members.now) }
+        requires emitted { StandByIndex (length members.now) emitted.now }
+        ensures received { OnOk result (AreReceived members.now
+            (carried links.now (sent_in members.now emitted.now)) self.new.items) }
+        ensures among { OnOk result (AreAmong (indices_of emitted.now) (indices_of self.new.items)) }
+        ensures touched { OnOk result (AreTouched (indices_of emitted.now) self.new.items) }
+    {
+        // For the prover alone.
+        links.are_in_order();
+        self.clear();
+        self.make_room(members)?;
+        self.meet_all(members, emitted)?;
+        self.deliver_emitted(members, links, emitted)?;
+        self.put_in_order()?;
+        Ok(())
+    }
+
+    /// Replaces all arrivals by those of deliveries from outside, of what links carry of what was
+    /// emitted, and of deliveries from other processes. There is an index also for each component
+    /// that emitted something. What links carry goes into the bags as it comes, so this is for few
+    /// values of each component.
+    ///
+    /// # Errors
+    ///
+    /// No memory for the bags.
+    pub(crate) fn gather_along(
+        &mut self,
+        members: &[Member],
+        links: &Routes,
+        emitted: &[Indexed<Result<Sent, Fault>>],
+        entered: &[Delivery],
+        deliveries: &[Delivery],
+    ) -> Result<(), AllocError>
+        requires numbers { AreRising (numbers_of members.now) }
+        requires emitted { StandByIndex (length members.now) emitted.now }
+        ensures received { OnOk result (AreReceived members.now (deliveries_of entered.now
+            ++ (carried links.now (sent_in members.now emitted.now)
+            ++ deliveries_of deliveries.now)) self.new.items) }
+        ensures among { OnOk result (AreAmong (indices_of emitted.now) (indices_of self.new.items)) }
+        ensures touched { OnOk result (AreTouched (indices_of emitted.now) self.new.items) }
+    {
+        // For the prover alone.
+        links.are_in_order();
+        self.clear();
+        self.make_room(members)?;
+        self.meet_all(members, emitted)?;
+        self.deliver_all(members, entered)?;
+        self.deliver_emitted(members, links, emitted)?;
+        self.deliver_all(members, deliveries)?;
+        self.put_in_order()?;
+        Ok(())
+    }
+
     // Discards all arrivals. The bags stay until their index is met again.
+    #[inline(always)]
     fn clear(&mut self)
         ensures { self.new.items ≡ [] }
     {
@@ -143,6 +215,7 @@ impl Received {
     }
 
     // Makes a receipt for each component of a share.
+    #[inline(always)]
     fn make_room(&mut self, members: &[Member]) -> Result<(), AllocError>
         requires numbers { AreRising (numbers_of members.now) }
         ensures room { OnOk result (length members.now ≤ self.new.room) }
@@ -160,6 +233,7 @@ impl Received {
     }
 
     // Meets each component that emitted something.
+    #[inline(always)]
     fn meet_all(
         &mut self,
         members: &[Member],
@@ -205,6 +279,7 @@ impl Received {
         requires numbers { AreRising (numbers_of members.now) }
         requires room { length members.now ≤ self.old.room }
         requires gathered { (ds : List Meant) × AreGathered members.now ds self.old.items }
+        ensures room { OnOk result (self.new.room ≡ self.old.room) }
         ensures gathered { OnOk result ((ds : List Meant)
             → AreGathered members.now ds self.old.items
             → AreGathered members.now (ds ++ deliveries_of deliveries.now) self.new.items) }
@@ -219,8 +294,142 @@ impl Received {
         Ok(())
     }
 
+    // Puts what links carry of what was emitted into the bags.
+    #[inline(always)]
+    fn deliver_emitted(
+        &mut self,
+        members: &[Member],
+        links: &Routes,
+        emitted: &[Indexed<Result<Sent, Fault>>],
+    ) -> Result<(), AllocError>
+        requires numbers { AreRising (numbers_of members.now) }
+        requires emitted { StandByIndex (length members.now) emitted.now }
+        requires ready { IsReady members.now self.old }
+        ensures { OnOk result (HasTaken members.now (rows members.now links.now emitted.now)
+            self.old self.new) }
+    {
+        if links.is_empty() {
+            return Ok(());
+        }
+        self.deliver_rows(members, links, emitted)
+    }
+
+    // Puts what links carry of what was emitted into the bags, emission by emission.
+    #[inline(never)]
+    fn deliver_rows(
+        &mut self,
+        members: &[Member],
+        links: &Routes,
+        emitted: &[Indexed<Result<Sent, Fault>>],
+    ) -> Result<(), AllocError>
+        requires numbers { AreRising (numbers_of members.now) }
+        requires emitted { StandByIndex (length members.now) emitted.now }
+        requires ready { IsReady members.now self.old }
+        ensures { OnOk result (HasTaken members.now (rows members.now links.now emitted.now)
+            self.old self.new) }
+    {
+        for emission in emitted {
+            if let Ok(sent) = &emission.what {
+                let number = members[emission.index as usize].number;
+                self.deliver_row(members, links.of_component(number), sent)?;
+            }
+        }
+        Ok(())
+    }
+
+    // Puts what the links of a component carry of what it sends into the bags. Only the links from
+    // ports at which it sends are looked at.
+    #[inline]
+    fn deliver_row(
+        &mut self,
+        members: &[Member],
+        links: &[Link],
+        sent: &Sent,
+    ) -> Result<(), AllocError>
+        requires numbers { AreRising (numbers_of members.now) }
+        requires rise { RiseByPort (links_of links.now) }
+        requires ready { IsReady members.now self.old }
+        ensures { OnOk result (HasTaken members.now
+            (carried (links_of links.now) (λ k. sent.now)) self.old self.new) }
+    {
+        if links.is_empty() {
+            return Ok(());
+        }
+        let sendings = sent.as_slice();
+        let mut start = 0;
+        while start < sendings.len() {
+            let port = sendings[start].port;
+            let end = run_end::<ByPort, _>(sendings, start, port);
+            self.deliver_port(members, links_at(links, port), &sendings[start..end])?;
+            start = end;
+        }
+        Ok(())
+    }
+
+    // Puts what the links from one port carry of what is sent there into the bags.
+    #[inline]
+    fn deliver_port(
+        &mut self,
+        members: &[Member],
+        links: &[Link],
+        sendings: &[Sending],
+    ) -> Result<(), AllocError>
+        requires numbers { AreRising (numbers_of members.now) }
+        requires ready { IsReady members.now self.old }
+        ensures { OnOk result (HasTaken members.now
+            (carried_each (links_of links.now) (pairs_of sendings.now)) self.old self.new) }
+    {
+        if sendings.len() == 1 {
+            return self.deliver_one(members, links, sendings[0]);
+        }
+        for link in links {
+            self.deliver_sendings(members, link, sendings)?;
+        }
+        Ok(())
+    }
+
+    // Puts what the links from one port carry of one value into the bags.
+    #[inline]
+    fn deliver_one(
+        &mut self,
+        members: &[Member],
+        links: &[Link],
+        sending: Sending,
+    ) -> Result<(), AllocError>
+        requires numbers { AreRising (numbers_of members.now) }
+        requires ready { IsReady members.now self.old }
+        ensures { OnOk result (HasTaken members.now
+            (carried_each (links_of links.now) ((sending.value, sending.copies) ∷ []))
+            self.old self.new) }
+    {
+        for link in links {
+            self.deliver(members, &link.delivery(sending.value, sending.copies))?;
+        }
+        Ok(())
+    }
+
+    // Puts what a link carries of what is sent at its port into the bags.
+    #[inline]
+    fn deliver_sendings(
+        &mut self,
+        members: &[Member],
+        link: &Link,
+        sendings: &[Sending],
+    ) -> Result<(), AllocError>
+        requires numbers { AreRising (numbers_of members.now) }
+        requires ready { IsReady members.now self.old }
+        ensures { OnOk result (HasTaken members.now
+            (carried_by (link_of link.now) (pairs_of sendings.now)) self.old self.new) }
+    {
+        for sending in sendings {
+            self.deliver(members, &link.delivery(sending.value, sending.copies))?;
+        }
+        Ok(())
+    }
+
     // Puts a delivery into its bag. One without copies, or for no port of these components, brings
     // nothing.
+    #[inline(always)]
     fn deliver(&mut self, members: &[Member], delivery: &Delivery) -> Result<(), AllocError>
         requires numbers { AreRising (numbers_of members.now) }
         requires room { length members.now ≤ self.old.room }
@@ -237,9 +446,60 @@ impl Received {
         if delivery.copies == 0 {
             return Ok(());
         }
-        let Some(index) = index_of(members, delivery.component) else {
-            return Ok(());
-        };
+        let near = distance(members, delivery.component);
+        if stands_at(members, near, delivery.component) {
+            return self.deliver_at(members, near, delivery);
+        }
+        self.deliver_far(members, *delivery)
+    }
+
+    // Puts a delivery with copies into its bag, if the component is not where it is mostly.
+    #[inline(never)]
+    fn deliver_far(&mut self, members: &[Member], delivery: Delivery) -> Result<(), AllocError>
+        requires numbers { AreRising (numbers_of members.now) }
+        requires room { length members.now ≤ self.old.room }
+        requires gathered { (ds : List Meant) × AreGathered members.now ds self.old.items }
+        requires some { 0 < delivery.copies }
+        ensures room { self.new.room ≡ self.old.room }
+        ensures gathered { OnOk result ((ds : List Meant)
+            → AreGathered members.now ds self.old.items
+            → AreGathered members.now (ds ++ delivery_of delivery ∷ []) self.new.items) }
+        ensures among { OnOk result (AreAmong (indices_of self.old.items)
+            (indices_of self.new.items)) }
+        ensures touched { OnOk result ((ps : List ℕ) → AreTouched ps self.old.items
+            → AreTouched ps self.new.items) }
+    {
+        match searched_index(members, delivery.component) {
+            Some(index) => self.deliver_at(members, index, &delivery),
+            None => Ok(()),
+        }
+    }
+
+    // Puts a delivery with copies into its bag at the index of its component. One for no port brings
+    // nothing.
+    #[inline(always)]
+    fn deliver_at(
+        &mut self,
+        members: &[Member],
+        index: usize,
+        delivery: &Delivery,
+    ) -> Result<(), AllocError>
+        requires numbers { AreRising (numbers_of members.now) }
+        requires room { length members.now ≤ self.old.room }
+        requires gathered { (ds : List Meant) × AreGathered members.now ds self.old.items }
+        requires some { 0 < delivery.now.copies }
+        requires within { index < length members.now }
+        requires here { (d : Member)
+            → (slice_index_or members.now index d).number ≡ delivery.now.component }
+        ensures room { self.new.room ≡ self.old.room }
+        ensures gathered { OnOk result ((ds : List Meant)
+            → AreGathered members.now ds self.old.items
+            → AreGathered members.now (ds ++ delivery_of delivery.now ∷ []) self.new.items) }
+        ensures among { OnOk result (AreAmong (indices_of self.old.items)
+            (indices_of self.new.items)) }
+        ensures touched { OnOk result ((ps : List ℕ) → AreTouched ps self.old.items
+            → AreTouched ps self.new.items) }
+    {
         let inputs = members[index].inputs;
         if delivery.port >= inputs {
             return Ok(());
@@ -262,10 +522,9 @@ impl Received {
         delivery.put(&mut self.receipts[index as usize].indexed.what)
     }
 
-    // Whether a walk over all receipts takes less time than to sort the indices: many are met, and
-    // they are not in order.
+    // Whether a walk over all receipts takes less time than to sort the indices: many are met.
     fn is_walk_faster(&self) -> bool {
-        self.indices.len() >= self.receipts.len() / DENSE && !are_in_order(&self.indices)
+        self.indices.len() >= self.receipts.len() / DENSE
     }
 
     // Puts the indices in order.
@@ -273,10 +532,14 @@ impl Received {
     // # Errors
     //
     // No memory for a second list. The order is unchanged.
+    #[inline(always)]
     fn put_in_order(&mut self) -> Result<(), AllocError>
         ensures rise { OnOk result (AreRising (indices_of self.new.items)) }
         ensures same { OnOk result (IsPermutation self.old.items self.new.items) }
     {
+        if are_in_order(&self.indices) {
+            return Ok(());
+        }
         if !self.is_walk_faster() {
             self.indices.sort_unstable();
             return Ok(());
@@ -289,7 +552,9 @@ impl Received {
 
 // Whether no index is before a smaller one.
 #[inline]
-fn are_in_order(indices: &[u32]) -> bool {
+fn are_in_order(indices: &[u32]) -> bool
+    ensures { IsTrue result → IsNonDecreasing indices.now }
+{
     for index in 1..indices.len() {
         if indices[index] < indices[index - 1] {
             return false;
@@ -324,17 +589,25 @@ fn index_as_number(members: &[Member], index: usize) -> u32
 }
 
 // Replaces bags by empty ones for so many ports.
-#[inline]
+#[inline(always)]
 fn put_none(alloc: Global, ports: usize, bags: &mut Bags)
     ensures { bags.new ≡ replicate ports [] }
 {
     if !is_blank(bags, ports) {
-        *bags = Bags::empty(alloc, ports);
+        put_empty(alloc, ports, bags);
     }
 }
 
+// Replaces bags, whatever they are, by empty ones for so many ports.
+#[inline(never)]
+fn put_empty(alloc: Global, ports: usize, bags: &mut Bags)
+    ensures { bags.new ≡ replicate ports [] }
+{
+    *bags = Bags::empty(alloc, ports);
+}
+
 // Whether there are bags for so many ports, all of them empty.
-#[inline]
+#[inline(always)]
 fn is_blank(bags: &Bags, ports: usize) -> bool
     ensures { IsTrue result → bags.now ≡ replicate ports [] }
 {

@@ -1,12 +1,13 @@
 //! Links in the order of the ports that they lead from.
 
-ghost use Rattle.std.specs.Prelude.{◌≡◌, ℕ, ◌-◌, ◌<◌, ◌≤◌, IfOk, OnOk, drop, filter, length, nat_eq, slice_index_or, take};
+ghost use Rattle.std.specs.Prelude.{◌≡◌, ℕ, ◌-◌, ◌<◌, ◌≤◌, [], IfOk, IsTrue, OnOk, drop, filter, length, nat_eq, slice_index_or, take};
 ghost use Rattle.std.specs.List.Sorted.{IsNonDecreasingBy};
 ghost use Rattle.dv_share.specs.Links.{RiseByPort, RiseBySource, leads_from, links_of};
 ghost use Rattle.dv_share.specs.Rows.{AreStarts};
 
 use crate::link::Link;
 use crate::run::{ByPort, run_of};
+use crate::tally::Tally;
 use std::alloc::{AllocError, Global};
 use std::marker::Model;
 
@@ -17,6 +18,8 @@ pub struct Routes {
     links: Vec<Link>,
     // Where the links of each component begin; the last item is where those of the last one end.
     starts: Vec<usize>,
+    // How many links lead to one component at most.
+    most: u32,
 }
 
 impl Model for Routes {
@@ -44,7 +47,26 @@ impl Routes {
         ensures { IfOk result (λ routes. routes ≡ links_of links.items) }
     {
         let starts = starts_of(alloc, &links)?;
-        Ok(Routes { links, starts })
+        let most = most_to_one(alloc, &links)?;
+        Ok(Routes {
+            links,
+            starts,
+            most,
+        })
+    }
+
+    /// How many links lead to one component at most. This is for choices of speed alone.
+    #[inline]
+    pub(crate) fn most_to_one(&self) -> u32 {
+        self.most
+    }
+
+    /// Whether there is no link.
+    #[inline]
+    pub(crate) fn is_empty(&self) -> bool
+        ensures { IsTrue result → self.now ≡ [] }
+    {
+        self.links.is_empty()
     }
 
     /// For the prover alone: the links are in order.
@@ -55,6 +77,7 @@ impl Routes {
     }
 
     /// The links that lead from a component, in the order of its ports.
+    #[inline]
     pub fn of_component(&self, component: u32) -> &[Link]
         ensures links { links_of result.now ≡ filter (leads_from component) self.now }
         ensures rise { RiseByPort (links_of result.now) }
@@ -92,6 +115,16 @@ fn starts_of(alloc: Global, links: &[Link]) -> Result<Vec<usize>, AllocError>
     }
     starts.push(links.len())?;
     Ok(starts)
+}
+
+// How many links lead to one component at most.
+fn most_to_one(alloc: Global, links: &[Link]) -> Result<u32, AllocError> {
+    let mut tally = Tally::new(alloc);
+    let mut most = 0;
+    for link in links {
+        most = most.max(tally.raise(link.to)?);
+    }
+    Ok(most)
 }
 
 // Gives each component up to this one a start, if it has none yet: the index.
@@ -146,7 +179,8 @@ impl Entrances {
     }
 }
 
-/// The links that lead from a port, of links in the order of their ports, by a binary search.
+/// The links that lead from a port, of links in the order of their ports.
+#[inline]
 pub fn links_at(links: &[Link], port: usize) -> &[Link]
     requires { RiseByPort (links_of links.now) }
     ensures { links_of result.now ≡ filter (λ l. nat_eq l.from_port port) (links_of links.now) }

@@ -4,7 +4,7 @@ use crate::link::Delivery;
 use std::alloc::{AllocError, Global};
 
 /// More deliveries than this for one component at an instant are many.
-pub(crate) const FEW: u32 = 64;
+pub(crate) const FEW: usize = 64;
 
 /// Counts deliveries by the number of their component. Between two calls all counts are 0.
 #[derive(Drop)]
@@ -26,12 +26,12 @@ impl Tally {
     ///
     /// No memory for a count of each component.
     pub fn are_few(&mut self, deliveries: &[Delivery]) -> Result<bool, AllocError> {
-        if deliveries.len() <= FEW as usize {
+        if deliveries.len() <= FEW {
             return Ok(true);
         }
         let most = self.greatest(deliveries)?;
         self.reset(deliveries);
-        Ok(most <= FEW)
+        Ok(most as usize <= FEW)
     }
 
     // The greatest number of deliveries for one component.
@@ -43,8 +43,12 @@ impl Tally {
         Ok(most)
     }
 
-    // Raises the count of a component, and returns it.
-    fn raise(&mut self, component: u32) -> Result<u32, AllocError> {
+    /// Raises the count of a component, and returns it.
+    ///
+    /// # Errors
+    ///
+    /// No memory for a count of each component.
+    pub fn raise(&mut self, component: u32) -> Result<u32, AllocError> {
         let component = component as usize;
         if component >= self.counts.len() {
             self.counts.resize(component + 1, 0)?;

@@ -1,7 +1,8 @@
-use Rattle.std.proofs.Common.{◌≡◌, ◌∙◌, ℕ, ◌+◌, ◌≤◌, ◌++◌, List, Some, Result, length, sym, ap, subst, arith}
+use Rattle.std.proofs.Common.{◌≡◌, ◌∙◌, ℕ, ◌+◌, ◌≤◌, ◌++◌, List, Some, Result, length, refl, sym, ap, subst, arith}
 use Rattle.std.proofs.lemmas.List.{length-append}
 use Rattle.dv_time.specs.Time.{IsOfRun, rank}
 use Rattle.dv_bag.specs.Bag.{Counts}
+use Rattle.dv_bag.specs.Inputs.{inputs_at}
 use Rattle.dv_bag.specs.declared.entry.Entry.{Entry}
 use Rattle.dv_bag.specs.declared.entry.Outer.{Outer}
 use Rattle.dv_bag.specs.declared.fault.Fault.{Fault}
@@ -42,20 +43,20 @@ returns-clause-reacted g c =
     let es = c.as_slice-emitted.result.now in
     let gs = x.emitted.items in
     let same-es : es ≡ gs = c.as_slice-emitted.ensures.value in
-    let outside = c.in_ok-outside.outside in
+    let outside = inputs_at t.limit x.share.ports x.share.inputs (rank t.limit c.args.now) in
     let ds = c.at.result.now in
     let meant = deliveries_of ds in
-    let xs = c.arrivals.new.received.items in
+    let xs = c.arrive.new.received.items in
     let rs = x.components.running in
     let ss = c.commit.new.components.running in
     let n = rank t.limit c.args.now in
     let held : ds ≡ arrivals_at c.args.now x.inbox = c.at.ensures in
     let among : AreAmong (indices_of gs) (indices_of xs) =
     subst (λ (fs : List (Indexed (Result (List Counts) Fault))). AreAmong (indices_of fs) (indices_of xs)) same-es
-    c.in_ok-arrivals.ensures.emitted in
+    c.in_ok-arrive.ensures.emitted in
     let received : AreReceived t.members.items (coming t gs outside meant) xs =
     subst (λ (fs : List (Indexed (Result (List Counts) Fault))). AreReceived t.members.items (coming t fs outside meant) xs) same-es
-    c.in_ok-arrivals.ensures.received in
+    (c.in_ok-arrive.ensures.received t.limit of_run) in
     let old : List Entry = (told x.record).entries in
     let told_now : PartOf = told c.outer.new.to in
     let lines : List (Indexed (Result (List Counts) Fault)) → List Outer =
@@ -78,7 +79,7 @@ returns-clause-reacted g c =
     } in
     subst (λ (y : View). IsAfterInstant (rank y.share.limit c.args.now) y w) same
     (took_index b fits told x c.args.now outside meant xs ss told_now of_run
-    (input_is b told x c.args.now outside ds of_run taken (c.in_ok-outside.ensures t.limit of_run) held)
+    (input_is b told x c.args.now outside ds of_run taken refl held)
     c.emit.ensures.kept.components c.in_ok-emit.ensures.emitted among received
     reacted outer taken)
 
@@ -102,9 +103,9 @@ returns-clause-visits g c =
     let t = x.share.tables in
     let es = c.as_slice-emitted.result.now in
     let same-es : es ≡ x.emitted.items = c.as_slice-emitted.ensures.value in
-    let xs = c.arrivals.new.received.items in
+    let xs = c.arrive.new.received.items in
     let rs = x.components.running in
-    let outside = c.in_ok-outside.outside in
+    let outside = inputs_at t.limit x.share.ports x.share.inputs (rank t.limit c.args.now) in
     let ds = c.at.result.now in
     let of_run : IsOfRun t.limit c.args.now = subst (λ (y : View). IsOfRun y.share.limit c.args.now) (sym same) c.requires.of_run in
     let n = rank t.limit c.args.now in
@@ -125,20 +126,20 @@ returns-clause-visits g c =
     let held : ds ≡ arrivals_at c.args.now x.inbox = c.at.ensures in
     let taken = (c.emit.ensures.at_rest c.settle.ensures.at_rest).taken in
     let input : (outside, deliveries_of ds) ≡ input_at v n =
-    input_is b told x c.args.now outside ds of_run taken (c.in_ok-outside.ensures t.limit of_run) held in
+    input_is b told x c.args.now outside ds of_run taken refl held in
     let most : length xs ≤ imminent_at v n + receiving_at v n =
     received_few b g.A.Atomic.fits told x n outside (deliveries_of ds) xs (imminent_of t.limit c.args.now rs) input
     c.in_ok-emit.ensures.emitted
     (subst (λ (fs : List (Indexed (Result (List Counts) Fault))). AreReceived t.members.items (coming t fs outside (deliveries_of ds)) xs)
-    same-es c.in_ok-arrivals.ensures.received)
-    (subst (λ (fs : List (Indexed (Result (List Counts) Fault))). AreTouched (indices_of fs) xs) same-es c.in_ok-arrivals.ensures.touched)
+    same-es (c.in_ok-arrive.ensures.received t.limit of_run))
+    (subst (λ (fs : List (Indexed (Result (List Counts) Fault))). AreTouched (indices_of fs) xs) same-es c.in_ok-arrive.ensures.touched)
     c.in_ok-emit.ensures.few in
     subst (λ (y : View). CountsInstant (rank y.share.limit c.args.now) y before after) same
     (instant_counted n (length xs) v before mid after found least most c.in_ok-commit.ensures.visits)
 
 -- inputs are at times of the run
-pub outside_at-requires : goal.outside_at-requires
-outside_at-requires g c =
+pub arrive-requires-clause-inputs : goal.arrive-requires-clause-inputs
+arrive-requires-clause-inputs g c =
     let b = g.A.Atomic.behaviour in
     let told = g.R.Record.told in
     let x = c.emit.new.self in

@@ -1,7 +1,7 @@
 use Rattle.std.proofs.Common.{ℕ, ◌<◌, inl, inr, List, [], ◌∷◌, length, leb, ltb, arith, rules}
 use Rattle.std.proofs.lemmas.Bool.{cases_lt, leb-false, leb-true, ltb-false, ltb-true}
 use Rattle.std.proofs.lemmas.List.Sorted.{IsPartitionPoint-from_clause, IsPartitionedBy-leb, IsPartitionedBy-ltb}
-use Rattle.dv_share.proofs.run.indices_of.Goals as goal
+use Rattle.dv_share.proofs.run.searched_indices.Goals as goal
 
 pub returns-clause-before : goal.returns-clause-before
 returns-clause-before g c =
