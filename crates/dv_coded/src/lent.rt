@@ -119,7 +119,7 @@ impl Atomic for Lent<'_> {
         }
     }
 
-    #[inline]
+    #[inline(always)]
     fn hold(&self, work: &mut Bench, state: &State) -> Result<Option<u64>, RuleError> {
         let Some(code) = self.phase(state) else {
             return Ok(None);
