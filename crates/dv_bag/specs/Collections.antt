@@ -1,5 +1,5 @@
 -- Collections of a state: bags and queues, and what changes them.
-use Rattle.std.specs.Prelude.{◌≡◌, ℕ, ℤ, Bool, true, false, ◌&&◌, ◌||◌, List, [], ◌∷◌, ◌++◌, Option, Some, None, Result, Ok, Err}
+use Rattle.std.specs.Prelude.{ℕ, ℤ, Bool, true, false, ◌&&◌, ◌||◌, List, [], ◌∷◌, ◌++◌, Option, Some, None, Result, Ok, Err}
 use Rattle.std.specs.Prelude.{if◌then◌else◌, length, map, drop, nat_le}
 use Rattle.dv_bag.specs.Bag.{Counts, total, values_of, with_copies, without_one}
 use Rattle.dv_bag.specs.Limits.{greatest_count}

@@ -54,6 +54,7 @@ impl<'a> Arrivals<'a> {
     }
 
     /// The bag that arrived at an input port: `None` if the port is past the last.
+    #[inline]
     pub fn bag(&self, port: usize) -> Option<&'a Bag>
         ensures bag { unwrap_or (option_copied result) [] ≡ bag_at self.now.received port }
         ensures few { IfSome result (λ bag. total bag.now ≤ greatest_count) }

@@ -16,7 +16,6 @@ use crate::merge::merged;
 use crate::put::put;
 use smallvec::SmallVec;
 use std::alloc::{AllocError, Global};
-use std::cmp::Ordering;
 use std::default::MadeWith;
 use std::marker::Model;
 
@@ -75,6 +74,7 @@ impl Bag {
     /// # Errors
     ///
     /// No memory for a value that the bag lacks. The bag is as before.
+    #[inline]
     pub fn insert_copies(&mut self, value: i64, copies: u64) -> Result<(), AllocError>
         ensures ok { OnOk result (self.new ≡ with_copies value copies self.old) }
         ensures err { OnErr result (self.new ≡ self.old) }
@@ -150,6 +150,7 @@ impl Bag {
     }
 
     /// The number of values, each copy counted. It saturates at 2^64-1.
+    #[inline]
     pub fn size(&self) -> u64
         ensures { result ≡ size self.now }
     {
@@ -257,14 +258,17 @@ fn search(pairs: &[(i64, u64)], value: i64) -> Result<usize, usize>
     let [.., last] = pairs else {
         return Err(0);
     };
-    match last.0.cmp(&value) {
-        Ordering::Less => Err(pairs.len()),
-        Ordering::Equal => Ok(pairs.len() - 1),
-        Ordering::Greater => search_all(pairs, value),
+    if last.0 == value {
+        Ok(pairs.len() - 1)
+    } else if last.0 < value {
+        Err(pairs.len())
+    } else {
+        search_all(pairs, value)
     }
 }
 
 // The index of a value among the pairs, or the index at which it would go in, by binary search.
+#[inline(never)]
 fn search_all(pairs: &[(i64, u64)], value: i64) -> Result<usize, usize>
     requires { IsBag pairs.now }
     ensures found { IfOk result (λ index. (index ≡ index_of value pairs.now)
@@ -276,6 +280,7 @@ fn search_all(pairs: &[(i64, u64)], value: i64) -> Result<usize, usize>
 }
 
 // Adds `copies` copies of a value to the pairs. It fails only if there is no memory for a new pair.
+#[inline]
 fn add_copies(
     pairs: &mut SmallVec<(i64, u64), 1>,
     value: i64,
@@ -290,8 +295,8 @@ fn add_copies(
 {
     match search(pairs.as_slice(), value) {
         Ok(index) => {
-            let present = pairs[index].1;
-            pairs[index] = (value, present.saturating_add(copies));
+            let pair = &mut pairs[index];
+            *pair = (value, pair.1.saturating_add(copies));
             Ok(())
         }
         Err(index) => {

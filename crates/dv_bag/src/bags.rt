@@ -1,9 +1,10 @@
 //! Bags by port.
 
 ghost use Rattle.std.specs.List.{list_all};
-ghost use Rattle.std.specs.Prelude.{◌≡◌, ◌<◌, ℕ, [], length, nat_eq, nat_le, replicate, slice_set, unwrap_or};
+ghost use Rattle.std.specs.Prelude.{◌≡◌, ◌<◌, ◌≤◌, ℕ, [], insert, length, nat_eq, nat_le, replicate, slice_set, unwrap_or};
 ghost use Rattle.std.specs.Prelude.{IfErr, IfOk, IsTrue, OnErr, OnOk};
 ghost use Rattle.std.specs.Option.{option_copied};
+ghost use Rattle.smallvec.specs.SmallVec.{small_vec_len};
 ghost use Rattle.dv_bag.specs.Arrivals.{AreFew};
 ghost use Rattle.dv_bag.specs.Bag.{bag_at, size, size_of_all, union, with_copies};
 ghost use Rattle.dv_bag.specs.Bags.{AreWithin, GoesInAt, RiseFrom, StandsAt, by_port};
@@ -14,7 +15,6 @@ use crate::bag::Bag;
 use crate::put::put;
 use smallvec::SmallVec;
 use std::alloc::{AllocError, Global};
-use std::cmp::Ordering;
 use std::default::MadeWith;
 use std::marker::Model;
 
@@ -102,6 +102,7 @@ impl Bags {
     }
 
     /// The bag of a port, if it has values.
+    #[inline]
     pub fn get(&self, port: usize) -> Option<&Bag>
         ensures { unwrap_or (option_copied result) [] ≡ bag_at self.now port }
     {
@@ -139,6 +140,7 @@ impl Bags {
     /// # Errors
     ///
     /// No memory for a value that the bag lacks. All bags are as before.
+    #[inline]
     pub fn insert_copies(&mut self, port: usize, value: i64, copies: u64) -> Result<(), AllocError>
         requires { port < length self.old }
         ensures ok { OnOk result
@@ -152,7 +154,7 @@ impl Bags {
             Ok(index) => self.held[index].bag.insert_copies(value, copies),
             Err(index) => {
                 let bag = Bag::of_copies(*self.held.allocator(), value, copies);
-                put(&mut self.held, index, PortBag { port, bag })?;
+                put_bag(&mut self.held, index, PortBag { port, bag })?;
                 Ok(())
             }
         }
@@ -183,6 +185,21 @@ impl Bags {
     }
 }
 
+// `put` for the bag of a port that has none yet. It is not inlined, so that `insert_copies` is short
+// for a port that has one.
+#[inline(never)]
+fn put_bag(
+    held: &mut SmallVec<PortBag, 2>,
+    index: usize,
+    element: PortBag,
+) -> Result<(), AllocError>
+    requires { index ≤ small_vec_len held.old }
+    ensures ok { OnOk result (held.new.items ≡ insert held.old.items index element) }
+    ensures err { OnErr result (held.new ≡ held.old) }
+{
+    put(held, index, element)
+}
+
 // Whether each bag has at most `GREATEST_COUNT` values.
 fn all_few(held: &[PortBag]) -> bool
     ensures { result ≡ list_all (λ h. nat_le (size h.bag) greatest_count) held.now }
@@ -201,14 +218,17 @@ fn search(held: &[PortBag], port: usize) -> Result<usize, usize>
     let [.., last] = held else {
         return Err(0);
     };
-    match last.port.cmp(&port) {
-        Ordering::Less => Err(held.len()),
-        Ordering::Equal => Ok(held.len() - 1),
-        Ordering::Greater => search_all(held, port),
+    if last.port == port {
+        Ok(held.len() - 1)
+    } else if last.port < port {
+        Err(held.len())
+    } else {
+        search_all(held, port)
     }
 }
 
 // The index of the bag of a port, or the index at which it goes in, by binary search.
+#[inline(never)]
 fn search_all(held: &[PortBag], port: usize) -> Result<usize, usize>
     requires { RiseFrom 0 held.now }
     ensures found { IfOk result (λ index. StandsAt port index held.now) }

@@ -4,9 +4,9 @@ ghost use Rattle.std.specs.Prelude.{◌≡◌, ℕ, ◌≤◌, [], ◌∷◌, �
 ghost use Rattle.std.specs.List.{take_while};
 ghost use Rattle.dv_time.specs.Time.{IsOfRun, is_before};
 ghost use Rattle.dv_time.specs.declared.time.Time.{Time as TimeOfCode};
+ghost use Rattle.dv_time.specs.Limits.{greatest_tick};
 ghost use Rattle.dv_bag.specs.Inputs.{IsByTime, bags_at, inputs_before, is_at, last_time, next_from, time_at};
 ghost use Rattle.dv_bag.specs.InputSteps.{with_input, with_inputs};
-ghost use Rattle.dv_time.specs.Limits.{greatest_tick};
 
 /// Laws of what comes in, and when.
 pub mod laws;

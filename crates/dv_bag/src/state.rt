@@ -48,11 +48,33 @@ impl Datum {
         ensures { OnOk result (self.new ≡ other.now) }
     {
         match other {
-            Datum::Number(number) => *self = Datum::Number(*number),
-            Datum::Flag(flag) => *self = Datum::Flag(*flag),
+            Datum::Number(number) => self.become_number(*number),
+            Datum::Flag(flag) => self.become_flag(*flag),
             Datum::Held(held) => self.copy_held(held)?,
         }
         Ok(())
+    }
+
+    // Becomes a number. One that is a number already has nothing to drop.
+    #[inline(always)]
+    fn become_number(&mut self, value: i64)
+        ensures { self.new ≡ datum.Number value }
+    {
+        match self {
+            Datum::Number(number) => *number = value,
+            Datum::Flag(_) | Datum::Held(_) => *self = Datum::Number(value),
+        }
+    }
+
+    // Becomes a truth value. One that is a truth value already has nothing to drop.
+    #[inline(always)]
+    fn become_flag(&mut self, value: bool)
+        ensures { self.new ≡ datum.Flag value }
+    {
+        match self {
+            Datum::Flag(flag) => *flag = value,
+            Datum::Number(_) | Datum::Held(_) => *self = Datum::Flag(value),
+        }
     }
 
     // Makes this a copy of a collection, in its own memory if this is a collection too.
@@ -182,6 +204,7 @@ impl Variables {
 
     /// The variable, flag, bag or queue at an index, if there is one. A collection has at most
     /// `GREATEST_COUNT` values.
+    #[inline]
     pub fn get(&self, index: usize) -> Option<DatumView<'_>>
         ensures datum { option_map datum_of result ≡ slice_get self.now index }
         ensures few { IfSome result (λ view. HoldsFew view) }
@@ -195,6 +218,7 @@ impl Variables {
     }
 
     /// Sets the variable at an index.
+    #[inline]
     pub fn set_number(&mut self, index: usize, value: i64)
         requires { index < length self.old }
         ensures { self.new ≡ slice_set self.old index (datum.Number value) }
@@ -300,7 +324,7 @@ impl Variables {
 }
 
 // Makes each datum a copy of the other one at its index.
-#[inline]
+#[inline(always)]
 fn copy_all(to: &mut [Datum], from: &[Datum]) -> Result<(), AllocError>
     requires { length to.old ≡ length from.now }
     ensures { OnOk result (to.new ≡ from.now) }

@@ -1,8 +1,8 @@
 //! Events in the order in which packets carry them.
 
 ghost use Rattle.std.specs.Prelude.{◌≡◌, ℕ, ◌+◌, ◌<◌, ◌≤◌, Bool, List, []};
-ghost use Rattle.dv_time.specs.Time.{IsOfRun};
 ghost use Rattle.dv_bag.specs.Bag.{Counts};
+ghost use Rattle.dv_time.specs.Time.{IsOfRun};
 ghost use Rattle.dv_conservative.specs.Events.{AllHaveCopies, AllOfRun, AreInOrder, DeliverTheSame, Event, deliveries_at};
 ghost use Rattle.dv_conservative.specs.Events.{events_between, in_order};
 ghost use Rattle.dv_conservative.specs.Links.{Delivery, SameFor, delivered};

@@ -5,8 +5,8 @@ ghost use Rattle.dv_bag.specs.Bag.{Counts};
 ghost use Rattle.dv_bag.specs.declared.state.State.{State};
 ghost use Rattle.dv_devs.specs.Idle.{nothing_sent};
 ghost use Rattle.dv_devs.specs.Network.{Network, components_at, emissions_at};
-ghost use Rattle.dv_time.specs.Time.{earlier};
 ghost use Rattle.dv_devs.specs.NextTimes.{IsFrom, IsReady, least_next};
+ghost use Rattle.dv_time.specs.Time.{earlier};
 ghost use Rattle.dv_conservative.specs.Promise.{IsDecided, IsWaiting, foreseen, reach};
 
 /// Before its next time, and before it can answer its first input, a waiting run sends nothing; and

@@ -1,10 +1,10 @@
 //! Worked rows, computed in the definitions alone.
 
 ghost use Rattle.std.specs.Prelude.{◌≡◌, [], ◌∷◌, Some, None, pos, true};
-ghost use Rattle.dv_time.specs.Time.{end_of};
 ghost use Rattle.dv_bag.specs.declared.entry.Kind.TheVariants.{Confluent, Internal};
 ghost use Rattle.dv_devs.specs.Network.{trace_before};
 ghost use Rattle.dv_devs.specs.Rows.{at, counter, no_input, one, outer_line, transition};
+ghost use Rattle.dv_time.specs.Time.{end_of};
 ghost use Rattle.dv_conservative.specs.Events.{events_between};
 ghost use Rattle.dv_conservative.specs.Flat.{whole};
 ghost use Rattle.dv_conservative.specs.Process.{P1, P2, P3, P4, events_by, packet_of, part_by, promise, refusal_of};

@@ -2,7 +2,6 @@
 
 ghost use Rattle.std.specs.Prelude.{◌≡◌, ℕ, ◌+◌, ◌<◌, ◌≤◌, Bool, List, ◌∷◌, Some, None, length, nat_eq, slice_get};
 ghost use Rattle.std.specs.List.{filter};
-ghost use Rattle.dv_time.specs.Time.{end_of, rank};
 ghost use Rattle.dv_bag.specs.declared.state.State.{State};
 ghost use Rattle.dv_bag.specs.declared.entry.Entry.{Entry};
 ghost use Rattle.dv_devs.specs.Idle.{LeavesOnlyWhatIsSent};
@@ -10,6 +9,7 @@ ghost use Rattle.dv_devs.specs.Network.{Network, components_at, trace_before};
 ghost use Rattle.dv_devs.specs.NextTimes.{IsReady};
 ghost use Rattle.dv_devs.specs.Outside.{LeavesLinearly, SendsBags};
 ghost use Rattle.dv_devs.specs.Parts.{part_before};
+ghost use Rattle.dv_time.specs.Time.{end_of, rank};
 ghost use Rattle.dv_conservative.specs.Flat.{kept, numbers, whole};
 ghost use Rattle.dv_conservative.specs.Process.{IsWithin, Packet, components_by, events_by, first_time, least_clock, part_by, refusal_of};
 ghost use Rattle.dv_conservative.specs.Sound.{IsJob};

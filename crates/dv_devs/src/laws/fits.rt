@@ -2,10 +2,10 @@
 
 ghost use Rattle.std.specs.Prelude.{◌≡◌, ℕ, ◌<◌, Bool, List};
 ghost use Rattle.dv_bag.specs.Bag.{Counts};
+ghost use Rattle.dv_bag.specs.declared.state.State.{State};
 ghost use Rattle.dv_devs.specs.Fits.{AllFit, AllKeep, AreAlike, LeavesAlikeOf, OnlyArrives};
 ghost use Rattle.dv_devs.specs.Network.{Network, components_at, emissions_at, trace_before};
 ghost use Rattle.dv_devs.specs.Parts.{part_before};
-ghost use Rattle.dv_bag.specs.declared.state.State.{State};
 
 /// If behaviours lead from states that fit to states that fit, and only what is allowed arrives,
 /// the states of a run fit.

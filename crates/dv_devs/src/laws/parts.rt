@@ -2,15 +2,15 @@
 
 ghost use Rattle.std.specs.List.{filter, range_with_len};
 ghost use Rattle.std.specs.Prelude.{◌≡◌, ℕ, ◌≤◌, Bool, not, ◌||◌, IsFalse, IsTrue, List, true, length, map};
+ghost use Rattle.dv_bag.specs.Part.{IsByTime, before, joined, since};
+ghost use Rattle.dv_bag.specs.declared.entry.Entry.{Entry};
+ghost use Rattle.dv_bag.specs.declared.entry.Outer.{Outer};
 ghost use Rattle.dv_time.specs.Time.{time_of};
 ghost use Rattle.dv_devs.specs.Behaviour.{Component};
 ghost use Rattle.dv_devs.specs.Cuts.{IsAllAt, IsAllBefore, RiseFrom, part_between, trace_between};
 ghost use Rattle.dv_devs.specs.Network.{Network, part_of_instant, trace_before};
 ghost use Rattle.dv_devs.specs.Outside.{LeavesLinearly, SendsBags, union_of_lines};
 ghost use Rattle.dv_devs.specs.Parts.{part_before};
-ghost use Rattle.dv_bag.specs.Part.{IsByTime, before, joined, since};
-ghost use Rattle.dv_bag.specs.declared.entry.Entry.{Entry};
-ghost use Rattle.dv_bag.specs.declared.entry.Outer.{Outer};
 
 use dv_bag::laws::bags;
 

@@ -7,7 +7,7 @@ use Rattle.dv_bag.proofs.bag.add_copies.Goals as goal
 pub returns-in-Ok-clause-ok : goal.returns-in-Ok-clause-ok
 returns-in-Ok-clause-ok c =
     let found = rw c.as_slice.ensures at c.in-Ok.ensures.found in
-    more_copies _ _ c.args.pairs.now.items _ _ _ _ (to_z-of_z _ _ c.ranges.value) refl c.deref_mut.ensures.value c.deref.ensures _
+    more_copies _ _ c.args.pairs.now.items _ _ _ _ (to_z-of_z _ _ c.ranges.value) refl c.deref_mut.ensures.value c.deref_mut.ensures.value _
     _ found c.saturating_add.ensures
     ∙ sym (some_copies c.args.value c.args.copies c.args.pairs.now.items c.requires.some)
 

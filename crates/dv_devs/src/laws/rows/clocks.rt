@@ -1,10 +1,10 @@
 //! Clocks, and what leaves.
 
 ghost use Rattle.std.specs.Prelude.{◌≡◌, [], ◌∷◌, pos};
-ghost use Rattle.dv_devs.specs.Models.{clock};
-ghost use Rattle.dv_devs.specs.Rows.{at, counter, no_input, one, outer_line, trace_to, transition};
 ghost use Rattle.dv_bag.specs.Part.{nothing};
 ghost use Rattle.dv_bag.specs.declared.entry.Kind.TheVariants.{Internal};
+ghost use Rattle.dv_devs.specs.Models.{clock};
+ghost use Rattle.dv_devs.specs.Rows.{at, counter, no_input, one, outer_line, trace_to, transition};
 
 /// A clock ticks at 5.0 and at 10.0, and its output leaves.
 pub fn a_clock_ticks()

@@ -1,9 +1,9 @@
 //! Inputs at the end of a hold.
 
 ghost use Rattle.std.specs.Prelude.{◌≡◌, [], ◌∷◌, pos};
+ghost use Rattle.dv_bag.specs.declared.entry.Kind.TheVariants.{Internal, External, Confluent};
 ghost use Rattle.dv_devs.specs.Models.{confluent_alone, fed_cell, relay_inputs, ring, short_hold, single, twice};
 ghost use Rattle.dv_devs.specs.Rows.{at, counter, input_at, inputs_at, no_input, one, phase_alone, trace_to, transition};
-ghost use Rattle.dv_bag.specs.declared.entry.Kind.TheVariants.{Internal, External, Confluent};
 
 /// An input at the end of the hold: the output function is applied to the state before it, then
 /// come the internal and the external transition.

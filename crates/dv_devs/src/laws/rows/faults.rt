@@ -1,10 +1,10 @@
 //! What ends in a fault, and what does not, though it nearly does.
 
 ghost use Rattle.std.specs.Prelude.{◌≡◌, [], ◌∷◌, pos};
-ghost use Rattle.dv_devs.specs.Models.{faulty_hold, fed_stopwatch, ring, single, spin};
-ghost use Rattle.dv_devs.specs.Rows.{at, copies, counter, fault, input_at, inputs_at, no_input, one, phase_alone, trace_to, transition};
 ghost use Rattle.dv_bag.specs.declared.entry.Kind.TheVariants.{Internal, External, Confluent};
 ghost use Rattle.dv_bag.specs.declared.fault.Fault.TheVariants.{Flood, Microsteps, Negative};
+ghost use Rattle.dv_devs.specs.Models.{faulty_hold, fed_stopwatch, ring, single, spin};
+ghost use Rattle.dv_devs.specs.Rows.{at, copies, counter, fault, input_at, inputs_at, no_input, one, phase_alone, trace_to, transition};
 
 /// Holds of 0 reach the limit on microsteps.
 pub fn microsteps_run_out()

@@ -1,9 +1,9 @@
 //! Inputs during a hold.
 
 ghost use Rattle.std.specs.Prelude.{◌≡◌, [], ◌∷◌, pos};
+ghost use Rattle.dv_bag.specs.declared.entry.Kind.TheVariants.{Internal, External};
 ghost use Rattle.dv_devs.specs.Models.{fed_cell, fed_stopwatch};
 ghost use Rattle.dv_devs.specs.Rows.{at, counter, input_at, inputs_at, one, trace_to, transition};
-ghost use Rattle.dv_bag.specs.declared.entry.Kind.TheVariants.{Internal, External};
 
 /// An input at 3.0 does not change the hold that ends at 5.0.
 pub fn hold_continues()

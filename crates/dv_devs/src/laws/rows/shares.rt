@@ -1,11 +1,11 @@
 //! A component that runs alone.
 
 ghost use Rattle.std.specs.Prelude.{◌≡◌, ℕ, [], ◌∷◌, nat_eq, pos};
+ghost use Rattle.dv_bag.specs.declared.entry.Kind.TheVariants.{External, Confluent};
 ghost use Rattle.dv_time.specs.Time.{end_of};
 ghost use Rattle.dv_devs.specs.Models.{relay_inputs, ring, second_relay, sent_by_first};
 ghost use Rattle.dv_devs.specs.Parts.{part_before};
 ghost use Rattle.dv_devs.specs.Rows.{at, one, phase_alone, trace_to, transition};
-ghost use Rattle.dv_bag.specs.declared.entry.Kind.TheVariants.{External, Confluent};
 
 /// The second of two relays, if it receives what the first one sends, has the trace that is its
 /// part of the ring's trace.

@@ -57,11 +57,11 @@ invariant_of-self-in-Err c =
     let long = from_port_length 0 inside.ports (λ port. bag_in port hs) in
     let at = subst (GoesInAt port c.in-Err.index) c.as_slice.ensures c.in-Err.ensures.absent in
     added_well inside.ports port hs c.self.invariant.0 c.self.invariant.1 (omega (arith, c.requires, ports, long))
-    c.in-Err.index c.put.new.list.items c.of_copies-bag.result at c.in_ok-put-in-Err.ensures.ok
+    c.in-Err.index c.put_bag.new.held.items c.of_copies-bag.result at c.in_ok-put_bag-in-Err.ensures.ok
     (subst (λ b. 0 < total b) (sym done) (some_new c.args.value c.args.copies _ (omega (arith, c.if-copies-eq0.false))))
 
-pub returns-in_ok-put-in-Err-clause-ok : goal.returns-in_ok-put-in-Err-clause-ok
-returns-in_ok-put-in-Err-clause-ok c =
+pub returns-in_ok-put_bag-in-Err-clause-ok : goal.returns-in_ok-put_bag-in-Err-clause-ok
+returns-in_ok-put_bag-in-Err-clause-ok c =
     let fits : SFits w64 c.args.value = c.ranges.value in
     let done = simp to_z-of_z at c.of_copies-bag.ensures in
     let inside = c.self.inside in
@@ -72,10 +72,10 @@ returns-in_ok-put-in-Err-clause-ok c =
     let lt : port < inside.ports = omega (arith, c.requires, ports, long) in
     let at = subst (GoesInAt port c.in-Err.index) c.as_slice.ensures c.in-Err.ensures.absent in
     let new = c.of_copies-bag.result in
-    added inside.ports port hs c.self.invariant.0 c.self.invariant.1 lt c.in-Err.index c.put.new.list.items new at
-    c.in_ok-put-in-Err.ensures.ok
+    added inside.ports port hs c.self.invariant.0 c.self.invariant.1 lt c.in-Err.index c.put_bag.new.held.items new at
+    c.in_ok-put_bag-in-Err.ensures.ok
     ∙ ap (set (by_port inside.ports hs) port)
     (done ∙ ap (with_copies c.args.value c.args.copies)
-    (sym (none_before inside.ports port hs c.self.invariant.0 c.self.invariant.1 lt c.in-Err.index c.put.new.list.items new at
-    c.in_ok-put-in-Err.ensures.ok)))
+    (sym (none_before inside.ports port hs c.self.invariant.0 c.self.invariant.1 lt c.in-Err.index c.put_bag.new.held.items new at
+    c.in_ok-put_bag-in-Err.ensures.ok)))
     ∙ ap (λ bags. set bags port (with_copies c.args.value c.args.copies (bag_at bags port))) c.self.view_is
