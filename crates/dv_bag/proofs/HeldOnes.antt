@@ -1,9 +1,7 @@
 -- Collections among the data of a state.
-use Rattle.std.proofs.Common.{◌≡◌, ℕ, ◌+◌, ◌<◌, ◌≤◌, true, List, ℤ, [], ◌∷◌, drop, length, length-append, length-drop, get_or, set}
+use Rattle.std.proofs.Common.{◌≡◌, ℕ, ◌<◌, ◌≤◌, true, List, ℤ, [], ◌∷◌, length-append, get_or, set}
 use Rattle.std.proofs.Common.{Result, Ok, Err, OnOk, OnErr, ◌∙◌, sym, ap, refl, arith}
-use Rattle.std.specs.List.{refill}
 use Rattle.std.proofs.lemmas.Option.{get_or_from_slice_get}
-use Rattle.dv_bag.specs.Bag.{total}
 use Rattle.dv_bag.specs.Collections.{count_in, edited, makes_more, without_first}
 use Rattle.dv_bag.specs.Reading.{HasHeldAt, held_at}
 use Rattle.dv_bag.specs.declared.collection.Collection.{Collection}
@@ -13,28 +11,24 @@ use Rattle.dv_bag.specs.declared.discipline.Change.TheVariants as change
 use Rattle.dv_bag.specs.declared.state.Datum.{Datum}
 use Rattle.dv_bag.specs.declared.state.Datum.TheVariants as datum
 use Rattle.dv_bag.proofs.Monoid.{total_with, total_without}
-use Rattle.dv_bag.proofs.Pairs.{refill-set}
 
 -- what stands at the index of a collection is that collection, and an edit of it is an edit at that index
-module _ (contents items read : List Datum) (i : ℕ) (d : Datum) (view : items ≡ contents) (seen : read ≡ items)
+module _ (contents items : List Datum) (i : ℕ) (element d : Datum) (view : items ≡ contents) (seen : element ≡ get_or items i d)
     (there : HasHeldAt i contents) where
-  stands : get_or read i d ≡ datum.Held (held_at contents i)
+  stands : element ≡ datum.Held (held_at contents i)
   stands =
-      ap (λ (xs : List Datum). get_or xs i d) (seen ∙ view)
-      ∙ get_or_from_slice_get contents i (datum.Held (held_at contents i)) d there
+      seen ∙ ap (λ (xs : List Datum). get_or xs i d) view ∙ get_or_from_slice_get contents i (datum.Held (held_at contents i)) d there
 
-  pub no_other : ((c : Collection) → get_or read i d ≡ datum.Held c → ⊥) → ⊥
+  pub no_other : ((c : Collection) → element ≡ datum.Held c → ⊥) → ⊥
   no_other none = none (held_at contents i) stands
 
-  pub held : (c : Collection) → get_or read i d ≡ datum.Held c → c ≡ held_at contents i
+  pub held : (c : Collection) → element ≡ datum.Held c → c ≡ held_at contents i
   held c is = let same : datum.Held c ≡ datum.Held (held_at contents i) = sym is ∙ stands in cc
 
-  pub edited_at : (edit : Collection → Collection) (c new : Collection) → get_or read i d ≡ datum.Held c → new ≡ edit c
-      → refill (length items) items (set read i (datum.Held new)) ≡ set contents i (datum.Held (edit (held_at contents i)))
+  pub edited_at : (edit : Collection → Collection) (c new : Collection) → element ≡ datum.Held c → new ≡ edit c
+      → set items i (datum.Held new) ≡ set contents i (datum.Held (edit (held_at contents i)))
   edited_at edit c new is by =
-      ap (λ (xs : List Datum). refill (length items) items (set xs i (datum.Held new))) seen
-      ∙ refill-set items i (datum.Held new)
-      ∙ ap (λ (xs : List Datum). set xs i (datum.Held new)) view
+      ap (λ (xs : List Datum). set xs i (datum.Held new)) view
       ∙ ap (λ (c : Collection). set contents i (datum.Held c)) (by ∙ ap edit (held c is))
 
 -- with a value more a collection that was not full is at most full, and with one less it is as full at most

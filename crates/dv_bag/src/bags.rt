@@ -153,8 +153,7 @@ impl Bags {
         match search(self.held.as_slice(), port) {
             Ok(index) => self.held[index].bag.insert_copies(value, copies),
             Err(index) => {
-                let bag = Bag::of_copies(*self.held.allocator(), value, copies);
-                put_bag(&mut self.held, index, PortBag { port, bag })?;
+                put_copies(&mut self.held, index, port, value, copies)?;
                 Ok(())
             }
         }
@@ -185,19 +184,24 @@ impl Bags {
     }
 }
 
-// `put` for the bag of a port that has none yet. It is not inlined, so that `insert_copies` is short
-// for a port that has one.
+// Inserts the bag of a port that has none yet, with copies of a value. It is not inlined, so that
+// `insert_copies` is short for a port that has one.
 #[inline(never)]
-fn put_bag(
+fn put_copies(
     held: &mut SmallVec<PortBag, 2>,
     index: usize,
-    element: PortBag,
+    port: usize,
+    value: i64,
+    copies: u64,
 ) -> Result<(), AllocError>
-    requires { index ≤ small_vec_len held.old }
-    ensures ok { OnOk result (held.new.items ≡ insert held.old.items index element) }
+    requires index { index ≤ small_vec_len held.old }
+    requires some { 0 < copies }
+    ensures ok { OnOk result (held.new.items ≡ insert held.old.items index
+        (record { port = port; bag = with_copies value copies [] })) }
     ensures err { OnErr result (held.new ≡ held.old) }
 {
-    put(held, index, element)
+    let bag = Bag::of_copies(*held.allocator(), value, copies);
+    put(held, index, PortBag { port, bag })
 }
 
 // Whether each bag has at most `GREATEST_COUNT` values.

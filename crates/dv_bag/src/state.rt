@@ -13,7 +13,6 @@ ghost use Rattle.dv_bag.specs.Limits.{greatest_count};
 use crate::collection::{Collection, Held};
 use crate::discipline::Change;
 use crate::sent::Sent;
-use smallvec::SmallVec;
 use std::alloc::{AllocError, Global};
 use std::default::MadeWith;
 use std::marker::Model;
@@ -142,11 +141,11 @@ impl Eq for Datum {
     ghost laws = { decided same_datum same_datum-decides };
 }
 
-/// The variables, flags, bags and queues of a state, in the order of their declaration. Up to two
-/// are stored inline.
+/// The variables, flags, bags and queues of a state, in the order of their declaration. A state is
+/// made once and then changed in place, so that its memory serves a whole run.
 #[derive(Drop)]
 pub struct Variables {
-    data: SmallVec<Datum, 2>,
+    data: Vec<Datum>,
 }
 
 impl Model for Variables {
@@ -164,7 +163,7 @@ impl Variables {
         ensures { result ≡ [] }
     {
         Variables {
-            data: SmallVec::new(alloc),
+            data: Vec::new(alloc),
         }
     }
 
@@ -199,7 +198,7 @@ impl Variables {
     pub fn as_slice(&self) -> &[Datum]
         ensures { result.now ≡ self.now }
     {
-        self.data.as_slice()
+        &self.data
     }
 
     /// The variable, flag, bag or queue at an index, if there is one. A collection has at most
@@ -336,7 +335,7 @@ fn copy_all(to: &mut [Datum], from: &[Datum]) -> Result<(), AllocError>
 }
 
 // Appends copies of data.
-fn push_all(to: &mut SmallVec<Datum, 2>, more: &[Datum]) -> Result<(), AllocError>
+fn push_all(to: &mut Vec<Datum>, more: &[Datum]) -> Result<(), AllocError>
     ensures { OnOk result (to.new.items ≡ to.old.items ++ more.now) }
 {
     for datum in more {

@@ -1,9 +1,9 @@
-use Rattle.std.proofs.Common.{◌<◌, length, set, ap, arith, subst, sym, ◌∙◌}
+use Rattle.std.proofs.Common.{◌<◌, [], length, set, ap, arith, subst, sym, ◌∙◌}
 use Rattle.std.proofs.lemmas.Int.{to_z-of_z}
 use Rattle.std.proofs.lemmas.Result.{on_ok_weaker}
 use mir.Syntax.{w64}
 use mir.Val.{SFits}
-use Rattle.dv_bag.specs.Bag.{bag_at, total, with_copies}
+use Rattle.dv_bag.specs.Bag.{bag_at, with_copies}
 use Rattle.dv_bag.specs.Bags.{GoesInAt, StandsAt, bag_in, by_port}
 use Rattle.dv_bag.proofs.PortBags.{added, added_well, changed, from_port_length, kept_well, none_before, old_bag, some_new, some_with}
 use Rattle.dv_bag.proofs.bags.Bags.insert_copies.Goals as goal
@@ -49,7 +49,7 @@ returns-in-Ok-clause-ok c =
 pub invariant_of-self-in-Err : goal.invariant_of-self-in-Err
 invariant_of-self-in-Err c =
     let fits : SFits w64 c.args.value = c.ranges.value in
-    let done = simp to_z-of_z at c.of_copies-bag.ensures in
+    let put = simp to_z-of_z at c.in_ok-put_copies-in-Err.ensures.ok in
     let inside = c.self.inside in
     let hs = inside.held.items in
     let port = c.args.port in
@@ -57,13 +57,13 @@ invariant_of-self-in-Err c =
     let long = from_port_length 0 inside.ports (λ port. bag_in port hs) in
     let at = subst (GoesInAt port c.in-Err.index) c.as_slice.ensures c.in-Err.ensures.absent in
     added_well inside.ports port hs c.self.invariant.0 c.self.invariant.1 (omega (arith, c.requires, ports, long))
-    c.in-Err.index c.put_bag.new.held.items c.of_copies-bag.result at c.in_ok-put_bag-in-Err.ensures.ok
-    (subst (λ b. 0 < total b) (sym done) (some_new c.args.value c.args.copies _ (omega (arith, c.if-copies-eq0.false))))
+    c.in-Err.index c.put_copies.new.held.items (with_copies c.args.value c.args.copies []) at put
+    (some_new c.args.value c.args.copies [] (omega (arith, c.if-copies-eq0.false)))
 
-pub returns-in_ok-put_bag-in-Err-clause-ok : goal.returns-in_ok-put_bag-in-Err-clause-ok
-returns-in_ok-put_bag-in-Err-clause-ok c =
+pub returns-in_ok-put_copies-in-Err-clause-ok : goal.returns-in_ok-put_copies-in-Err-clause-ok
+returns-in_ok-put_copies-in-Err-clause-ok c =
     let fits : SFits w64 c.args.value = c.ranges.value in
-    let done = simp to_z-of_z at c.of_copies-bag.ensures in
+    let put = simp to_z-of_z at c.in_ok-put_copies-in-Err.ensures.ok in
     let inside = c.self.inside in
     let hs = inside.held.items in
     let port = c.args.port in
@@ -71,11 +71,11 @@ returns-in_ok-put_bag-in-Err-clause-ok c =
     let long = from_port_length 0 inside.ports (λ port. bag_in port hs) in
     let lt : port < inside.ports = omega (arith, c.requires, ports, long) in
     let at = subst (GoesInAt port c.in-Err.index) c.as_slice.ensures c.in-Err.ensures.absent in
-    let new = c.of_copies-bag.result in
-    added inside.ports port hs c.self.invariant.0 c.self.invariant.1 lt c.in-Err.index c.put_bag.new.held.items new at
-    c.in_ok-put_bag-in-Err.ensures.ok
+    let new = with_copies c.args.value c.args.copies [] in
+    added inside.ports port hs c.self.invariant.0 c.self.invariant.1 lt c.in-Err.index c.put_copies.new.held.items new at
+    put
     ∙ ap (set (by_port inside.ports hs) port)
-    (done ∙ ap (with_copies c.args.value c.args.copies)
-    (sym (none_before inside.ports port hs c.self.invariant.0 c.self.invariant.1 lt c.in-Err.index c.put_bag.new.held.items new at
-    c.in_ok-put_bag-in-Err.ensures.ok)))
+    (ap (with_copies c.args.value c.args.copies)
+    (sym (none_before inside.ports port hs c.self.invariant.0 c.self.invariant.1 lt c.in-Err.index c.put_copies.new.held.items new at
+    put)))
     ∙ ap (λ bags. set bags port (with_copies c.args.value c.args.copies (bag_at bags port))) c.self.view_is

@@ -1,5 +1,5 @@
 use Rattle.std.proofs.Common.{◌≤◌, subst, sym}
-use Rattle.dv_bag.specs.Collections.{count_in, without_first}
+use Rattle.dv_bag.specs.Collections.{count_in}
 use Rattle.dv_bag.specs.declared.collection.Collection.{Collection}
 use Rattle.dv_bag.proofs.HeldOnes.{without_first_few}
 use Rattle.dv_bag.proofs.collection.Held.pop.Goals as goal

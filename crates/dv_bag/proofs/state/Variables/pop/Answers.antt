@@ -5,13 +5,13 @@ use Rattle.dv_bag.proofs.state.Variables.pop.Goals.{in-Held, in_default}
 
 pub returns : goal.returns
 returns c =
-    elim c.match-deref_mut-index.branch [
+    elim c.match-index_mut.branch [
       | in-Held w ↦
           rw w.self-inside-is
-          (edited_at _ _ _ _ c.index-deref_mut-index.result c.self.view_is c.deref_mut.ensures.value c.requires
+          (edited_at _ _ _ c.index_mut.result.now _ c.self.view_is c.index_mut.ensures.value c.requires
           without_first w.in-Held.held w.pop.new.self w.in-Held.is w.pop.ensures)
       | in_default w ↦
           absurd
-          (no_other _ _ _ _ c.index-deref_mut-index.result c.self.view_is c.deref_mut.ensures.value c.requires
+          (no_other _ _ _ c.index_mut.result.now _ c.self.view_is c.index_mut.ensures.value c.requires
           w.in_default.not-Held)
     ]
