@@ -15,4 +15,4 @@ pub returns : goal.returns
 returns c =
     let items = c.as_slice-datum-items.result.now in
     let all = subst HoldsNumbers (take_all c.loop-datum.datum-index items (omega arith)) c.loop-datum.invariant in
-    subst HoldsNumbers (c.as_slice-datum-items.ensures ∙ c.self.view_is) all
+    subst HoldsNumbers (c.as_slice-datum-items.ensures.value ∙ c.self.view_is) all
