@@ -3,7 +3,8 @@
 ghost use Rattle.std.specs.Prelude.{◌≡◌, ◌≢◌, ◌≤◌, ℤ, [], None, Ok, Result, Some, IfSome, slice_get, unwrap_or};
 ghost use Rattle.std.specs.Option.{option_copied};
 ghost use Rattle.dv_bag.specs.Arithmetic.{number_or_empty};
-ghost use Rattle.dv_bag.specs.Bag.{least, most, total};
+ghost use Rattle.dv_bag.specs.Bag.{bag_at, least, most, total};
+ghost use Rattle.dv_bag.specs.declared.collection.Collection.TheVariants as collection;
 ghost use Rattle.dv_bag.specs.declared.fault.Fault.{Fault as Meant};
 ghost use Rattle.dv_bag.specs.declared.value.Value.TheVariants.{Number, Truth};
 ghost use Rattle.dv_bag.specs.Limits.{greatest_count};
@@ -55,8 +56,23 @@ pub(crate) fn leaf_value(
 /// # Errors
 ///
 /// Those of `leaf_value`.
-#[inline]
+#[inline(always)]
 pub(crate) fn leaf_number(leaf: Leaf, state: &State, arrivals: &Arrivals) -> Result<i64, Fault>
+    requires { (number : Result ℤ Meant)
+        × (leaf_value arrivals.now [] state.now leaf ≡ number_of (Some number)) }
+    ensures { leaf_value arrivals.now [] state.now leaf ≡ number_of (Some result) }
+{
+    match leaf {
+        Leaf::Number(number) => Ok(number),
+        Leaf::Size(Source::Port(port)) => Ok(size_at(usize::from(port), arrivals)),
+        _ => other_number(leaf, state, arrivals),
+    }
+}
+
+// `leaf_number` for a leaf that is rare where programs are short. It is not inlined, so that
+// `leaf_number` is short for the others.
+#[inline(never)]
+fn other_number(leaf: Leaf, state: &State, arrivals: &Arrivals) -> Result<i64, Fault>
     requires { (number : Result ℤ Meant)
         × (leaf_value arrivals.now [] state.now leaf ≡ number_of (Some number)) }
     ensures { leaf_value arrivals.now [] state.now leaf ≡ number_of (Some result) }
@@ -127,10 +143,19 @@ fn size_of(source: Source, state: &State, arrivals: &Arrivals) -> i64
 {
     match source {
         Source::Own(_, slot) => held_at(usize::from(slot), state).count() as i64,
-        Source::Port(port) => match arrivals.bag(usize::from(port)) {
-            Some(bag) => bag.size() as i64,
-            None => 0,
-        },
+        Source::Port(port) => size_at(usize::from(port), arrivals),
+    }
+}
+
+// The number of values that have arrived at a port.
+#[inline]
+fn size_at(port: usize, arrivals: &Arrivals) -> i64
+    ensures { size_in (Some (collection.Bag (bag_at arrivals.now.received port)))
+        ≡ Some (Ok (Number result)) }
+{
+    match arrivals.bag(port) {
+        Some(bag) => bag.size() as i64,
+        None => 0,
     }
 }
 
