@@ -23,6 +23,7 @@ use std::alloc::AllocError;
 /// # Errors
 ///
 /// No memory for a state. The component is unchanged, and `before` is unspecified.
+#[inline(always)]
 pub fn react_member<A: Atomic>(
     tables: &Tables<A>,
     work: &mut A::Work,
@@ -70,6 +71,7 @@ pub fn react_member<A: Atomic>(
 }
 
 // The fault of the output function at an index, if it had one.
+#[inline(always)]
 fn fault_at(emitted: &[Indexed<Result<Sent, Fault>>], cursor: usize, index: u32) -> Option<Fault>
     requires rise { AreRising (indices_of emitted.now) }
     requires next { IsNext index emitted.now cursor }
