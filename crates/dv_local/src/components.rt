@@ -107,6 +107,7 @@ impl Components {
     /// # Errors
     ///
     /// No memory. Nothing has changed.
+    #[inline(always)]
     pub(crate) fn react_visited<A: Atomic>(
         &mut self,
         moment: &Moment<'_, A>,

@@ -77,6 +77,7 @@ impl Copies {
     /// # Errors
     ///
     /// No memory. The component is unchanged, and no copy was added.
+    #[inline(always)]
     pub(crate) fn react_copied<A: Atomic>(
         &mut self,
         moment: &Moment<'_, A>,

@@ -104,6 +104,7 @@ impl Former {
     /// # Errors
     ///
     /// No memory. The component and the log are unchanged.
+    #[inline(always)]
     pub(crate) fn react_logged<A: Atomic>(
         &mut self,
         moment: &Moment<'_, A>,
