@@ -32,5 +32,8 @@ impl Hand {
 pub(crate) fn is_up_to(wait: Option<Time>, time: Time) -> bool
     ensures { IsTrue result ↔ (wait ≡ earliest wait (Some time)) }
 {
-    is_same(wait, earliest(wait, Some(time)))
+    match wait {
+        Some(end) => end.tick <= time.tick && !time.is_before(end),
+        None => false,
+    }
 }

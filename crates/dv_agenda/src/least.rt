@@ -47,7 +47,10 @@ impl Least {
             → slice_index_or ws index None ≡ Some time → slot time.tick now ≡ s
             → IsHeld ws now s self.old → IsHeld ws now s self.new }
     {
-        if time.is_before(self.time) {
+        if time.tick > self.time.tick {
+            return;
+        }
+        if time.tick < self.time.tick || time.micro < self.time.micro {
             self.time = time;
         }
     }

@@ -206,6 +206,7 @@ impl Wheel {
 
     /// Puts all components into their slots again. If a wait is before the present tick, the
     /// present tick goes back to it.
+    #[inline(never)]
     pub(crate) fn put_anew(&mut self, waits: &[Option<Time>], wait: Option<Time>)
         requires room { HasRoom self.old }
         requires fits { length waits.now ≤ self.old.span }
@@ -267,7 +268,7 @@ impl Wheel {
     }
 
     /// Moves a component from the slot of one wait to the slot of another one.
-    #[inline(always)]
+    #[inline(never)]
     pub(crate) fn exchange(&mut self, index: usize, before: Option<Time>, wait: Option<Time>)
         requires room { HasRoom self.old }
         requires index { index < self.old.span }
@@ -350,6 +351,7 @@ impl Wheel {
     }
 
     /// The first time that a component waits for.
+    #[inline(never)]
     pub(crate) fn first(&self, waits: &[Option<Time>]) -> Option<Time>
         requires { IsKept waits.now self.now }
         ensures { result ≡ first_of waits.now }
@@ -392,6 +394,7 @@ impl Wheel {
     }
 
     /// Adds the components that wait for a time to a list, in ascending order.
+    #[inline(never)]
     pub(crate) fn gather(
         &self,
         waits: &[Option<Time>],
