@@ -23,6 +23,7 @@ use std::alloc::{AllocError, Global};
 /// # Errors
 ///
 /// No memory for the bags.
+#[inline(always)]
 pub(crate) fn arrive<A: Atomic>(
     alloc: Global,
     share: &Share<A>,

@@ -179,6 +179,7 @@ impl<A: Atomic, R: Record> LocalState<A, R> {
     }
 
     /// The first time, not before `from`, at which an event or an input from outside arrives.
+    #[inline(always)]
     pub fn first_input(&self, from: Time) -> Option<Time>
         requires kept { IsKept A.behaviour A.fits A.comes self.now }
         requires of_run { IsOfRun (view_by A.behaviour R.told self.now).share.limit from }
@@ -320,12 +321,11 @@ impl<A: Atomic, R: Record> LocalState<A, R> {
             &mut self.scratch.carried,
             &mut self.scratch.received,
         )?;
-        let nothing = Sent::empty(self.alloc, 0);
         let moment = Moment {
             tables,
             instant: &instant,
             emitted,
-            nothing: &nothing,
+            nothing: self.scratch.nothing.sent(),
         };
         commit(
             &moment,

@@ -58,6 +58,9 @@ pub(crate) fn first_outside(inputs: &[Input], from: Time) -> Option<Time>
     requires { IsByTime inputs.now }
     ensures { (limit : ℕ) → AreOfRun limit inputs.now → result ≡ next_from limit inputs.now from }
 {
+    if inputs.is_empty() {
+        return None;
+    }
     let index = inputs_before(inputs, from);
     time_at(inputs, index)
 }
@@ -96,6 +99,7 @@ pub(crate) fn outside_at(
 }
 
 // The index of the first input that is not before a time, by a binary search.
+#[inline(never)]
 fn inputs_before(inputs: &[Input], time: Time) -> usize
     requires { IsByTime inputs.now }
     ensures index { (limit : ℕ) → AreOfRun limit inputs.now

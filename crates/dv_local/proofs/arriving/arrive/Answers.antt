@@ -1,11 +1,10 @@
-use Rattle.std.proofs.Common.{◌≡◌, ℕ, List, [], length, ap, sym, subst, ◌∙◌}
+use Rattle.std.proofs.Common.{◌≡◌, List, [], length, sym, subst, ◌∙◌}
 use Rattle.std.proofs.lemmas.Bool.{eqb-true}
 use Rattle.std.proofs.lemmas.List.{nil_from_length}
 use Rattle.std.proofs.lemmas.Result.{on_ok_weaker}
 use Rattle.dv_time.specs.Time.{rank}
 use Rattle.dv_bag.specs.Bag.{Counts}
 use Rattle.dv_bag.specs.Inputs.{inputs_at}
-use Rattle.dv_conservative.specs.Links.{Delivery as Meant}
 use Rattle.dv_share.specs.Links.{deliveries_of}
 use Rattle.dv_share.specs.Share.{AreReceived, coming}
 use Rattle.dv_share.specs.declared.link.Delivery.{Delivery}
