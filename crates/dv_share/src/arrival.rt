@@ -62,6 +62,7 @@ pub fn arrivals<A: Atomic>(
 /// # Errors
 ///
 /// No memory for the bags.
+#[inline(never)]
 pub fn arrivals_inside<A: Atomic>(
     tables: &Tables<A>,
     emitted: &[Indexed<Result<Sent, Fault>>],
@@ -83,10 +84,13 @@ pub fn arrivals_inside<A: Atomic>(
     gather_many(tables, emitted, &[], incoming, received)
 }
 
-// Whether few values can come to one component along links: few values are sent in all, or each
-// component sends few values and few links lead to one component.
+// Whether few values can come to one component along links: no link leads to one, few values are
+// sent in all, or each component sends few values and few links lead to one component.
 #[inline]
 fn are_few(links: &Routes, emitted: &[Indexed<Result<Sent, Fault>>]) -> bool {
+    if links.most_to_one() == 0 {
+        return true;
+    }
     let mut all: usize = 0;
     let mut most: usize = 0;
     for emission in emitted {

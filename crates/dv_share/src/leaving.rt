@@ -6,6 +6,7 @@ ghost use Rattle.dv_devs.specs.Network.{outer_from};
 ghost use Rattle.dv_react.specs.Components.{rank_of};
 ghost use Rattle.dv_record.specs.Told.{IsOpenAt, with_lines};
 ghost use Rattle.dv_share.specs.Indices.{AreRising};
+ghost use Rattle.dv_share.specs.Links.{deliveries_of};
 ghost use Rattle.dv_share.specs.Share.{StandByIndex, numbers_of, sent_in};
 
 use crate::arrival::bags_of;
@@ -47,7 +48,26 @@ pub fn outer<A, R: Record>(
     if leaving.is_empty() {
         return Ok(());
     }
+    tell_lines(alloc, tables.outputs, instant, leaving, to)
+}
+
+// Tells a record the lines of what leaves the model. Mostly nothing does.
+#[inline(never)]
+fn tell_lines<R: Record>(
+    alloc: Global,
+    outputs: u32,
+    instant: &Instant,
+    leaving: &mut [Delivery],
+    to: &mut R,
+) -> Result<(), AllocError>
+    requires { IsOpenAt instant.now.time (R.told to.old) }
+    ensures told { OnOk result (R.told to.new ≡ with_lines
+        (outer_from instant.now.limit (rank_of instant.now) 0
+        (inbox 0 (deliveries_of leaving.old) 0 outputs)) (R.told to.old)) }
+    ensures settled { R.settled to.new ≡ R.settled to.old }
+    ensures handed { R.handed to.new ≡ R.handed to.old }
+{
     leaving.sort_unstable();
-    let bags = bags_of(alloc, 0, tables.outputs, leaving)?;
+    let bags = bags_of(alloc, 0, outputs, leaving)?;
     to.left(instant.time, &bags)
 }

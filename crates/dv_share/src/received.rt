@@ -409,7 +409,7 @@ impl Received {
     }
 
     // Puts what a link carries of what is sent at its port into the bags.
-    #[inline]
+    #[inline(never)]
     fn deliver_sendings(
         &mut self,
         members: &[Member],

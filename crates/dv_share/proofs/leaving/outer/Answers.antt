@@ -1,36 +1,20 @@
-use Rattle.std.proofs.Common.{◌≡◌, ◌∙◌, ◌<◌, ◌^◌, ◌++◌, [], List, IsPermutation, length, ap, subst, sym, arith, rules}
+use Rattle.std.proofs.Common.{◌≡◌, ◌∙◌, ◌++◌, [], List, ap, sym, arith}
 use Rattle.std.specs.Vec.{vec_len}
 use Rattle.std.proofs.lemmas.Bool.{eqb-true}
 use Rattle.std.proofs.lemmas.List.{append-nil, nil_from_length}
 use Rattle.std.proofs.lemmas.Result.{on_ok_weaker}
-use Rattle.dv_bag.specs.Bag.{Counts}
 use Rattle.dv_bag.specs.declared.entry.Outer.{Outer}
 use Rattle.dv_devs.specs.Network.{outer_from}
 use Rattle.dv_react.specs.Components.{rank_of}
 use Rattle.dv_bag.specs.Part.{PartOf}
 use Rattle.dv_record.specs.Told.{with_lines}
-use Rattle.dv_record.proofs.Lines.{lines_at_rank}
 use Rattle.dv_conservative.specs.Links.{Delivery as Meant, carried, inbox}
 use Rattle.dv_share.specs.Links.{deliveries_of}
 use Rattle.dv_share.specs.Share.{sent_in}
 use Rattle.dv_share.specs.declared.link.Delivery.{Delivery}
 use Rattle.dv_share.specs.declared.tables.Member.{Member}
-use Rattle.dv_share.proofs.Inboxes.{inbox_length, inbox_same, no_lines}
-use Rattle.dv_share.proofs.Sums.{moved_delivers}
+use Rattle.dv_share.proofs.Inboxes.{no_lines}
 use Rattle.dv_share.proofs.leaving.outer.Goals as goal
-
-pub left-requires : goal.left-requires
-left-requires g c =
-    let small : c.args.tables.now.outputs < 2 ^ 32 = search rules in
-    record {
-      is_open = c.requires.is_open;
-      ports = omega (
-        arith,
-        ap length c.in_ok-bags.ensures,
-        inbox_length 0 (deliveries_of c.deref-2.result.now) 0 c.args.tables.now.outputs,
-        small,
-      );
-    }
 
 no_more_lines : (p : PartOf) → with_lines [] p ≡ p
 no_more_lines p = ap (λ (os : List Outer). record { entries = p.entries; outer = os }) (append-nil p.outer)
@@ -60,21 +44,14 @@ returns-clause-told g c =
     let t = c.args.tables.now in
     let es = c.args.emitted.now in
     let limit = c.args.instant.now.limit in
-    let time = c.args.instant.now.time in
     let now = rank_of c.args.instant.now in
     let all = c.carry_emitted.new.deliveries.items in
-    let sorted = c.deref-2.result.now in
     let led : deliveries_of all ≡ carried t.exits (sent_in t.members.items es) =
     c.in_ok-carry_emitted.ensures
     ∙ ap (λ (ds : List Delivery). deliveries_of ds ++ carried t.exits (sent_in c.deref.result.now es))
     c.clear.ensures.items
     ∙ ap (λ (ms : List Member). carried t.exits (sent_in ms es)) c.deref.ensures.value in
-    let moved : IsPermutation all sorted = subst (IsPermutation all) (sym c.deref-2.ensures.value) c.sort_unstable.ensures.permutation in
-    let bags =
-    c.in_ok-bags.ensures
-    ∙ inbox_same 0 (deliveries_of sorted) (deliveries_of all) 0 t.outputs (moved_delivers sorted all moved 0)
-    ∙ ap (λ (ds : List Meant). inbox 0 ds 0 t.outputs) led in
-    let lines = sym (lines_at_rank limit time 0 c.in_ok-bags.bags c.args.instant.now.of_run)
-    ∙ ap (λ (xs : List Counts). outer_from limit now 0 xs) bags in
-    on_ok_weaker c.left.result
-    (λ h. h ∙ ap (λ (os : List Outer). with_lines os (told c.args.to.now)) lines) c.left.ensures.told
+    let lines = ap (λ (ds : List Meant). outer_from limit now 0 (inbox 0 ds 0 t.outputs))
+    (ap deliveries_of c.deref_mut.ensures.value ∙ led) in
+    on_ok_weaker c.tell_lines.result
+    (λ h. h ∙ ap (λ (os : List Outer). with_lines os (told c.args.to.now)) lines) c.tell_lines.ensures.told
