@@ -310,6 +310,7 @@ impl<L: Local> Process<L> {
 
     // Ends a turn with the clock at `now`, and prepares packets. Without outgoing links there is no
     // promise to compute.
+    #[inline(always)]
     fn finish(&mut self, frame: &Frame, least: Time, emitted: bool, now: Time) -> Turned
         requires limit { frame.now.limit ≡ (L.view self.old.local).share.limit }
         requires horizon { frame.now.horizon ≡ (L.view self.old.local).share.horizon }
