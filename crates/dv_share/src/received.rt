@@ -356,6 +356,11 @@ impl Received {
             return Ok(());
         }
         let sendings = sent.as_slice();
+        // Mostly one value is sent.
+        if sendings.len() == 1 {
+            let only = sendings[0];
+            return self.deliver_one(members, links_at(links, only.port), only);
+        }
         let mut start = 0;
         while start < sendings.len() {
             let port = sendings[start].port;
@@ -367,7 +372,7 @@ impl Received {
     }
 
     // Puts what the links from one port carry of what is sent there into the bags.
-    #[inline]
+    #[inline(never)]
     fn deliver_port(
         &mut self,
         members: &[Member],
@@ -389,7 +394,7 @@ impl Received {
     }
 
     // Puts what the links from one port carry of one value into the bags.
-    #[inline]
+    #[inline(always)]
     fn deliver_one(
         &mut self,
         members: &[Member],
