@@ -65,7 +65,7 @@ impl<'a> Draft<'a> {
     /// # Errors
     ///
     /// No memory for a state of its own.
-    #[inline]
+    #[inline(always)]
     pub(crate) fn set_number(&mut self, slot: usize, number: i64) -> Result<(), AllocError>
         ensures { OnOk result (self.new ≡ storing self.old slot (datum.Number number)) }
     {

@@ -44,7 +44,7 @@ impl<T: Drop> Stack<T> {
     /// # Errors
     ///
     /// No memory for one more. The stack is unchanged.
-    #[inline]
+    #[inline(always)]
     pub(crate) fn push(&mut self, value: T) -> Result<(), AllocError>
         ensures ok { OnOk result (self.new ≡ value ∷ self.old) }
         ensures err { OnErr result (self.new ≡ self.old) }

@@ -49,7 +49,8 @@ fn pair_of(bag: &Bag, number: usize) -> Option<(i64, u64)>
 {
     let pairs = bag.pairs();
     if number < pairs.len() {
-        Some(pairs[number])
+        let (item, copies) = pairs[number];
+        Some((item, copies))
     } else {
         None
     }
