@@ -16,6 +16,7 @@ FORMS = {
     "plan": rf"plan (?P<model>\S+){PARTITION}",
     "graph": rf"graph (?P<model>\S+)(?: to depth (?P<depth>\d+)| of (?P<phased>\S+))?{PARTITION}",
     "vcd": rf"vcd {TRACE}{INPUTS}(?P<hold> held)?(?: at (?P<timescale>\S+))?",
+    "plot": rf"plot {TRACE}(?: from (?P<from>\d+))?(?: to (?P<to>\d+))?: (?P<names>.+)",
     "stats": rf"stats(?P<csv> in csv)? {TRACE}{CHOICE}",
     "table": rf"table(?P<json> in json)? {TRACE}{INPUTS}",
     "run": rf"(?P<model>\S+) (?P<horizon>\d+) (?P<microsteps>\d+){PARTITION}(?: for (?P<rounds>\d+))?(?: on (?P<workers>\d+))?"
@@ -64,12 +65,14 @@ class Request:
     model: str
     trace: str | None
     options: dict[str, str]
+    # What is shown of the trace.
+    names: tuple[str, ...] = ()
 
     def words(self):
         """The words that ask for it."""
         given = [name for name in OPTIONS if name in self.options]
         written = [OPTIONS[name] if name in FLAGS else f"{OPTIONS[name]}={self.options[name]}" for name in given]
-        return [self.command, *written, "--", self.model, *([self.trace] if self.trace else [])]
+        return [self.command, *written, "--", self.model, *([self.trace] if self.trace else []), *self.names]
 
     def parts(self):
         """The names of what can be asked for otherwise, each with a request that differs from this one in it alone: without an
@@ -108,12 +111,12 @@ class Request:
 
     def other(self, **values):
         """The same with other values."""
-        return Request(self.command, self.model, self.trace, {**self.options, **values})
+        return Request(self.command, self.model, self.trace, {**self.options, **values}, self.names)
 
     def without(self, *names):
         """The same without some options."""
         kept = {name: value for name, value in self.options.items() if name not in names}
-        return Request(self.command, self.model, self.trace, kept)
+        return Request(self.command, self.model, self.trace, kept, self.names)
 
 
 def request_in(text):
@@ -123,6 +126,6 @@ def request_in(text):
         found = re.fullmatch(form, told)
         if found and (command != "run" or found["model"] not in FORMS):
             named = {name: value for name, value in found.groupdict().items() if value is not None}
-            model, trace = named.pop("model"), named.pop("trace", None)
-            return Request(command, model, trace, named | ({"explained": ""} if told != text else {}))
+            model, trace, names = named.pop("model"), named.pop("trace", None), tuple(named.pop("names", "").split())
+            return Request(command, model, trace, named | ({"explained": ""} if told != text else {}), names)
     return None

@@ -1,14 +1,14 @@
 -- What words ask for.
 use Rattle.std.specs.Prelude.{◌≡◌, ℕ, ◌^◌, ◌-◌, Bool, true, false, ◌||◌, ◌&&◌, MatchBool, IsSomeAnd, ⊤, List, [], ◌∷◌, ◌++◌}
 use Rattle.std.specs.Prelude.{Option, Some, None, option_map, is_some, nat_le, string_bytes, bytes_eq, codes}
-use Rattle.std.specs.Prelude.{Result, Ok, Err}
+use Rattle.std.specs.Prelude.{Result, Ok, Err, ◌<◌, length, map}
 use Rattle.std.specs.declared.string.String.{String}
 use Rattle.dv_time.specs.Limits.{greatest_tick, greatest_limit}
 use Rattle.dv_explain.specs.Codes.{explained_in_any_case}
 use Rattle.dv_command.specs.declared.subcommand.Subcommand.{Subcommand}
 use Rattle.dv_command.specs.declared.subcommand.Subcommand.TheVariants as subcommand
 use Rattle.dv_command.specs.declared.request.Request.{Request}
-use Rattle.dv_command.specs.declared.request.Request.TheVariants.{Check, Run, Code, Plan, Graph, Vcd, Stats, Table, Explain, Version}
+use Rattle.dv_command.specs.declared.request.Request.TheVariants.{Check, Run, Code, Plan, Graph, Plot, Vcd, Stats, Table, Explain, Version}
 use Rattle.dv_command.specs.declared.request.ModelFile.{ModelFile}
 use Rattle.dv_command.specs.declared.request.PartitionChoice.{PartitionChoice}
 use Rattle.dv_command.specs.declared.request.PartitionChoice.TheVariants.{File, Count}
@@ -22,6 +22,7 @@ use Rattle.dv_command.specs.declared.request.Graph.{Graph as GraphRequest}
 use Rattle.dv_command.specs.declared.request.GraphChoice.{GraphChoice}
 use Rattle.dv_command.specs.declared.request.GraphChoice.TheVariants.{All, Depth, Phases}
 use Rattle.dv_command.specs.declared.request.Plan.{Plan as PlanRequest}
+use Rattle.dv_command.specs.declared.request.Plot.{Plot as PlotRequest}
 use Rattle.dv_command.specs.declared.request.Run.{Run as RunRequest}
 use Rattle.dv_command.specs.declared.request.Stats.{Stats as StatsRequest}
 use Rattle.dv_command.specs.declared.request.StatsChoice.{StatsChoice}
@@ -232,6 +233,14 @@ pub record AsksTable (said : List Said) (table : TableRequest) : Type 0 where
   pub inputs : AsksText (codes "--inputs") said table.inputs
   pub json : flag_in (codes "--json") said ≡ Some table.json
 
+-- `MODEL TRACE NAME.. [--from T] [--to T] [--partial] [--explain]`
+pub record AsksPlot (said : List Said) (plot : PlotRequest) : Type 0 where
+  pub names : values said ≡ string_bytes plot.files.model ∷ (string_bytes plot.files.trace ∷ map string_bytes plot.names.items)
+  pub some : 0 < length plot.names.items
+  pub window : AsksWindow said plot.from plot.to
+  pub partial : flag_in (codes "--partial") said ≡ Some plot.files.partial
+  pub explained : flag_in (codes "--explain") said ≡ Some plot.files.explained
+
 -- `CODE`, as it is printed, or in small letters: of a refusal or a fault that is explained
 abbrev pub AsksCode : List Said → List ℕ → Type 0
 AsksCode said code = (text : List ℕ) × (values said ≡ text ∷ []) × (explained_in_any_case text ≡ Some code)
@@ -243,6 +252,7 @@ AsksBehind subcommand.Code said (Code file) = AsksModel said file
 AsksBehind subcommand.Explain said (Explain explanation) = AsksCode said explanation.now.code.now
 AsksBehind subcommand.Graph said (Graph graph) = AsksGraph said graph
 AsksBehind subcommand.Plan said (Plan plan) = AsksPlan said plan
+AsksBehind subcommand.Plot said (Plot plot) = AsksPlot said plot
 AsksBehind subcommand.Run said (Run run) = AsksRun said run
 AsksBehind subcommand.Stats said (Stats stats) = AsksStats said stats
 AsksBehind subcommand.Table said (Table table) = AsksTable said table

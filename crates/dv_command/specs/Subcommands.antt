@@ -1,7 +1,7 @@
 -- The subcommands by their names, and the options of each.
 use Rattle.std.specs.Prelude.{ℕ, Bool, ◌||◌, false, if◌then◌else◌, List, Option, Some, None, bytes_eq, codes}
 use Rattle.dv_command.specs.declared.subcommand.Subcommand.{Subcommand}
-use Rattle.dv_command.specs.declared.subcommand.Subcommand.TheVariants.{Check, Code, Explain, Graph, Plan, Run, Stats, Table, Vcd}
+use Rattle.dv_command.specs.declared.subcommand.Subcommand.TheVariants.{Check, Code, Explain, Graph, Plan, Plot, Run, Stats, Table, Vcd}
 
 -- the subcommand of this name
 abbrev pub subcommand_named : List ℕ → Option Subcommand
@@ -11,6 +11,7 @@ subcommand_named word =
     else if bytes_eq word (codes "explain") then Some Explain
     else if bytes_eq word (codes "graph") then Some Graph
     else if bytes_eq word (codes "plan") then Some Plan
+    else if bytes_eq word (codes "plot") then Some Plot
     else if bytes_eq word (codes "run") then Some Run
     else if bytes_eq word (codes "stats") then Some Stats
     else if bytes_eq word (codes "table") then Some Table
@@ -24,6 +25,10 @@ plan_takes_value name = bytes_eq name (codes "--partition") || bytes_eq name (co
 -- the options of a graph: those by which the model is divided, and what is shown
 abbrev pub graph_takes_value : List ℕ → Bool
 graph_takes_value name = plan_takes_value name || bytes_eq name (codes "--depth") || bytes_eq name (codes "--model")
+
+-- the options of curves: which ticks are shown
+abbrev pub plot_takes_value : List ℕ → Bool
+plot_takes_value name = bytes_eq name (codes "--from") || bytes_eq name (codes "--to")
 
 -- the options of numbers: which ticks count, and which components
 abbrev pub stats_takes_value : List ℕ → Bool
@@ -44,6 +49,7 @@ abbrev pub takes_value : Subcommand → List ℕ → Bool
 takes_value Run name = run_takes_value name
 takes_value Plan name = plan_takes_value name
 takes_value Graph name = graph_takes_value name
+takes_value Plot name = plot_takes_value name
 takes_value Check name = false
 takes_value Code name = false
 takes_value Explain name = false
@@ -56,6 +62,10 @@ abbrev pub run_has_flag : List ℕ → Bool
 run_has_flag name =
     bytes_eq name (codes "--csv") || bytes_eq name (codes "--explain") || bytes_eq name (codes "--progress")
     || bytes_eq name (codes "--quantiles") || bytes_eq name (codes "--stats")
+
+-- the flags of curves
+abbrev pub plot_has_flag : List ℕ → Bool
+plot_has_flag name = bytes_eq name (codes "--explain") || bytes_eq name (codes "--partial")
 
 -- the flags of numbers
 abbrev pub stats_has_flag : List ℕ → Bool
@@ -79,6 +89,7 @@ is_flag Check name = bytes_eq name (codes "--explain") || bytes_eq name (codes "
 is_flag Code name = bytes_eq name (codes "--explain")
 is_flag Graph name = bytes_eq name (codes "--explain")
 is_flag Plan name = bytes_eq name (codes "--explain")
+is_flag Plot name = plot_has_flag name
 is_flag Run name = run_has_flag name
 is_flag Stats name = stats_has_flag name
 is_flag Table name = table_has_flag name

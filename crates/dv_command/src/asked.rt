@@ -14,7 +14,7 @@ use crate::part::{Part, said_by};
 use crate::request::{Check, ModelFile, Request, Run, USUAL_LIMIT};
 use crate::subcommand::{Subcommand, subcommand_named};
 use crate::unasked::Unasked;
-use crate::viewed::{run_stats_in, stats_in, table_in, waves_in};
+use crate::viewed::{plot_in, run_stats_in, stats_in, table_in, waves_in};
 use dv_explain::{Explanation, explanation_in_any_case};
 use dv_time::{GREATEST_LIMIT, GREATEST_TICK};
 use std::alloc::{AllocError, Global};
@@ -142,6 +142,7 @@ fn asked_behind(
         Subcommand::Explain => Ok(Request::Explain(explanation_in(alloc, parts)?)),
         Subcommand::Graph => Ok(Request::Graph(graph_in(alloc, parts)?)),
         Subcommand::Plan => Ok(Request::Plan(plan_in(alloc, parts)?)),
+        Subcommand::Plot => Ok(Request::Plot(plot_in(alloc, parts)?)),
         Subcommand::Run => Ok(Request::Run(run_in(alloc, parts)?)),
         Subcommand::Stats => Ok(Request::Stats(stats_in(alloc, parts)?)),
         Subcommand::Table => Ok(Request::Table(table_in(alloc, parts)?)),

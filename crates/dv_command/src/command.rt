@@ -51,6 +51,10 @@ fn argument<'a>(alloc: Global, word: &WordHelp) -> Arg<'a> {
         .help(word.help);
     match word.form {
         Form::Plain(value) => argument.value_name(value),
+        Form::Several(value) => argument
+            .value_name(value)
+            .num_args(1..)
+            .action(ArgAction::Append),
         Form::Option(value, _) => argument
             .long(word.name)
             .value_name(value)

@@ -26,6 +26,8 @@ pub(crate) struct WordHelp {
 pub(crate) enum Form {
     /// A value by itself: its place says which one it is.
     Plain(&'static str),
+    /// One or more values, the last ones.
+    Several(&'static str),
     /// `--name value`
     Option(&'static str, Value),
     /// `--name`
@@ -83,6 +85,13 @@ const TRACE: WordHelp = WordHelp {
     form: Form::Plain("TRACE"),
     is_required: true,
     help: "the file of the trace, as run printed it, or - for standard input",
+};
+
+const NAMES: WordHelp = WordHelp {
+    name: "names",
+    form: Form::Several("NAME"),
+    is_required: true,
+    help: "what is shown: a component by its path, a variable or port of it as PATH.NAME, or an output",
 };
 
 const CODE: WordHelp = WordHelp {
@@ -346,6 +355,11 @@ const SUBCOMMANDS: &[SubcommandHelp] = &[
         words: &[
             MODEL, TRACE, INPUTS, HOLD_PORTS, TIMESCALE, PARTIAL, EXPLAIN,
         ],
+    },
+    SubcommandHelp {
+        name: "plot",
+        about: "Prints curves of a trace over time, as a picture (SVG)",
+        words: &[MODEL, TRACE, NAMES, FROM, TO, PARTIAL, EXPLAIN],
     },
     SubcommandHelp {
         name: "stats",

@@ -40,6 +40,6 @@ mod viewed;
 
 pub use command_line::request_of;
 pub use request::{
-    Check, Graph, GraphChoice, ModelFile, PartitionChoice, Plan, Request, RequestError, Run, Stats,
-    StatsChoice, Table, TraceFiles, Usage, Waves,
+    Check, Graph, GraphChoice, ModelFile, PartitionChoice, Plan, Plot, Request, RequestError, Run,
+    Stats, StatsChoice, Table, TraceFiles, Usage, Waves,
 };

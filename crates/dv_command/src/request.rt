@@ -23,6 +23,8 @@ pub enum Request {
     Plan(Plan),
     /// Print a model as a graph in the DOT language.
     Graph(Graph),
+    /// Print curves of a trace, as a picture.
+    Plot(Plot),
     /// Print a trace as a value change dump.
     Vcd(Waves),
     /// Print what a trace says of each component, in numbers.
@@ -77,6 +79,19 @@ pub struct Waves {
     pub holds_ports: bool,
     /// The length of a tick, if it is given, as text. It may be no timescale.
     pub timescale: Option<String>,
+}
+
+/// A trace of which curves are printed. The last tick is not before the first one.
+#[derive(Drop)]
+pub struct Plot {
+    /// The model and the trace.
+    pub files: TraceFiles,
+    /// The names of what is shown, at least one.
+    pub names: Vec<String>,
+    /// The first tick that is shown, 0 to 10^15, if it is given.
+    pub from: Option<u64>,
+    /// The last tick that is shown, 0 to 10^15, if it is given.
+    pub to: Option<u64>,
 }
 
 /// A trace to print in numbers.

@@ -1,7 +1,8 @@
 //! The subcommands, their names and their options.
 
 ghost use Rattle.std.specs.Prelude.{◌≡◌};
-ghost use Rattle.dv_command.specs.Subcommands.{graph_takes_value, is_flag, plan_takes_value, run_has_flag, run_takes_value};
+ghost use Rattle.dv_command.specs.Subcommands.{graph_takes_value, is_flag, plan_takes_value, plot_has_flag, plot_takes_value};
+ghost use Rattle.dv_command.specs.Subcommands.{run_has_flag, run_takes_value};
 ghost use Rattle.dv_command.specs.Subcommands.{stats_has_flag, stats_takes_value, subcommand_named, table_has_flag, takes_value};
 ghost use Rattle.dv_command.specs.Subcommands.{vcd_has_flag, vcd_takes_value};
 
@@ -13,6 +14,7 @@ pub(crate) enum Subcommand {
     Explain,
     Graph,
     Plan,
+    Plot,
     Run,
     Stats,
     Table,
@@ -33,6 +35,8 @@ pub(crate) fn subcommand_named(word: &str) -> Option<Subcommand>
         Some(Subcommand::Graph)
     } else if word == "plan" {
         Some(Subcommand::Plan)
+    } else if word == "plot" {
+        Some(Subcommand::Plot)
     } else if word == "run" {
         Some(Subcommand::Run)
     } else if word == "stats" {
@@ -56,6 +60,12 @@ fn graph_takes_value(name: &str) -> bool
     ensures { result ≡ graph_takes_value name.now }
 {
     plan_takes_value(name) || name == "--depth" || name == "--model"
+}
+
+fn plot_takes_value(name: &str) -> bool
+    ensures { result ≡ plot_takes_value name.now }
+{
+    name == "--from" || name == "--to"
 }
 
 fn stats_takes_value(name: &str) -> bool
@@ -90,6 +100,7 @@ pub(crate) fn takes_value(subcommand: Subcommand, name: &str) -> bool
         Subcommand::Run => run_takes_value(name),
         Subcommand::Plan => plan_takes_value(name),
         Subcommand::Graph => graph_takes_value(name),
+        Subcommand::Plot => plot_takes_value(name),
         Subcommand::Check => false,
         Subcommand::Code => false,
         Subcommand::Explain => false,
@@ -107,6 +118,12 @@ fn run_has_flag(name: &str) -> bool
         || name == "--progress"
         || name == "--quantiles"
         || name == "--stats"
+}
+
+fn plot_has_flag(name: &str) -> bool
+    ensures { result ≡ plot_has_flag name.now }
+{
+    name == "--explain" || name == "--partial"
 }
 
 fn stats_has_flag(name: &str) -> bool
@@ -137,6 +154,7 @@ pub(crate) fn is_flag(subcommand: Subcommand, name: &str) -> bool
         Subcommand::Code => name == "--explain",
         Subcommand::Graph => name == "--explain",
         Subcommand::Plan => name == "--explain",
+        Subcommand::Plot => plot_has_flag(name),
         Subcommand::Run => run_has_flag(name),
         Subcommand::Stats => stats_has_flag(name),
         Subcommand::Table => table_has_flag(name),

@@ -129,7 +129,7 @@ fn value_of(takes: &[WordHelp], name: &str) -> Option<Value> {
     let word = takes.iter().find(|word| word.name == name)?;
     match word.form {
         Form::Option(_, value) => Some(value),
-        Form::Plain(_) | Form::Flag => None,
+        Form::Plain(_) | Form::Several(_) | Form::Flag => None,
     }
 }
 

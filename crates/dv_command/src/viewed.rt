@@ -1,13 +1,13 @@
 //! From parts to requests for views of a trace.
 
-ghost use Rattle.std.specs.Prelude.{◌≡◌, IfOk, map};
-ghost use Rattle.dv_command.specs.Asked.{AsksRunStats, AsksStats, AsksStatsChoice, AsksTable, AsksTrace, AsksWaves};
+ghost use Rattle.std.specs.Prelude.{◌≡◌, IfOk, map, string_bytes};
+ghost use Rattle.dv_command.specs.Asked.{AsksPlot, AsksRunStats, AsksStats, AsksStatsChoice, AsksTable, AsksTrace, AsksWaves};
 ghost use Rattle.dv_command.specs.Asked.{AsksWindow, IfAnswered, IsFitting, are_in_order, has_no_stats_choice};
 ghost use Rattle.dv_command.specs.Steps.{said_in};
 
 use crate::given::{count_in, flag_in, is_left_out, owned_text_in, values};
 use crate::part::Part;
-use crate::request::{Stats, StatsChoice, Table, TraceFiles, Waves};
+use crate::request::{Plot, Stats, StatsChoice, Table, TraceFiles, Waves};
 use crate::unasked::Unasked;
 use dv_time::GREATEST_TICK;
 use std::alloc::{AllocError, Global};
@@ -68,6 +68,39 @@ fn window_in(alloc: Global, parts: &[Part<'_>]) -> Result<Window, Unasked>
         Ok((first, last))
     } else {
         Err(Unasked::Nothing)
+    }
+}
+
+/// Copies of texts.
+fn owned(alloc: Global, texts: &[&str]) -> Result<Vec<String>, AllocError>
+    ensures { IfOk result (λ r. map string_bytes r.items ≡ map (λ text. text.now) texts.now) }
+{
+    let mut copies = Vec::with_capacity(alloc, texts.len())?;
+    for text in texts {
+        copies.push(String::from_str(alloc, text)?)?;
+    }
+    Ok(copies)
+}
+
+/// The request for curves.
+pub(crate) fn plot_in(alloc: Global, parts: &[Part<'_>]) -> Result<Plot, Unasked>
+    ensures { IfAnswered result (IsFitting (AsksPlot (map said_in parts.now))) }
+{
+    let (from, to) = window_in(alloc, parts)?;
+    let texts = values(alloc, parts)?;
+    match texts.as_slice() {
+        [model, trace, names @ ..] if names.len() > 0 => Ok(Plot {
+            files: TraceFiles {
+                model: String::from_str(alloc, model)?,
+                trace: String::from_str(alloc, trace)?,
+                partial: flag_in(alloc, "--partial", parts)?,
+                explained: flag_in(alloc, "--explain", parts)?,
+            },
+            names: owned(alloc, names)?,
+            from,
+            to,
+        }),
+        _ => Err(Unasked::Nothing),
     }
 }
 

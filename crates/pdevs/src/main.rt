@@ -1,7 +1,7 @@
 //! The program: from the words of a command line to files, streams and an exit status.
 //!
 //! It checks models, runs them and prints their traces, prints programs, plans and graphs, prints
-//! traces as value change dumps, numbers and tables, and explains refusals and faults. `dv_command`
+//! traces as value change dumps, curves, numbers and tables, and explains refusals and faults. `dv_command`
 //! reads the words. The modules here open the files, call `dv_job` for runs and `dv_views` for
 //! views, and print errors on standard error, which `dv_cause` explains. Progress is printed by the
 //! writer of a run, so none is shown while no line is written.
@@ -37,7 +37,7 @@ mod runs;
 mod shared;
 /// Prints on standard error.
 mod told;
-/// The subcommands `vcd`, `stats` and `table`.
+/// The subcommands `vcd`, `plot`, `stats` and `table`.
 mod traces;
 
 use dv_command::{Request, RequestError, request_of};
@@ -55,7 +55,7 @@ use std::sync::Wait;
 use std::thread::Threads;
 use std::time::Clock;
 use told::{tell_failure, tell_line, tell_text};
-use traces::{count_trace, dump_trace, tabulate_trace};
+use traces::{count_trace, dump_trace, plot_trace, tabulate_trace};
 
 /// The status if everything was printed.
 const ACCEPTED: u8 = 0;
@@ -130,6 +130,7 @@ fn do_request<R: AllocGlobal + Clock + Files + Input + Print + Eprint + Threads 
         Request::Code(code) => list_model(rt, code),
         Request::Plan(plan) => plan_model(rt, plan),
         Request::Graph(graph) => graph_model(rt, graph),
+        Request::Plot(plot) => plot_trace(rt, plot),
         Request::Vcd(waves) => dump_trace(rt, waves),
         Request::Stats(stats) => count_trace(rt, stats),
         Request::Table(table) => tabulate_trace(rt, table),
@@ -152,6 +153,7 @@ fn is_explained(request: &Request) -> bool {
         Request::Run(run) => run.explained,
         Request::Plan(plan) => plan.explained,
         Request::Graph(graph) => graph.file.explained,
+        Request::Plot(plot) => plot.files.explained,
         Request::Vcd(waves) => waves.files.explained,
         Request::Stats(stats) => stats.files.explained,
         Request::Table(table) => table.files.explained,

@@ -18,6 +18,7 @@ pub fn shares_standard_input(request: &Request) -> bool {
         Request::Graph(graph) => {
             is_shared(&graph.file.model, file_of(graph.partition.as_ref()), None)
         }
+        Request::Plot(plot) => is_shared_by_trace(&plot.files, None),
         Request::Vcd(waves) => is_shared_by_trace(&waves.files, waves.inputs.as_ref()),
         Request::Stats(stats) => is_shared_by_trace(&stats.files, None),
         Request::Table(table) => is_shared_by_trace(&table.files, table.inputs.as_ref()),

@@ -1,14 +1,15 @@
-//! The subcommands `vcd`, `stats` and `table`.
+//! The subcommands `vcd`, `plot`, `stats` and `table`.
 
 use crate::files::{OpenedFile, open, open_seekable, read, read_inputs, read_trace};
 use crate::numbers::stats_options;
 use crate::printed::{Printed, print_through};
 use crate::told::{Texts, tell_line, tell_unread};
 use crate::{REFUSED, USAGE};
-use dv_command::{Stats, Table, TraceFiles, Waves};
+use dv_command::{Plot, Stats, Table, TraceFiles, Waves};
 use dv_trace::{End, Reach};
 use dv_views::{
-    TableForm, TableOptions, Timescale, ViewError, WaveOptions, stats_bytes, table_bytes, vcd_bytes,
+    PlotOptions, TableForm, TableOptions, Timescale, ViewError, WaveOptions, plot_bytes,
+    stats_bytes, table_bytes, vcd_bytes,
 };
 use std::io;
 use std::rt::Files;
@@ -110,6 +111,43 @@ pub fn dump_trace<R: AllocGlobal + Files + Input + Print + Eprint>(
     });
     let texts = model.texts_with(inputs.as_ref());
     Ok(status_of_read_view(rt, name, texts, &printed, files.explained))
+}
+
+/// Prints curves of a trace, and returns the status. Files are read in the order model, trace. The
+/// first piece of the trace is read before the model is checked, and the others as they are shown.
+///
+/// # Errors
+///
+/// An allocation was refused.
+pub fn plot_trace<R: AllocGlobal + Files + Input + Print + Eprint>(
+    rt: &R,
+    plot: &Plot,
+) -> io::Result<u8> {
+    let files = &plot.files;
+    let Some(model) = read(rt, files.model.as_str(), files.explained)? else {
+        return Ok(REFUSED);
+    };
+    let Some(OpenedFile { name, mut reader }) = open(rt, files.trace.as_str(), files.explained)?
+    else {
+        return Ok(REFUSED);
+    };
+    let options = PlotOptions {
+        end: end_of(files),
+        from: plot.from,
+        to: plot.to,
+    };
+    let alloc = rt.alloc();
+    let printed = print_through(rt, |writer| {
+        plot_bytes(
+            alloc,
+            &model.bytes,
+            &mut reader,
+            &plot.names,
+            options,
+            writer,
+        )
+    });
+    Ok(status_of_read_view(rt, name, model.texts(), &printed, files.explained))
 }
 
 /// Prints the numbers of a trace, and returns the status. Files are read in the order model, trace.
