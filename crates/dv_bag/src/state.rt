@@ -42,7 +42,7 @@ pub enum DatumView<'a> {
 impl Datum {
     // Makes this a copy of another one. A collection keeps its memory if the other is a collection
     // too.
-    #[inline]
+    #[inline(always)]
     fn copy_from(&mut self, other: &Datum) -> Result<(), AllocError>
         ensures { OnOk result (self.new ≡ other.now) }
     {
@@ -289,7 +289,7 @@ impl Variables {
     /// # Errors
     ///
     /// No memory for more than these have. Their contents are then unspecified.
-    #[inline]
+    #[inline(always)]
     pub fn copy_from(&mut self, other: &Variables) -> Result<(), AllocError>
         ensures { OnOk result (self.new ≡ other.now) }
     {
