@@ -1,7 +1,7 @@
 -- One more lexeme: the table and the tokens.
 use Rattle.std.proofs.Common.{◌≡◌, ℕ, suc, ◌+◌, ◌<◌, ◌≤◌, length, arith, true, false, not, cond, ◌||◌, List, [], ◌∷◌, ◌++◌}
 use Rattle.std.proofs.Common.{Option, Some, None, ap, refl}
-use Rattle.std.proofs.Common.{sym, ◌∙◌, subst, filter, filter_map, option_map, bytes_eq, inl, inr, All}
+use Rattle.std.proofs.Common.{sym, ◌∙◌, subst, filter, filter_map, option_map, bytes_eq, inl, inr}
 use Rattle.std.specs.List.{list_any, AllByRecursion, IsDistinct, cons_option}
 use Rattle.std.proofs.lemmas.Bool.{cond_both, cond-true, cond-false, both_ways, or_left, or_right, or_cases, cases_Bool, false_from_ne_true}
 use Rattle.std.proofs.lemmas.List.{append-nil}

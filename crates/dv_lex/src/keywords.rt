@@ -6,7 +6,7 @@ ghost use Rattle.dv_lex.specs.Lexemes.{is_reserved, keyword_text};
 use crate::token::Keyword;
 
 /// The reserved word with this spelling, if there is one. Only those of the same length are
-/// compared.
+/// compared, byte by byte.
 #[tactic(auto, using(crate::proofs::KeywordLengths::of_length, crate::proofs::KeywordLengths::of_no_length))]
 pub fn keyword(word: &str) -> Option<Keyword>
     ensures { MatchOption result
@@ -32,11 +32,11 @@ fn of_two(word: &str) -> Option<Keyword>
         → IsTrue (is_reserved k) → word.now ≢ keyword_text k)
         (λ k. (word.now ≡ keyword_text k) × IsTrue (is_reserved k)) }
 {
-    match word {
-        "in" => Some(Keyword::In),
-        "if" => Some(Keyword::If),
-        "to" => Some(Keyword::To),
-        "or" => Some(Keyword::Or),
+    match word.as_bytes() {
+        b"in" => Some(Keyword::In),
+        b"if" => Some(Keyword::If),
+        b"to" => Some(Keyword::To),
+        b"or" => Some(Keyword::Or),
         _ => None,
     }
 }
@@ -47,15 +47,15 @@ fn of_three(word: &str) -> Option<Keyword>
         → IsTrue (is_reserved k) → word.now ≢ keyword_text k)
         (λ k. (word.now ≡ keyword_text k) × IsTrue (is_reserved k)) }
 {
-    match word {
-        "out" => Some(Keyword::Out),
-        "var" => Some(Keyword::Var),
-        "bag" => Some(Keyword::Bag),
-        "for" => Some(Keyword::For),
-        "add" => Some(Keyword::Add),
-        "not" => Some(Keyword::Not),
-        "and" => Some(Keyword::And),
-        "sum" => Some(Keyword::Sum),
+    match word.as_bytes() {
+        b"out" => Some(Keyword::Out),
+        b"var" => Some(Keyword::Var),
+        b"bag" => Some(Keyword::Bag),
+        b"for" => Some(Keyword::For),
+        b"add" => Some(Keyword::Add),
+        b"not" => Some(Keyword::Not),
+        b"and" => Some(Keyword::And),
+        b"sum" => Some(Keyword::Sum),
         _ => None,
     }
 }
@@ -66,21 +66,21 @@ fn of_four(word: &str) -> Option<Keyword>
         → IsTrue (is_reserved k) → word.now ≢ keyword_text k)
         (λ k. (word.now ≡ keyword_text k) × IsTrue (is_reserved k)) }
 {
-    match word {
-        "root" => Some(Keyword::Root),
-        "flag" => Some(Keyword::Flag),
-        "hold" => Some(Keyword::Hold),
-        "part" => Some(Keyword::Part),
-        "link" => Some(Keyword::Link),
-        "self" => Some(Keyword::Itself),
-        "else" => Some(Keyword::Else),
-        "drop" => Some(Keyword::Drop),
-        "from" => Some(Keyword::From),
-        "send" => Some(Keyword::Send),
-        "goto" => Some(Keyword::Goto),
-        "true" => Some(Keyword::True),
-        "size" => Some(Keyword::Size),
-        "most" => Some(Keyword::Most),
+    match word.as_bytes() {
+        b"root" => Some(Keyword::Root),
+        b"flag" => Some(Keyword::Flag),
+        b"hold" => Some(Keyword::Hold),
+        b"part" => Some(Keyword::Part),
+        b"link" => Some(Keyword::Link),
+        b"self" => Some(Keyword::Itself),
+        b"else" => Some(Keyword::Else),
+        b"drop" => Some(Keyword::Drop),
+        b"from" => Some(Keyword::From),
+        b"send" => Some(Keyword::Send),
+        b"goto" => Some(Keyword::Goto),
+        b"true" => Some(Keyword::True),
+        b"size" => Some(Keyword::Size),
+        b"most" => Some(Keyword::Most),
         _ => None,
     }
 }
@@ -91,11 +91,11 @@ fn of_five(word: &str) -> Option<Keyword>
         → IsTrue (is_reserved k) → word.now ≢ keyword_text k)
         (λ k. (word.now ≡ keyword_text k) × IsTrue (is_reserved k)) }
 {
-    match word {
-        "start" => Some(Keyword::Start),
-        "false" => Some(Keyword::False),
-        "least" => Some(Keyword::Least),
-        "times" => Some(Keyword::Times),
+    match word.as_bytes() {
+        b"start" => Some(Keyword::Start),
+        b"false" => Some(Keyword::False),
+        b"least" => Some(Keyword::Least),
+        b"times" => Some(Keyword::Times),
         _ => None,
     }
 }
@@ -106,10 +106,10 @@ fn of_six(word: &str) -> Option<Keyword>
         → IsTrue (is_reserved k) → word.now ≢ keyword_text k)
         (λ k. (word.now ≡ keyword_text k) × IsTrue (is_reserved k)) }
 {
-    match word {
-        "atomic" => Some(Keyword::Atomic),
-        "phases" => Some(Keyword::Phases),
-        "output" => Some(Keyword::Output),
+    match word.as_bytes() {
+        b"atomic" => Some(Keyword::Atomic),
+        b"phases" => Some(Keyword::Phases),
+        b"output" => Some(Keyword::Output),
         _ => None,
     }
 }
@@ -120,10 +120,10 @@ fn of_seven(word: &str) -> Option<Keyword>
         → IsTrue (is_reserved k) → word.now ≢ keyword_text k)
         (λ k. (word.now ≡ keyword_text k) × IsTrue (is_reserved k)) }
 {
-    match word {
-        "coupled" => Some(Keyword::Coupled),
-        "forever" => Some(Keyword::Forever),
-        "elapsed" => Some(Keyword::Elapsed),
+    match word.as_bytes() {
+        b"coupled" => Some(Keyword::Coupled),
+        b"forever" => Some(Keyword::Forever),
+        b"elapsed" => Some(Keyword::Elapsed),
         _ => None,
     }
 }
@@ -134,9 +134,9 @@ fn of_eight(word: &str) -> Option<Keyword>
         → IsTrue (is_reserved k) → word.now ≢ keyword_text k)
         (λ k. (word.now ≡ keyword_text k) × IsTrue (is_reserved k)) }
 {
-    match word {
-        "internal" => Some(Keyword::Internal),
-        "external" => Some(Keyword::External),
+    match word.as_bytes() {
+        b"internal" => Some(Keyword::Internal),
+        b"external" => Some(Keyword::External),
         _ => None,
     }
 }
@@ -147,8 +147,8 @@ fn of_nine(word: &str) -> Option<Keyword>
         → IsTrue (is_reserved k) → word.now ≢ keyword_text k)
         (λ k. (word.now ≡ keyword_text k) × IsTrue (is_reserved k)) }
 {
-    match word {
-        "confluent" => Some(Keyword::Confluent),
+    match word.as_bytes() {
+        b"confluent" => Some(Keyword::Confluent),
         _ => None,
     }
 }
