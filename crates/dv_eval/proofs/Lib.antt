@@ -1,3 +1,4 @@
 pub mod Bags
 pub mod Names
 pub mod Rules
+pub mod Variables

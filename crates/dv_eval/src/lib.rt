@@ -27,6 +27,8 @@ pub mod moment;
 pub mod rule;
 /// What the names of an atomic model denote.
 pub mod scope;
+/// The variables, flags, bags and queues that an atomic model declares.
+mod variable_list;
 
 pub use expression::eval;
 pub use model::{hold, phase_hold, phase_ticks, rule_body, rule_of, start_state};

@@ -77,7 +77,8 @@ fn many_index_number(names: &IndexSet<u32>, name: u32) -> Option<u32>
     Some(index_number(names.as_slice(), index))
 }
 
-fn index_among(names: &[u32], name: u32) -> Option<usize>
+/// The index of a name in a list that is searched from the front.
+pub fn index_among(names: &[u32], name: u32) -> Option<usize>
     ensures found { result ≡ index_of name names.now }
     ensures within { IfSome result (λ index. index < length names.now) }
 {

@@ -2,12 +2,13 @@
 
 ghost use Rattle.std.specs.Prelude.{◌≡◌, ℕ, [], length, slice_get, map, option_map, IfOk, IfSome, OnOk, OnSome};
 ghost use Rattle.dv_syntax.specs.Trees.{atomic_of, phases_of};
-ghost use Rattle.dv_eval.specs.NameLists.{names_in};
+ghost use Rattle.dv_eval.specs.NameLists.{names_in, variables_in};
 ghost use Rattle.dv_eval.specs.Scope.{bound_value, inputs_in, names_of, nothing_declared, outputs_in, phases_in, index_of};
 ghost use Rattle.dv_eval.specs.Scope.{range_of, scope_of, state_variable_of, state_variables_in, with_name, with_names};
 ghost use Rattle.dv_eval.specs.Scope.{with_variable, with_variables};
 
 use crate::name_list::{FewNames, NameList};
+use crate::variable_list::{FewVariables, VariableList};
 use arrayvec::ArrayVec;
 use dv_bag::Discipline;
 use dv_syntax::{Atomic, Bound, Declaration, Name, Phases, Variable};
@@ -92,20 +93,20 @@ pub fn state_variable_of(declaration: &Declaration) -> Option<(Name, Domain)>
 /// is declared twice, the first declaration counts.
 #[derive(Drop)]
 pub struct Scope {
-    variables: IndexMap<u32, Domain>,
+    variables: VariableList,
     phases: NameList,
     inputs: NameList,
     outputs: NameList,
 }
 
 impl Model for Scope {
-    ghost use Rattle.dv_eval.specs.NameLists.{names_in};
+    ghost use Rattle.dv_eval.specs.NameLists.{names_in, variables_in};
     ghost use Rattle.dv_eval.specs.Scope as scope;
 
     ghost Value = { scope.Scope };
 
     ghost view = { λ e. record {
-      variables = e.variables.entries;
+      variables = variables_in e.variables;
       phases = names_in e.phases;
       inputs = names_in e.inputs;
       outputs = names_in e.outputs;
@@ -118,7 +119,7 @@ impl Scope {
         ensures { result ≡ nothing_declared }
     {
         Scope {
-            variables: IndexMap::new(alloc),
+            variables: VariableList::new(alloc),
             phases: NameList::new(),
             inputs: NameList::new(),
             outputs: NameList::new(),
@@ -148,7 +149,7 @@ impl Scope {
     pub fn variable(&self, name: u32) -> Option<usize>
         ensures { result ≡ index_of name (names_of self.now.variables) }
     {
-        self.variables.get_index_of(&name)
+        self.variables.index_of(name)
     }
 
     /// The index of a phase.
@@ -176,8 +177,7 @@ impl Scope {
     pub fn domain(&self, index: usize) -> Option<Domain>
         ensures { result ≡ option_map (λ v. v.1) (slice_get self.now.variables index) }
     {
-        let (_, domain) = self.variables.get_index(index)?;
-        Some(*domain)
+        self.variables.domains().get(index).copied()
     }
 
     /// The name of the phase at an index.
@@ -191,14 +191,14 @@ impl Scope {
     pub fn variables(&self) -> &[u32]
         ensures { result.now ≡ names_of self.now.variables }
     {
-        self.variables.keys().as_slice()
+        self.variables.names()
     }
 
     /// The domains of the variables, flags, bags and queues by index.
     pub fn domains(&self) -> &[Domain]
         ensures { result.now ≡ map (λ v. v.1) self.now.variables }
     {
-        self.variables.values().as_slice()
+        self.variables.domains()
     }
 
     /// The names of the phases by index.
@@ -230,7 +230,36 @@ impl Scope {
     }
 }
 
-fn variables_of(
+fn variables_of(alloc: Global, declarations: &[Declaration]) -> Result<VariableList, AllocError>
+    ensures { IfOk result (λ variables. variables_in variables
+        ≡ with_variables [] (state_variables_in declarations.now)) }
+{
+    match few_variables(alloc, declarations)? {
+        Some(variables) => Ok(VariableList::Few(variables)),
+        None => Ok(VariableList::Many(many_variables(alloc, declarations)?)),
+    }
+}
+
+// The variables, flags, bags and queues, if they are few.
+fn few_variables(
+    alloc: Global,
+    declarations: &[Declaration],
+) -> Result<Option<FewVariables>, AllocError>
+    ensures { IfOk result (λ found. IfSome found (λ variables. variables
+        ≡ with_variables [] (state_variables_in declarations.now))) }
+{
+    let mut variables = FewVariables::new(alloc);
+    for declaration in declarations {
+        if let Some((name, domain)) = state_variable_of(declaration) {
+            if !variables.declare(name, domain)? {
+                return Ok(None);
+            }
+        }
+    }
+    Ok(Some(variables))
+}
+
+fn many_variables(
     alloc: Global,
     declarations: &[Declaration],
 ) -> Result<IndexMap<u32, Domain>, AllocError>

@@ -1,6 +1,6 @@
 use Rattle.std.proofs.Common.{◌≡◌, [], drop}
 use Rattle.dv_eval.specs.Scope.{state_variables_in, with_variables}
-use Rattle.dv_eval.proofs.scope.variables_of.Given as goal
+use Rattle.dv_eval.proofs.scope.many_variables.Given as goal
 
 abbrev pub invariant-loop-declaration : goal.invariant-loop-declaration
 invariant-loop-declaration l =
