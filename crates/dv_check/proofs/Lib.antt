@@ -11,5 +11,6 @@ pub mod Containment
 pub mod Counting
 pub mod CheckedFiles
 pub mod WholeTrees
+pub mod SettledSizes
 pub mod Order
 pub mod Computing

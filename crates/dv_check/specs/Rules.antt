@@ -39,7 +39,7 @@ use Rattle.dv_check.specs.declared.environment.Environment.TheOpen.{Environment-
 use Rattle.dv_check.specs.declared.starts.Starts.{Starts}
 use Rattle.dv_check.specs.declared.wanted.Wanted.TheVariants as wanted
 use Rattle.dv_check.specs.Names.{refusal, refusal_if, among, within_limit, repeats, excess, first_of}
-use Rattle.dv_check.specs.Tables.{value_for, has}
+use Rattle.dv_check.specs.Tables.{value_for, has_name}
 use Rattle.dv_check.specs.Types.{Known, type_of_name, held_name_refusals, offset_refusals, value_refusals}
 
 -- ---- Names
@@ -96,7 +96,7 @@ known_in_loop v known = record {
 
 -- what the tables contain
 abbrev pub known_by : Declarations → Known
-known_by d = record { sort = value_for d.sorts; offset = value_for d.offsets; has_phase = has d.phases; rule = None }
+known_by d = record { sort = value_for d.sorts; offset = value_for d.offsets; has_phase = has_name d.phases; rule = None }
 
 -- what an environment contains: its model's tables, the rule around, and the variables of the loops around
 abbrev pub environment_step : Environment-F Known → Known

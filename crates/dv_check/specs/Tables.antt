@@ -2,11 +2,13 @@
 use Rattle.std.specs.Prelude.{ℕ, ◌==◌, Bool, nat_eq, nat_lt, if◌then◌else◌, slice_get, is_some, List, Option, Some, None}
 use Rattle.std.specs.Option.{option_flatten, option_or}
 use Rattle.std.specs.HashMap.{get}
+use Rattle.dv_check.specs.declared.name_set.NameSet.{NameSet}
+use Rattle.dv_check.specs.declared.name_set.NameSet.TheVariants as names
 use Rattle.dv_check.specs.declared.number_set.NumberSet.{NumberSet}
 use Rattle.dv_check.specs.declared.directory.Directory.{Directory}
 use Rattle.dv_check.specs.declared.directory.Directory.TheVariants.{Few, Many}
 use Rattle.dv_check.specs.declared.table.Table.{Table}
-use Rattle.dv_check.specs.Names.{first_of}
+use Rattle.dv_check.specs.Names.{among, first_of}
 
 -- the first value of a number in a list of values by their numbers
 unfoldable pub entry_for : {V : Type 0} → List (ℕ × V) → ℕ → Option V
@@ -28,6 +30,11 @@ value_for (Many table) q = table_value table.value q
 -- whether a set has a number
 unfoldable pub has : NumberSet → ℕ → Bool
 has s q = is_some (value_for s.numbers q)
+
+-- whether a set of names has a name with a number
+unfoldable pub has_name : NameSet → ℕ → Bool
+has_name (names.Few few) q = among few.items q
+has_name (names.Many numbers) q = has numbers q
 
 -- the empty table, and one with another value: the first of a number counts
 unfoldable pub no_value : {V : Type 0} → ℕ → Option V

@@ -2,14 +2,14 @@
 
 ghost use Rattle.std.specs.Prelude.{◌≡◌, map, Some, None, IfOk, IsTrue, OnOk};
 ghost use Rattle.std.specs.Option.{option_copied};
-ghost use Rattle.dv_eval.specs.Scope.{hold_ticks, scope_of, start_state, state_variables_in, ticks_found};
+ghost use Rattle.dv_eval.specs.Scope.{hold_ticks, phases_in, scope_of, start_state, state_variables_in, ticks_found};
 ghost use Rattle.dv_eval.specs.Meaning.{hold_of};
 ghost use Rattle.dv_lex.specs.declared.error.RefusalNumber.TheVariants.{E6, E10};
-ghost use Rattle.dv_syntax.specs.Trees.{atomic_of, phases_of, rule_of, ticks_of};
+ghost use Rattle.dv_syntax.specs.Trees.{atomic_of, rule_of, ticks_of};
 ghost use Rattle.dv_check.specs.Findings.{with_refusals};
 ghost use Rattle.dv_check.specs.Holds.{NeverFaults};
 ghost use Rattle.dv_check.specs.Names.{excess, refusal_if, repeats};
-ghost use Rattle.dv_check.specs.Tables.{has};
+ghost use Rattle.dv_check.specs.Tables.{has_name};
 ghost use Rattle.dv_check.specs.Rules.{atomic_refusals, can_ask_hold, holds_once_refusals, is_fault, is_hold_fine};
 ghost use Rattle.dv_check.specs.Rules.{is_hold_missing, is_start_fault, known_by, name_of_declaration, name_of_state_variable};
 ghost use Rattle.dv_check.specs.Rules.{names_refusals, once_refusals, phases_offsets, ports_in, ruled_phases, standing_refusals};
@@ -18,13 +18,13 @@ ghost use Rattle.dv_check.specs.Rules.{start_hold_refusals, start_offsets, ticks
 use crate::declarations::Declarations;
 use crate::findings::Findings;
 use crate::limits::GREATEST_NAMES;
+use crate::name_set::NameSet;
 use crate::names;
-use crate::number_set::NumberSet;
 use crate::repeats::{find_excess, find_repeats, within_limit};
 use crate::starts::Starts;
 use dv_eval::{Scope, phase_hold, phase_ticks, start_state};
 use dv_lex::RefusalNumber;
-use dv_syntax::{Atomic, Declaration, Expr, Name, Phases, Rule, RuleSort, Start, Ticks};
+use dv_syntax::{Atomic, Declaration, Expr, Name, Rule, RuleSort, Ticks};
 use std::alloc::{AllocError, Global};
 
 /// Tests an atomic model.
@@ -32,29 +32,35 @@ pub fn check_atomic(alloc: Global, model: &Atomic, found: &mut Findings) -> Resu
     ensures { OnOk result (found.new ≡ with_refusals found.old
         (atomic_refusals (atomic_of model.now))) }
 {
-    check_names(alloc, model, found)?;
+    let phases = names::phases(alloc, &model.phases)?;
+    check_names(alloc, model, &phases, found)?;
     check_standing(alloc, model, found)?;
-    let declarations = Declarations::of(alloc, model)?;
+    let declarations = Declarations::of(alloc, model, phases)?;
     declarations.check_items(model, found);
     check_start_hold(alloc, model, &declarations, found)?;
     Ok(())
 }
 
 // Names that are declared twice, and too many names.
-fn check_names(alloc: Global, model: &Atomic, found: &mut Findings) -> Result<(), AllocError>
+fn check_names(
+    alloc: Global,
+    model: &Atomic,
+    phases: &[Name],
+    found: &mut Findings,
+) -> Result<(), AllocError>
+    requires { phases.now ≡ phases_in (atomic_of model.now).phases }
     ensures { OnOk result (found.new ≡ with_refusals found.old
         (names_refusals (atomic_of model.now))) }
 {
-    let phases = names::phases(alloc, &model.phases)?;
     check_declared(alloc, &model.declarations, found)?;
-    find_repeats(alloc, RefusalNumber::E6, &phases, found)?;
+    find_repeats(alloc, RefusalNumber::E6, phases, found)?;
     check_ruled(alloc, RuleSort::Output, &model.rules, found)?;
     check_ruled(alloc, RuleSort::Internal, &model.rules, found)?;
     check_ruled(alloc, RuleSort::External, &model.rules, found)?;
     check_ruled(alloc, RuleSort::Confluent, &model.rules, found)?;
     check_ports(alloc, &model.declarations, found)?;
     check_state_variables(alloc, &model.declarations, found)?;
-    find_excess(&phases, found);
+    find_excess(phases, found);
     Ok(())
 }
 
@@ -135,27 +141,31 @@ fn check_standing(alloc: Global, model: &Atomic, found: &mut Findings) -> Result
     ensures { OnOk result (found.new ≡ with_refusals found.old
         (standing_refusals (atomic_of model.now))) }
 {
-    check_phases_once(alloc, model, found)?;
-    check_start_once(alloc, model, found)?;
+    check_phases_once(model, found);
+    check_start_once(model, found);
     check_holds_once(alloc, model, found)
 }
 
-fn check_phases_once(alloc: Global, model: &Atomic, found: &mut Findings) -> Result<(), AllocError>
-    ensures { OnOk result (found.new ≡ with_refusals found.old
-        (once_refusals model.now.name.offset (phases_offsets (atomic_of model.now).phases))) }
+fn check_phases_once(model: &Atomic, found: &mut Findings)
+    ensures { found.new ≡ with_refusals found.old
+        (once_refusals model.now.name.offset (phases_offsets (atomic_of model.now).phases)) }
 {
-    let offsets = phases_offsets(alloc, &model.phases)?;
-    check_once(model.name.offset, &offsets, found);
-    Ok(())
+    match &model.phases[..] {
+        [] => found.note(RefusalNumber::E10, model.name.offset),
+        [_] => {}
+        [_, second, ..] => found.note(RefusalNumber::E10, second.offset),
+    }
 }
 
-fn check_start_once(alloc: Global, model: &Atomic, found: &mut Findings) -> Result<(), AllocError>
-    ensures { OnOk result (found.new ≡ with_refusals found.old
-        (once_refusals model.now.name.offset (start_offsets (atomic_of model.now).starts))) }
+fn check_start_once(model: &Atomic, found: &mut Findings)
+    ensures { found.new ≡ with_refusals found.old
+        (once_refusals model.now.name.offset (start_offsets (atomic_of model.now).starts)) }
 {
-    let offsets = start_offsets(alloc, &model.starts)?;
-    check_once(model.name.offset, &offsets, found);
-    Ok(())
+    match &model.starts[..] {
+        [] => found.note(RefusalNumber::E10, model.name.offset),
+        [_] => {}
+        [_, second, ..] => found.note(RefusalNumber::E10, second.offset),
+    }
 }
 
 fn check_holds_once(alloc: Global, model: &Atomic, found: &mut Findings) -> Result<(), AllocError>
@@ -164,46 +174,23 @@ fn check_holds_once(alloc: Global, model: &Atomic, found: &mut Findings) -> Resu
 {
     let held = names::held_phases(alloc, &model.holds)?;
     find_repeats(alloc, RefusalNumber::E10, &held, found)?;
-    let held = NumberSet::of(alloc, &held)?;
+    let held = NameSet::of(alloc, held)?;
     let phases = within_limit(GREATEST_NAMES, names::first_phases(&model.phases));
     check_holds_stand(model.name.offset, &held, phases, found);
     Ok(())
 }
 
-fn check_holds_stand(model_offset: u32, held: &NumberSet, phases: &[Name], found: &mut Findings)
+fn check_holds_stand(model_offset: u32, held: &NameSet, phases: &[Name], found: &mut Findings)
     ensures { found.new ≡ with_refusals found.old
-        (refusal_if (is_hold_missing (has held.now) phases.now) E10 model_offset) }
+        (refusal_if (is_hold_missing (has_name held.now) phases.now) E10 model_offset) }
 {
     if is_hold_missing(held, phases) {
         found.note(RefusalNumber::E10, model_offset);
     }
 }
 
-#[tactic(auto, using(crate::proofs::Lists::map_of_map))]
-fn phases_offsets(alloc: Global, items: &[Phases]) -> Result<Vec<u32>, AllocError>
-    ensures { IfOk result (λ offsets. offsets.items ≡ phases_offsets (map phases_of items.now)) }
-{
-    items.iter().map(|item| item.offset).collect(alloc)
-}
-
-fn start_offsets(alloc: Global, items: &[Start]) -> Result<Vec<u32>, AllocError>
-    ensures { IfOk result (λ offsets. offsets.items ≡ start_offsets items.now) }
-{
-    items.iter().map(|item| item.offset).collect(alloc)
-}
-
-fn check_once(model_offset: u32, offsets: &[u32], found: &mut Findings)
-    ensures { found.new ≡ with_refusals found.old (once_refusals model_offset offsets.now) }
-{
-    match offsets {
-        [] => found.note(RefusalNumber::E10, model_offset),
-        [_] => {}
-        [_, second, ..] => found.note(RefusalNumber::E10, *second),
-    }
-}
-
-fn is_hold_missing(held: &NumberSet, phases: &[Name]) -> bool
-    ensures { result ≡ is_hold_missing (has held.now) phases.now }
+fn is_hold_missing(held: &NameSet, phases: &[Name]) -> bool
+    ensures { result ≡ is_hold_missing (has_name held.now) phases.now }
 {
     for phase in phases {
         if !held.contains(phase.number) {

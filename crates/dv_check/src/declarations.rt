@@ -2,6 +2,7 @@
 
 ghost use Rattle.std.specs.Prelude.{◌≡◌, map, IfOk};
 ghost use Rattle.std.specs.List.{flat_map};
+ghost use Rattle.dv_eval.specs.Scope.{phases_in};
 ghost use Rattle.dv_syntax.specs.Trees.{atomic_of, hold_of, rule_of, ticks_of};
 ghost use Rattle.dv_check.specs.Findings.{with_refusals};
 ghost use Rattle.dv_check.specs.Tables.{value_for};
@@ -13,8 +14,8 @@ use crate::directory::Directory;
 use crate::environment::Environment;
 use crate::expression::check_offset;
 use crate::findings::Findings;
+use crate::name_set::NameSet;
 use crate::names;
-use crate::number_set::NumberSet;
 use crate::statements::check_statements;
 use dv_bag::{Discipline, GREATEST_COUNT, ValueType};
 use dv_eval::VariableRange;
@@ -47,7 +48,7 @@ pub struct Declarations {
     /// The offset of the first declaration of each name of a port, variable, flag, bag or queue.
     pub offsets: Directory<u32>,
     /// The names of the phases.
-    pub phases: NumberSet,
+    pub phases: NameSet,
 }
 
 fn sort_of(declaration: &Declaration) -> NameSort
@@ -92,15 +93,15 @@ fn offsets_of(alloc: Global, declarations: &[Declaration]) -> Result<Directory<u
 }
 
 impl Declarations {
-    /// The names that a model declares.
-    pub fn of(alloc: Global, model: &Atomic) -> Result<Self, AllocError>
+    /// The names that a model with these phases declares.
+    pub fn of(alloc: Global, model: &Atomic, phases: Vec<Name>) -> Result<Self, AllocError>
+        requires { phases.items ≡ phases_in (atomic_of model.now).phases }
         ensures { IfOk result (λ d. known_by d ≡ known_in (atomic_of model.now)) }
     {
-        let phases = names::phases(alloc, &model.phases)?;
         Ok(Declarations {
             sorts: sorts_of(alloc, &model.declarations)?,
             offsets: offsets_of(alloc, &model.declarations)?,
-            phases: NumberSet::of(alloc, &phases)?,
+            phases: NameSet::of(alloc, phases)?,
         })
     }
 

@@ -53,6 +53,9 @@ mod link_set;
 /// The models of a text, as links see them.
 mod models;
 
+/// Sets of names.
+mod name_set;
+
 /// The names in the lists of an atomic model.
 mod names;
 

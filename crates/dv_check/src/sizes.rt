@@ -1,6 +1,6 @@
 //! The size of the whole tree, counted without building it.
 
-ghost use Rattle.std.specs.Prelude.{◌≡◌, false, true, List, fold, map, IfOk, MatchOption};
+ghost use Rattle.std.specs.Prelude.{◌≡◌, false, true, List, fold, map, IfOk, IsTrue, MatchOption};
 ghost use Rattle.dv_syntax.specs.Trees.{coupled_of, model_of};
 ghost use Rattle.dv_check.specs.Sizes.{alone, component, components_within, contents_by, contents_of, kept, size_by, size_of_tree};
 ghost use Rattle.dv_check.specs.Sizes.{size_passes_limit, sizes_below, with_part, with_part_at};
@@ -23,7 +23,7 @@ pub enum Contents {
 }
 
 /// The size of a model with itself. Counts saturate at the greatest `usize`.
-#[derive(Clone, Copy)]
+#[derive(Clone, Copy, PartialEq, Eq)]
 pub struct Size {
     /// How deep coupled models are nested, with this one.
     pub depth: usize,
@@ -165,16 +165,36 @@ fn contents_of_model(
     }
 }
 
-// The sizes of the models, down to fewer levels than this.
+// The sizes of the models, down to fewer levels than this. If two levels have the same sizes, so has
+// each deeper one, and no more are computed.
 fn sizes_below(alloc: Global, levels: usize, contents: &[Contents]) -> Result<Vec<Size>, AllocError>
     ensures { IfOk result (λ sizes. sizes.items
         ≡ sizes_below levels (map contents_by contents.now)) }
 {
     let mut sizes = Vec::new(alloc);
     for _level in 0..levels {
-        sizes = sizes_over(alloc, &sizes, contents)?;
+        let over = sizes_over(alloc, &sizes, contents)?;
+        if are_same(&over, &sizes) {
+            return Ok(over);
+        }
+        sizes = over;
     }
     Ok(sizes)
+}
+
+// Whether two lists of sizes are the same, model by model.
+fn are_same(left: &[Size], right: &[Size]) -> bool
+    ensures { IsTrue result → left.now ≡ right.now }
+{
+    if left.len() != right.len() {
+        return false;
+    }
+    for (index, size) in left.iter().enumerate() {
+        if *size != right[index] {
+            return false;
+        }
+    }
+    true
 }
 
 // The sizes of the models with one more level.
