@@ -10,3 +10,4 @@ pub mod Unions
 pub mod Reached
 pub mod Tables
 pub mod Nodes
+pub mod Indices

@@ -6,14 +6,16 @@ ghost use Rattle.dv_tree.specs.Paths.{name_at};
 
 use crate::levels::{Level, level_at};
 use dv_lex::Names;
+use smallvec::SmallVec;
 use std::alloc::{AllocError, Global};
 use std::marker::Model;
 
 /// A component: the names of the parts that lead to it, as numbers, and the index of its model
-/// among those with tables. So its memory does not depend on the length of the names.
+/// among those with tables. So its memory does not depend on the length of the names. Most paths
+/// are short, and no allocation is made for those.
 #[derive(Drop)]
 pub(crate) struct Component {
-    pub(crate) path: Vec<u32>,
+    pub(crate) path: SmallVec<u32, 4>,
     pub(crate) model: usize,
 }
 
@@ -30,7 +32,7 @@ impl Component {
     pub(crate) fn path(&self) -> &[u32]
         ensures { result.now ≡ self.now.0 }
     {
-        &self.path
+        self.path.as_slice()
     }
 
     /// The index of its model.
@@ -52,10 +54,10 @@ pub(crate) fn name_at(names: &Names, number: u32) -> &str
 }
 
 // The path of a part of a model with a path.
-fn path_to(alloc: Global, before: &[u32], name: u32) -> Result<Vec<u32>, AllocError>
+fn path_to(alloc: Global, before: &[u32], name: u32) -> Result<SmallVec<u32, 4>, AllocError>
     ensures { IfOk result (λ path. path.items ≡ before.now ++ name ∷ []) }
 {
-    let mut path = Vec::from_slice(alloc, before)?;
+    let mut path = SmallVec::from_slice(alloc, before)?;
     path.push(name)?;
     Ok(path)
 }
@@ -99,7 +101,14 @@ pub(crate) fn add_components(
         match level_at(levels, part.model) {
             Some(inside) => {
                 let path = path_to(alloc, before, name)?;
-                add_components(alloc, depth - 1, inside, levels, &path, components)?;
+                add_components(
+                    alloc,
+                    depth - 1,
+                    inside,
+                    levels,
+                    path.as_slice(),
+                    components,
+                )?;
             }
             None => add_component(alloc, before, name, part.model, components)?,
         }

@@ -3,28 +3,34 @@
 ghost use Rattle.std.specs.Prelude.{◌≡◌, ℕ, length, IfOk};
 ghost use Rattle.dv_check.specs.Tables.{value_for};
 ghost use Rattle.dv_eval.specs.Scope.{index_of};
+ghost use Rattle.dv_tree.specs.Indices.{AreFirsts};
 
 use dv_check::Directory;
+use smallvec::SmallVec;
 use std::alloc::{AllocError, Global};
 use std::marker::Model;
 
-/// Names by number, with the index of the first occurrence of each.
+/// The greatest number of names that are searched from the front.
+const GREATEST_FEW: usize = 8;
+
+/// Names by number, with the index of the first occurrence of each. Most lists are short:
+/// those of few names are searched from the front, and need no allocation.
 #[derive(Drop)]
 pub(crate) struct Indices {
-    numbers: Vec<u32>,
-    firsts: Directory<usize>,
+    numbers: SmallVec<u32, 4>,
+    // The indices, if the names are not few.
+    firsts: Option<Directory<usize>>,
 }
 
 impl Model for Indices {
-    ghost use Rattle.std.specs.Prelude.{◌≡◌, ℕ, List};
-    ghost use Rattle.dv_check.specs.Tables.{value_for};
-    ghost use Rattle.dv_eval.specs.Scope.{index_of};
+    ghost use Rattle.std.specs.Prelude.{ℕ, List};
+    ghost use Rattle.dv_tree.specs.Indices.{AreFirsts};
 
     ghost Value = { List ℕ };
 
     ghost view = { λ p. p.numbers.items };
 
-    ghost invariant = { λ p. (q : ℕ) → value_for p.firsts q ≡ index_of q p.numbers.items };
+    ghost invariant = { λ p. AreFirsts p.numbers.items p.firsts };
 }
 
 impl Indices {
@@ -33,10 +39,10 @@ impl Indices {
     /// # Errors
     ///
     /// No memory for the indices.
-    pub(crate) fn of(alloc: Global, numbers: Vec<u32>) -> Result<Self, AllocError>
+    pub(crate) fn of(alloc: Global, numbers: SmallVec<u32, 4>) -> Result<Self, AllocError>
         ensures { IfOk result (λ indices. indices ≡ numbers.items) }
     {
-        let firsts = firsts(alloc, &numbers)?;
+        let firsts = firsts_of_many(alloc, numbers.as_slice())?;
         Ok(Indices { numbers, firsts })
     }
 
@@ -44,7 +50,10 @@ impl Indices {
     pub(crate) fn index_of(&self, number: u32) -> Option<usize>
         ensures { result ≡ index_of number self.now }
     {
-        self.firsts.get(number).copied()
+        match &self.firsts {
+            Some(firsts) => firsts.get(number).copied(),
+            None => index_among(self.numbers.as_slice(), number),
+        }
     }
 
     /// The number of names.
@@ -53,6 +62,28 @@ impl Indices {
     {
         self.numbers.len()
     }
+}
+
+// The index of the first occurrence of a name.
+fn index_among(numbers: &[u32], number: u32) -> Option<usize>
+    ensures { result ≡ index_of number numbers.now }
+{
+    for (index, other) in numbers.iter().enumerate() {
+        if *other == number {
+            return Some(index);
+        }
+    }
+    None
+}
+
+// The index of the first occurrence of each name, if the names are not few.
+fn firsts_of_many(alloc: Global, numbers: &[u32]) -> Result<Option<Directory<usize>>, AllocError>
+    ensures { IfOk result (λ firsts. AreFirsts numbers.now firsts) }
+{
+    if numbers.len() <= GREATEST_FEW {
+        return Ok(None);
+    }
+    Ok(Some(firsts(alloc, numbers)?))
 }
 
 // The index of the first occurrence of each name.

@@ -17,6 +17,7 @@ use crate::resolved_parts::{ResolvedPart, part_names, resolved_parts};
 use crate::tables::numbers;
 use dv_bag::Bags;
 use dv_syntax::{Coupled, End, Link, Model as ModelItem, Name};
+use smallvec::SmallVec;
 use std::alloc::{AllocError, Global};
 use std::marker::Model;
 
@@ -194,14 +195,14 @@ fn resolved_links(
 fn indices_of_ports(alloc: Global, ports: &[Name]) -> Result<Indices, AllocError>
     ensures { IfOk result (λ indices. indices ≡ numbers_of ports.now) }
 {
-    Indices::of(alloc, numbers(alloc, ports)?)
+    Indices::of(alloc, SmallVec::from_vec(numbers(alloc, ports)?))
 }
 
 // The indices of parts by their names.
 fn indices_of_parts(alloc: Global, parts: &[ResolvedPart]) -> Result<Indices, AllocError>
     ensures { IfOk result (λ indices. indices ≡ part_names parts.now) }
 {
-    Indices::of(alloc, part_names(alloc, parts)?)
+    Indices::of(alloc, SmallVec::from_vec(part_names(alloc, parts)?))
 }
 
 fn links_by(

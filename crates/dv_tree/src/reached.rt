@@ -9,6 +9,7 @@ ghost use Rattle.dv_tree.specs.Tables.{model_names};
 use crate::indices::Indices;
 use crate::tables::{model_numbers, parts_inside};
 use dv_syntax::{File, Model, Part};
+use smallvec::SmallVec;
 use std::alloc::{AllocError, Global};
 
 /// Models of a text in its order, with their indices among all of its models.
@@ -30,7 +31,10 @@ impl<'c> Reached<'c> {
         ensures indices { IfOk result (λ r. map (slice_get (file_of file.now).models) r.indices.items
             ≡ map Some (borrowed_models r.models.items)) }
     {
-        let names = Indices::of(alloc, model_numbers(alloc, &file.models)?)?;
+        let names = Indices::of(
+            alloc,
+            SmallVec::from_vec(model_numbers(alloc, &file.models)?),
+        )?;
         let marks = marks_of(alloc, file, &names)?;
         Reached::marked(alloc, &file.models, &marks)
     }

@@ -12,6 +12,7 @@ ghost use Rattle.dv_tree.specs.Tables.{model_names, scope_of_model};
 use crate::indices::Indices;
 use dv_eval::Scope;
 use dv_syntax::{Coupled, File, Model, Name, Part};
+use smallvec::SmallVec;
 use std::alloc::{AllocError, Global};
 
 fn number_of(model: &Model) -> u32
@@ -83,23 +84,23 @@ pub(crate) fn numbers(alloc: Global, names: &[Name]) -> Result<Vec<u32>, AllocEr
     names.iter().map(|name| name.number).collect(alloc)
 }
 
-fn inputs_of(alloc: Global, model: &Model, scope: &Scope) -> Result<Vec<u32>, AllocError>
+fn inputs_of(alloc: Global, model: &Model, scope: &Scope) -> Result<SmallVec<u32, 4>, AllocError>
     requires { scope.now ≡ scope_of_model (model_of model.now) }
     ensures { IfOk result (λ names. names.items ≡ shown_inputs (model_of model.now)) }
 {
     match model {
-        Model::Atomic(_) => Vec::from_slice(alloc, scope.inputs()),
-        Model::Coupled(coupled) => numbers(alloc, &coupled.inputs),
+        Model::Atomic(_) => SmallVec::from_slice(alloc, scope.inputs()),
+        Model::Coupled(coupled) => Ok(SmallVec::from_vec(numbers(alloc, &coupled.inputs)?)),
     }
 }
 
-fn outputs_of(alloc: Global, model: &Model, scope: &Scope) -> Result<Vec<u32>, AllocError>
+fn outputs_of(alloc: Global, model: &Model, scope: &Scope) -> Result<SmallVec<u32, 4>, AllocError>
     requires { scope.now ≡ scope_of_model (model_of model.now) }
     ensures { IfOk result (λ names. names.items ≡ shown_outputs (model_of model.now)) }
 {
     match model {
-        Model::Atomic(_) => Vec::from_slice(alloc, scope.outputs()),
-        Model::Coupled(coupled) => numbers(alloc, &coupled.outputs),
+        Model::Atomic(_) => SmallVec::from_slice(alloc, scope.outputs()),
+        Model::Coupled(coupled) => Ok(SmallVec::from_vec(numbers(alloc, &coupled.outputs)?)),
     }
 }
 

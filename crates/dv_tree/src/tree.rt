@@ -26,6 +26,7 @@ use dv_check::{Checked, GREATEST_DEPTH};
 use dv_eval::Scope;
 use dv_lex::Names;
 use dv_syntax::{Atomic, File, Model as ModelItem};
+use smallvec::SmallVec;
 use std::alloc::{AllocError, Global};
 use std::marker::Model;
 
@@ -96,7 +97,8 @@ impl<'c> Tree<'c> {
     {
         let file = &checked.file;
         let reached = Reached::of(alloc, file)?;
-        let names = Indices::of(alloc, numbers_of_models(alloc, &reached.models)?)?;
+        let models = numbers_of_models(alloc, &reached.models)?;
+        let names = Indices::of(alloc, SmallVec::from_vec(models))?;
         let scopes = scopes(alloc, &reached.models)?;
         let levels = tables_of(alloc, &reached.models, &names, &scopes)?;
         let root = names.index_of(file.root.number);

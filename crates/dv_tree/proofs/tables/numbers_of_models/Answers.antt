@@ -1,4 +1,4 @@
-use Rattle.std.proofs.Common.{map, refl}
+use Rattle.std.proofs.Common.{refl}
 use Rattle.dv_tree.specs.Reached.{borrowed_models}
 use Rattle.dv_tree.specs.Tables.{model_names}
 use Rattle.dv_tree.proofs.Gathered.{gathered_more}

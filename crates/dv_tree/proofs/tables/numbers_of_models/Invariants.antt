@@ -1,4 +1,3 @@
-use Rattle.std.proofs.Common.{map}
 use Rattle.dv_tree.specs.Reached.{borrowed_models}
 use Rattle.dv_tree.specs.Tables.{model_names}
 use Rattle.dv_tree.proofs.Gathered.{Gathers}

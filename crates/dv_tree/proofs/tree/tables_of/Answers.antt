@@ -1,4 +1,4 @@
-use Rattle.std.proofs.Common.{◌≡◌, List, ◌∙◌, subst, map}
+use Rattle.std.proofs.Common.{◌≡◌, List, ◌∙◌, subst}
 use Rattle.std.specs.Prelude.{IfOk, Option}
 use Rattle.dv_tree.specs.Reached.{borrowed_models}
 use Rattle.dv_tree.specs.Tables.{LevelTable}

@@ -1,8 +1,8 @@
-use Rattle.std.proofs.Common.{◌≡◌, arith, ap, sym, ◌∙◌, map}
+use Rattle.std.proofs.Common.{arith, ap, sym, ◌∙◌}
 use Rattle.std.specs.Prelude.{slice_get}
 use Rattle.std.proofs.lemmas.Option.{slice_get_within}
 use Rattle.dv_syntax.specs.Trees.{AtomicModel, file_of}
-use Rattle.dv_tree.specs.Instances.{Instance, instances}
+use Rattle.dv_tree.specs.Instances.{Instance}
 use Rattle.dv_tree.specs.Tables.{Source}
 use Rattle.dv_tree.proofs.Named.{found, within_components, within_indices, index_read, text_index_read, text_shown, view_shown}
 use Rattle.dv_tree.proofs.tree.Tree.model_index.Goals as goal

@@ -17,7 +17,8 @@ invariant_of-result c =
     let names = c.in_ok-names.names in
     let root = c.index_of-root.result in
     let names_are : names ≡ model_names reached =
-    c.in_ok-names.ensures ∙ (c.in_ok-numbers_of_models.ensures ∙ ap (λ x. model_names (borrowed_models x)) c.deref.ensures.value) in
+    c.in_ok-names.ensures
+    ∙ (c.from_vec.ensures.items ∙ (c.in_ok-models.ensures ∙ ap (λ x. model_names (borrowed_models x)) c.deref.ensures.value)) in
     let scopes_are = c.in_ok-scopes.ensures ∙ ap (λ x. map scope_of_model (borrowed_models x)) c.deref-2.ensures.value in
     let levels_are = c.in_ok-levels.ensures ∙ ap (λ x. levels_of (borrowed_models x)) c.deref-3.ensures.value in
     let root_is =
