@@ -16,6 +16,8 @@ pub mod laws;
 pub mod lookahead;
 /// A lower bound of an expression.
 mod low;
+/// Responses by the names of phases.
+mod phase_responses;
 /// Worked rows.
 pub mod rows;
 

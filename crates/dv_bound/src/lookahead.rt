@@ -9,18 +9,15 @@ ghost use Rattle.dv_syntax.specs.Trees.{ticks_of as expression_of_ticks};
 ghost use Rattle.law_accepted.specs.Gotos.{gotos_in};
 ghost use Rattle.dv_bound.specs.Response.{external_gotos_in, hold_response, response_of, ticks_in};
 ghost use Rattle.dv_bound.specs.Short.{AreShort, IsShort};
-ghost use Rattle.dv_bound.specs.Soonest.{response_in, soonest, with_response};
+ghost use Rattle.dv_bound.specs.Soonest.{entries_in, response_in, soonest};
 
 use crate::low::low;
+use crate::phase_responses::PhaseResponses;
 use dv_bag::Response;
 use dv_eval::Scope;
 use dv_syntax::laws::trees_keep_blocks;
 use dv_syntax::{Atomic, Command, Hold, Rule, RuleSort, Stmt, Ticks};
-use indexmap::IndexMap;
 use std::alloc::{AllocError, Global};
-
-// Responses by the name of a phase.
-type PhaseResponses = IndexMap<u32, Response>;
 
 /// The response of an atomic model with this scope: the least of the holds of the phases to which
 /// its external rules go.
@@ -45,34 +42,15 @@ fn phase_responses(
     scope: &Scope,
 ) -> Result<PhaseResponses, AllocError>
     ensures responses { IfOk result (λ responses. (phase : ℕ)
-        → response_in responses.entries phase
+        → response_in (entries_in responses) phase
         ≡ hold_response scope.now (hold_ticks phase (map hold_of holds.now))) }
     ensures short { IfOk result (λ _. AreShort scope.now holds.now) }
 {
-    let mut responses = IndexMap::new(alloc);
+    let mut responses = PhaseResponses::new(alloc, holds.len());
     for hold in holds {
-        insert_if_absent(
-            &mut responses,
-            hold.phase.number,
-            hold_response(&hold.ticks, scope),
-        )?;
+        responses.insert_if_absent(hold.phase.number, hold_response(&hold.ticks, scope))?;
     }
     Ok(responses)
-}
-
-// Adds the response of a phase if it has none.
-fn insert_if_absent(
-    responses: &mut PhaseResponses,
-    phase: u32,
-    response: Response,
-) -> Result<(), AllocError>
-    ensures { OnOk result (responses.new.entries
-        ≡ with_response responses.old.entries phase response) }
-{
-    if !responses.contains_key(&phase) {
-        responses.insert(phase, response)?;
-    }
-    Ok(())
 }
 
 // The response of a hold: it never ends sooner in any state of the model.
@@ -97,7 +75,7 @@ fn ticks_in(low: i64) -> u64
 
 // The least response of the phases to which external rules go.
 fn soonest_of_rules(responses: &PhaseResponses, rules: &[Rule]) -> Response
-    ensures { ticks_of result ≡ soonest (response_in responses.now.entries) None
+    ensures { ticks_of result ≡ soonest (response_in (entries_in responses.now)) None
         (flat_map external_gotos_in (map rule_of rules.now)) }
 {
     let mut so_far = Response::Never;
@@ -116,7 +94,7 @@ fn soonest_of_statements(
     statements: &[Stmt],
     mut so_far: Response,
 ) -> Response
-    ensures { ticks_of result ≡ soonest (response_in responses.now.entries) (ticks_of so_far)
+    ensures { ticks_of result ≡ soonest (response_in (entries_in responses.now)) (ticks_of so_far)
         (gotos_in (statements_of statements.now)) }
 {
     for statement in statements {
@@ -128,8 +106,8 @@ fn soonest_of_statements(
 #[cycle(gotos)]
 fn soonest_of_statement(responses: &PhaseResponses, statement: &Stmt, so_far: Response) -> Response
     ensures { (rest : Statements)
-        → soonest (response_in responses.now.entries) (ticks_of result) (gotos_in rest)
-        ≡ soonest (response_in responses.now.entries) (ticks_of so_far)
+        → soonest (response_in (entries_in responses.now)) (ticks_of result) (gotos_in rest)
+        ≡ soonest (response_in (entries_in responses.now)) (ticks_of so_far)
         (gotos_in (statement_before statement.now rest)) }
 {
     // For the prover alone.
@@ -139,7 +117,7 @@ fn soonest_of_statement(responses: &PhaseResponses, statement: &Stmt, so_far: Re
             command: Command::Goto,
             name,
             ..
-        } => so_far.sooner(response_of_phase(responses, name.number)),
+        } => so_far.sooner(responses.of_phase(name.number)),
         Stmt::If { then_block, .. } => {
             soonest_of_statements(responses, &then_block.statements, so_far)
         }
@@ -160,11 +138,4 @@ fn soonest_of_statement(responses: &PhaseResponses, statement: &Stmt, so_far: Re
         | Stmt::Send { .. }
         | Stmt::Change { .. } => so_far,
     }
-}
-
-// The response of a phase: never if it has no hold.
-fn response_of_phase(responses: &PhaseResponses, phase: u32) -> Response
-    ensures { ticks_of result ≡ response_in responses.now.entries phase }
-{
-    responses.get(&phase).copied().unwrap_or(Response::Never)
 }

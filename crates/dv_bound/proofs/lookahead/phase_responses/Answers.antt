@@ -8,7 +8,7 @@ use Rattle.dv_syntax.specs.declared.tree.Hold.{Hold}
 use Rattle.dv_syntax.specs.Trees.{hold_of}
 use Rattle.dv_eval.specs.Scope.{hold_ticks}
 use Rattle.dv_bound.specs.Response.{hold_response}
-use Rattle.dv_bound.specs.Soonest.{found_or}
+use Rattle.dv_bound.specs.Soonest.{entries_in, found_or}
 use Rattle.dv_bound.proofs.Tables.{found_next}
 use Rattle.dv_bound.proofs.lookahead.phase_responses.Goals as goal
 
@@ -20,7 +20,7 @@ loop-hold-preserved c =
     let hold = c.hold-item.result in
     let left = drop (at.hold-index + 1) holds in
     let response = λ (phase : ℕ) (hs : List Hold). hold_response scope (hold_ticks phase (map hold_of hs)) in
-    let before = λ (phase : ℕ) (hs : List Hold). found_or (lookup (eqb phase) at.responses.entries) (response phase hs) in
+    let before = λ (phase : ℕ) (hs : List Hold). found_or (lookup (eqb phase) (entries_in at.responses)) (response phase hs) in
     let Shorts : ℕ → Type 0 = λ k.
     (h : Hold) → slice_get holds k ≡ Some h → IsShort (hold_response scope (hold_of h).ticks) in
     let here : Shorts at.hold-index = λ h there.
@@ -30,7 +30,7 @@ loop-hold-preserved c =
     record {
       found = λ phase.
           ap (λ entries. found_or (lookup (eqb phase) entries) (response phase left)) c.in_ok-insert_if_absent.ensures
-          ∙ found_next scope at.responses.entries (hold_of hold) (map hold_of left) c.hold_response.result phase
+          ∙ found_next scope (entries_in at.responses) (hold_of hold) (map hold_of left) c.hold_response.result phase
           c.hold_response.ensures.response
           ∙ ap (λ h. before phase (h ∷ left)) c.hold-item.is
           ∙ sym (at_drop_more (before phase) holds at.hold-index hold c.loop-hold-test.true)
