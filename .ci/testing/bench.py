@@ -5,8 +5,12 @@ import subprocess
 from dataclasses import dataclass, field
 from pathlib import Path
 
+from testing.notices import value_of, without_notices
+
 # Seconds that one call may take.
 LONGEST_CALL = 600
+# With these words a run prints no trace.
+STATS = ("--stats",)
 
 
 @dataclass(frozen=True)
@@ -43,7 +47,8 @@ class Bench:
 
     def call(self, words, given=b"", where=None, stood_in=None):
         """Calls the program with words, in its folder or where it is said. With `stood_in`, which has variables of the
-        environment, the library stands between it and the system."""
+        environment, the library stands between it and the system. What a run has to tell beside its trace is looked at here, and is
+        not in the answer."""
         environment = None
         if stood_in is not None:
             if self.stand_in is None:
@@ -61,4 +66,9 @@ class Bench:
             )
         except subprocess.TimeoutExpired as late:
             return Answer(None, late.stdout or b"", late.stderr or b"")
-        return Answer(ended.returncode, ended.stdout, ended.stderr)
+        told = ended.stderr
+        if words[:1] == ["run"] and ended.returncode in (0, 3, 4) and not any(word in words for word in STATS):
+            name = value_of(words, "--inputs")
+            inputs = given if name == "-" else (Path(where or self.folder) / name).read_bytes() if name else b""
+            told = without_notices(words, ended.returncode, ended.stdout, told, inputs)
+        return Answer(ended.returncode, ended.stdout, told)

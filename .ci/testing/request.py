@@ -100,8 +100,8 @@ class Request:
         if rounds > FEW_ROUNDS:
             # The run is whole after fewer.
             hidden.add("rounds")
-        if "only" in options:
-            # The component that comes to the limit is another one.
+        if options.get("only") == NO_PATH:
+            # Nothing is run.
             hidden.add("microsteps")
         if options.get("only") == NO_PATH or int(options.get("to", 10**15)) < int(options.get("horizon", 0)):
             hidden.add("horizon")

@@ -1,10 +1,11 @@
 //! The program: from the words of a command line to files, streams and an exit status.
 //!
 //! It checks models, runs them and prints their traces, prints programs, plans and graphs, prints
-//! traces as value change dumps, curves, numbers and tables, and explains refusals and faults. `dv_command`
-//! reads the words. The modules here open the files, call `dv_job` for runs and `dv_views` for
-//! views, and print errors on standard error, which `dv_cause` explains. Progress is printed by the
-//! writer of a run, so none is shown while no line is written.
+//! traces as value change dumps, curves, numbers and tables, and explains refusals and faults.
+//! `dv_command` reads the words. The modules here open the files, call `dv_job` for runs and
+//! `dv_views` for views, and print errors on standard error, which `dv_cause` explains. What a run
+//! does not show by itself is found by `dv_notice`. Progress is printed by the writer of a run, so
+//! none is shown while no line is written.
 //!
 //! No contract speaks of files or terminals: the claims of `dv_job` end at the writer. The test of
 //! this crate is the first model of the README (`stdout`). The other commands are tested by scripts
@@ -15,12 +16,14 @@
 mod faulted;
 /// Reads the files that a command line names.
 mod files;
-/// A writer that counts lines for the progress.
+/// A writer of the lines of a run.
 mod lines;
 /// The subcommands `check`, `code`, `plan` and `graph`.
 mod models;
 /// A writer that keeps the cause of a failed write.
 mod noted;
+/// Tells what a run does not show by itself.
+mod noticed;
 /// `run --stats`.
 mod numbers;
 /// How the program was built.

@@ -9,6 +9,7 @@ use crate::told::tell_error;
 use dv_command::StatsChoice;
 use dv_job::load::{accept, load};
 use dv_job::{JobEnded, JobError, status};
+use dv_notice::FaultCount;
 use dv_trace::End;
 use dv_views::{Form, StatsOptions, StatsWriter, Tree, ViewError, numbers_of};
 use std::sync::Wait;
@@ -44,8 +45,9 @@ pub fn stats_options<'p>(
     }
 }
 
-/// Runs a job, prints the numbers of its trace, and returns the status. This is the status of the
-/// run if all numbers are printed; otherwise a message with the cause is printed.
+/// Runs a job, prints the numbers of its trace, and returns the status; counts its faults. The
+/// status is that of the run if all numbers are printed; otherwise a message with the cause is
+/// printed.
 ///
 /// # Errors
 ///
@@ -56,6 +58,7 @@ pub fn print_numbers<R: AllocGlobal + Clock + Print + Eprint + Threads + Wait + 
     rt: &R,
     job: &Job<'_>,
     choice: &StatsChoice,
+    faults: &mut FaultCount,
     progress: Option<Progress<'_, R>>,
 ) -> Result<u8, ViewError> {
     let alloc = rt.alloc();
@@ -64,7 +67,7 @@ pub fn print_numbers<R: AllocGlobal + Clock + Print + Eprint + Threads + Wait + 
         tree: accept(alloc, job.texts.model.bytes, &checked)?,
         only: choice.only.clone()?,
     };
-    count_run(rt, job, &counted, choice, progress)
+    count_run(rt, job, &counted, choice, faults, progress)
 }
 
 /// The same as `print_numbers`, with the tree of the model.
@@ -73,18 +76,22 @@ fn count_run<R: AllocGlobal + Clock + Print + Eprint + Threads + Wait + Sync>(
     job: &Job<'_>,
     counted: &Counted<'_>,
     choice: &StatsChoice,
+    faults: &mut FaultCount,
     progress: Option<Progress<'_, R>>,
 ) -> Result<u8, ViewError> {
     let options = stats_options(choice, counted.only.as_ref(), End::Required);
     let mut lines = Lines {
         writer: numbers_of(rt.alloc(), &counted.tree, &options)?,
+        faults: FaultCount::new(),
         progress,
     };
     let ended = run_job(rt, job, &mut lines);
     let Lines {
         writer,
+        faults: found,
         progress: _,
     } = lines;
+    *faults = found;
     Ok(print_counted(rt, job, writer, &ended))
 }
 

@@ -5,6 +5,7 @@ use crate::noted::Noted;
 use crate::progress::Progress;
 use crate::told::{Texts, tell_reason, tell_view_error};
 use crate::{ACCEPTED, REFUSED};
+use dv_notice::FaultCount;
 use dv_text::WriteError;
 use dv_views::ViewError;
 use std::io;
@@ -40,12 +41,13 @@ where
     }
 }
 
-/// Prints the lines that `print` writes, as `print_through` does, and the progress.
+/// Prints the lines that `print` writes, as `print_through` does, and the progress. Also returns
+/// the faults among them.
 pub fn print_lines<'a, R, T, E, F>(
     rt: &'a R,
     progress: Option<Progress<'a, R>>,
     print: F,
-) -> Printed<T, E>
+) -> (Printed<T, E>, FaultCount)
 where
     R: Print + Eprint + Clock,
     T: Drop,
@@ -55,6 +57,7 @@ where
 {
     let mut lines = Lines {
         writer: Noted::new(io::writer(rt)),
+        faults: FaultCount::new(),
         progress,
     };
     let mut result = print(&mut lines);
@@ -63,12 +66,14 @@ where
     }
     let Lines {
         writer,
+        faults,
         progress: _,
     } = lines;
-    Printed {
+    let printed = Printed {
         result,
         reason: writer.into_reason(),
-    }
+    };
+    (printed, faults)
 }
 
 impl<T> Printed<T, ViewError> {

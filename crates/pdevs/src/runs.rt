@@ -1,14 +1,15 @@
 //! The subcommand `run`.
 
-use crate::faulted::tell_faults;
 use crate::files::{read, read_inputs, read_parting};
+use crate::noticed::tell_notices;
 use crate::numbers::print_numbers;
 use crate::printed::print_lines;
 use crate::progress::Progress;
 use crate::told::{Texts, tell_error, tell_view_error};
-use crate::{FAULTED, REFUSED, USAGE};
+use crate::{REFUSED, USAGE};
 use dv_command::Run;
 use dv_job::{Driver, JobEnded, JobError, Options, run_by_workers, run_bytes, status};
+use dv_notice::FaultCount;
 use dv_partition::Partition;
 use std::io;
 use std::io::Write;
@@ -51,19 +52,45 @@ pub fn run_job<R: AllocGlobal + Threads + Wait + Sync, W: Write>(
     }
 }
 
-/// Runs a job, prints its trace, and returns the status. If not all of it is printed, a message
-/// with the cause is printed.
+/// Runs a job, prints its trace, and returns the status; counts its faults. If not all of it is
+/// printed, a message with the cause is printed.
 fn print_trace<'a, R: AllocGlobal + Clock + Print + Eprint + Threads + Wait + Sync>(
     rt: &'a R,
     job: &Job<'_>,
+    faults: &mut FaultCount,
     progress: Option<Progress<'a, R>>,
 ) -> u8 {
-    let printed = print_lines(rt, progress, |writer| run_job(rt, job, writer));
+    let (printed, found) = print_lines(rt, progress, |writer| run_job(rt, job, writer));
+    *faults = found;
     if let Err(error) = &printed.result {
         tell_error(rt, job.texts, error, job.is_explained);
         printed.tell_reason(rt, job.is_explained);
     }
     status(&printed.result)
+}
+
+/// Runs a job, prints its trace or its numbers, and returns the status; counts its faults.
+fn print_run<R: AllocGlobal + Clock + Print + Eprint + Threads + Wait + Sync>(
+    rt: &R,
+    job: &Job<'_>,
+    run: &Run,
+    faults: &mut FaultCount,
+) -> u8 {
+    let progress = if run.progress {
+        Progress::begin(rt)
+    } else {
+        None
+    };
+    let Some(choice) = &run.stats else {
+        return print_trace(rt, job, faults, progress);
+    };
+    match print_numbers(rt, job, choice, faults, progress) {
+        Ok(status) => status,
+        Err(error) => {
+            tell_view_error(rt, job.texts, &error, job.is_explained);
+            REFUSED
+        }
+    }
 }
 
 /// Runs a model, prints its trace or its numbers, and returns the status. Files are read in the
@@ -100,23 +127,10 @@ pub fn run_model<R: AllocGlobal + Clock + Files + Input + Print + Eprint + Threa
         options: &options,
         is_explained: run.explained,
     };
-    let progress = if run.progress {
-        Progress::begin(rt)
-    } else {
-        None
-    };
-    let status = match &run.stats {
-        None => print_trace(rt, &job, progress),
-        Some(choice) => match print_numbers(rt, &job, choice, progress) {
-            Ok(status) => status,
-            Err(error) => {
-                tell_view_error(rt, job.texts, &error, job.is_explained);
-                REFUSED
-            }
-        },
-    };
-    if job.is_explained && status == FAULTED {
-        tell_faults(rt, &job);
+    let mut faults = FaultCount::new();
+    let status = print_run(rt, &job, run, &mut faults);
+    if status != REFUSED {
+        tell_notices(rt, &job, status, faults);
     }
     Ok(status)
 }
