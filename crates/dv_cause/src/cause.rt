@@ -60,7 +60,7 @@ pub fn cause_of(
 ) -> Result<String, AllocError> {
     match error {
         JobError::Text(refusal) => cause_in_model(alloc, model, refusal),
-        JobError::Inputs(refusal) => cause_in_inputs(alloc, inputs, refusal),
+        JobError::Inputs(refusal) => cause_in_inputs(alloc, model, inputs, refusal),
         JobError::Partition(_) | JobError::Write | JobError::Memory => Ok(String::new(alloc)),
     }
 }

@@ -2,7 +2,11 @@
 
 use crate::cause::Source;
 use dv_explain::{Cause, Quoted, Spot, pointed};
+use dv_hints::WantedSentence;
+use dv_hints::near::cause_of_unknown;
 use dv_inputs::{InputRefusal, InputRefusalNumber};
+use dv_job::JobError;
+use dv_job::load::{accept, load};
 use std::alloc::{AllocError, Global};
 
 /// A field of a line, with its offset in the line in bytes.
@@ -26,12 +30,13 @@ struct Flaw {
 /// An allocation was refused.
 pub fn cause_in_inputs(
     alloc: Global,
+    model: Source<'_>,
     inputs: Source<'_>,
     refusal: &InputRefusal,
 ) -> Result<String, AllocError> {
     let start = offset_of_line(inputs.bytes, refusal.line);
     let line = without_return(first_line(inputs.bytes.get(start..).unwrap_or(&[])));
-    let flaw = flaw_in(alloc, line, refusal.number)?;
+    let flaw = flaw_in(alloc, model.bytes, line, refusal.number)?;
     let code = format!(in alloc; "{}", refusal.number)?;
     let spot = Spot {
         name: inputs.name,
@@ -69,15 +74,17 @@ fn without_return(line: &[u8]) -> &[u8] {
     }
 }
 
-/// What is wrong in a line that is refused with this number.
-fn flaw_in(alloc: Global, line: &[u8], number: InputRefusalNumber) -> Result<Flaw, AllocError> {
+/// What is wrong in a line that is refused with this number. The model is accepted.
+fn flaw_in(
+    alloc: Global,
+    model: &[u8],
+    line: &[u8],
+    number: InputRefusalNumber,
+) -> Result<Flaw, AllocError> {
     let fields = fields_of(alloc, line)?;
     let (index, summary) = match number {
         InputRefusalNumber::I1 => return malformed(alloc, line, &fields),
-        InputRefusalNumber::I2 => (
-            1,
-            format!(in alloc; "the root has no input port {}", quoted(&fields, 1))?,
-        ),
+        InputRefusalNumber::I2 => return unknown_port(alloc, model, &fields),
         InputRefusalNumber::I3 => (
             0,
             format!(in alloc;
@@ -104,6 +111,41 @@ fn flaw_in(alloc: Global, line: &[u8], number: InputRefusalNumber) -> Result<Fla
             sentences: String::new(alloc),
         },
     })
+}
+
+/// The flaw of a port that the root does not have, with the ports that it has.
+fn unknown_port(alloc: Global, model: &[u8], fields: &[Field<'_>]) -> Result<Flaw, AllocError> {
+    let names = input_names(alloc, model)?;
+    let mut texts: Vec<&str> = Vec::new(alloc);
+    for name in &names {
+        texts.push(name.as_str())?;
+    }
+    let Quoted(text) = quoted(fields, 1);
+    let wanted = WantedSentence {
+        wanted: "an input port of the root",
+        owner: "the root",
+        names: &texts,
+    };
+    Ok(Flaw {
+        offset: offset_of_field(fields, 1),
+        cause: cause_of_unknown(alloc, text, &texts, wanted)?,
+    })
+}
+
+/// The names of the root's input ports.
+fn input_names(alloc: Global, model: &[u8]) -> Result<Vec<String>, AllocError> {
+    match names_in(alloc, model) {
+        Ok(names) => Ok(names),
+        Err(JobError::Memory) => Err(AllocError),
+        // The model was accepted before the inputs were read.
+        Err(_) => Ok(Vec::new(alloc)),
+    }
+}
+
+fn names_in(alloc: Global, model: &[u8]) -> Result<Vec<String>, JobError> {
+    let checked = load(alloc, model)?;
+    let tree = accept(alloc, model, &checked)?;
+    Ok(tree.input_names(alloc)?)
 }
 
 /// A field in quotation marks.

@@ -19,6 +19,8 @@ mod command;
 mod command_line;
 /// From parts to requests for plans and graphs.
 mod divided;
+/// Words that other programs take.
+mod foreign;
 /// Values and options among parts.
 mod given;
 /// The help of subcommands and their words.

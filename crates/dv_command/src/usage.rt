@@ -1,6 +1,7 @@
 //! The text of help and of errors.
 
 use crate::command::command;
+use crate::foreign::foreign_reason;
 use crate::help::{Form, Value, WordHelp, subcommands};
 use crate::part::is_value;
 use clap::ArgMatches;
@@ -43,9 +44,10 @@ pub(crate) fn usage_text(alloc: Global, words: &[String]) -> Result<String, Allo
                 alloc,
                 "the version is asked for by the word --version, or -V",
             ),
-            _ => match first_misfit(words) {
-                Some(misfit) => refused_misfit(alloc, &misfit),
-                None => error.to_string(alloc),
+            _ => match (first_misfit(words), foreign_reason(words)) {
+                (Some(misfit), _) => refused_misfit(alloc, &misfit),
+                (None, Some(reason)) => refused(alloc, reason),
+                (None, None) => error.to_string(alloc),
             },
         },
     }

@@ -82,8 +82,12 @@ struct Foreign {
 /// expressions.
 const FOREIGN: &[Foreign] = &[
     Foreign {
-        words: &["const", "constant", "let", "define", "param", "parameter"],
+        words: &["const", "constant", "define", "param", "parameter"],
         sentence: "There are no constants: write the number itself, or `var n: 5..5 = 5;`, which keeps its value.\n",
+    },
+    Foreign {
+        words: &["let"],
+        sentence: "A variable is declared among the items of its model, by `var n: 0..9 = 0;`, and a rule assigns to it by `n := 1;`.\n",
     },
     Foreign {
         words: &["import", "include", "use", "require", "using"],
@@ -178,7 +182,7 @@ const FOREIGN: &[Foreign] = &[
     },
     Foreign {
         words: &["abs"],
-        sentence: "There is no `abs`: write `if n < 0 { n := -n; }`.\n",
+        sentence: "There is no `abs`: write `if a < b { n := b - a; } else { n := a - b; }`.\n",
     },
     Foreign {
         words: &[

@@ -53,7 +53,8 @@ pub enum Part {
     End,
 }
 
-const OPEN_BRACE: Part = Part::Sign(Symbol::OpenBrace, "{");
+/// The brace that begins a model or a block.
+pub const OPEN_BRACE: Part = Part::Sign(Symbol::OpenBrace, "{");
 
 const CLOSE_BRACE: Part = Part::Sign(Symbol::CloseBrace, "}");
 

@@ -29,6 +29,9 @@ pub fn slip_at(text: &[u8], offset: usize) -> &'static str {
     if is_else_if(before, after) {
         return "After `else` comes a block: `else { if .. { .. } }`.\n";
     }
+    if is_list_of_parts(before, after) {
+        return "There are no lists of parts: write an item for each, as `part a1: A; part a2: A;`.\n";
+    }
     match slips().iter().find(|slip| is_at(slip, before, after)) {
         Some(slip) => slip.words,
         None => "",
@@ -100,6 +103,46 @@ fn slips() -> &'static [Slip] {
             before: "",
             after: "||",
             words: "Alternative conditions are joined by `or`.\n",
+        },
+        Slip {
+            before: "",
+            after: "&",
+            words: "There are no operations on bits; conditions are joined by `and`.\n",
+        },
+        Slip {
+            before: "",
+            after: "|",
+            words: "There are no operations on bits; alternative conditions are joined by `or`.\n",
+        },
+        Slip {
+            before: "",
+            after: "<<",
+            words: "There are no operations on bits: multiply by a power of 2.\n",
+        },
+        Slip {
+            before: "<",
+            after: "<",
+            words: "There are no operations on bits: multiply by a power of 2.\n",
+        },
+        Slip {
+            before: ">",
+            after: ">",
+            words: "There are no operations on bits: divide by a power of 2.\n",
+        },
+        Slip {
+            before: "",
+            after: "≤",
+            words: "At most is written `<=`.\n",
+        },
+        Slip {
+            before: "",
+            after: "≥",
+            words: "At least is written `>=`.\n",
+        },
+        Slip {
+            before: "",
+            after: "≠",
+            words: "Unequal is written `!=`.\n",
         },
         Slip {
             before: "",
@@ -236,6 +279,19 @@ fn is_hyphen(before: &[u8], after: &[u8]) -> bool {
             && right.is_ascii_alphabetic(),
         _ => false,
     }
+}
+
+/// Whether a bracket follows the name of a part in its item.
+fn is_list_of_parts(before: &[u8], after: &[u8]) -> bool {
+    let words = before
+        .iter()
+        .rev()
+        .take_while(|byte| !matches!(byte, b';' | b'{'))
+        .count();
+    let item = before
+        .get(before.len().saturating_sub(words)..)
+        .unwrap_or(&[]);
+    after.starts_with(b"[") && item.trim_ascii_start().starts_with(b"part ")
 }
 
 /// Whether an `if` follows an `else`.

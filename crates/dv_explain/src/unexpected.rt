@@ -4,7 +4,7 @@
 use crate::cause::Cause;
 use crate::expectations::{Expectations, expectations_at};
 use crate::foreign::{foreign_at, name_at, symbol_at};
-use crate::grammar::{ASSIGN, COLON, DOT, EQUAL, Part, SEMICOLON, is_comparison};
+use crate::grammar::{ASSIGN, COLON, DOT, EQUAL, OPEN_BRACE, Part, SEMICOLON, is_comparison};
 use crate::met::met_at;
 use crate::quoted::Quoted;
 use crate::slips::{begins_line, slip_at};
@@ -85,7 +85,8 @@ fn end_of_link(alloc: Global, name: &str) -> Result<String, AllocError> {
         String::from_str(alloc, "An end of a link is `PART.PORT` or `self.PORT`.\n")
     } else {
         format!(in alloc;
-            "An end of a link is `PART.PORT`: the port {} of the model itself is written `self.{name}`.\n",
+            "An end of a link is `PART.PORT`, as `{name}.x` for a port of the part {}; the port {} of the model itself is written `self.{name}`.\n",
+            Quoted(name),
             Quoted(name)
         )
     }
@@ -115,10 +116,39 @@ fn hint_at(read: &Tokens, number: usize, expected: &Expectations) -> &'static st
     if !foreign.is_empty() {
         return foreign;
     }
+    let earlier = hint_after(read, number, expected);
+    if !earlier.is_empty() {
+        return earlier;
+    }
     let is_assigned = symbol_at(read, number.saturating_add(1)) == Some(Symbol::Assign);
     match read.tokens.get(number) {
         Some(token) => hint_on(expected, token.kind, is_assigned),
         None => hint_on_end(expected),
+    }
+}
+
+/// A sentence on the statement that the tokens before the one at index `number` begin, or an empty
+/// text.
+fn hint_after(read: &Tokens, number: usize, expected: &Expectations) -> &'static str {
+    let before = keyword_at(read, number.checked_sub(1));
+    let earlier = keyword_at(read, number.checked_sub(2));
+    let is_value = expected.have(Part::Expression) || expected.have(Part::Operators);
+    if before == Some(Keyword::Send) || (earlier == Some(Keyword::Send) && is_value) {
+        "The port comes first, and then the value: `send y 1;`.\n"
+    } else if earlier == Some(Keyword::Goto) && expected.have(SEMICOLON) {
+        "`goto` names a phase alone; how long it lasts is declared by `hold z: 5;`.\n"
+    } else if number == 0 && symbol_at(read, 1) == Some(Symbol::Dot) {
+        "This looks like a trace: a model begins with `atomic`, `coupled` or `version`.\n"
+    } else {
+        ""
+    }
+}
+
+/// The reserved word that the token at an index is, if it is one.
+fn keyword_at(read: &Tokens, number: Option<usize>) -> Option<Keyword> {
+    match read.tokens.get(number?)?.kind {
+        TokenKind::Keyword(word) => Some(word),
+        TokenKind::Name(_) | TokenKind::Number(_) | TokenKind::Symbol(_) => None,
     }
 }
 
@@ -203,6 +233,8 @@ fn hint_on_sign(expected: &Expectations, symbol: Symbol) -> &'static str {
         "`:=` assigns in a statement; conditions and start values are written with `=`.\n"
     } else if symbol == Symbol::Star && expected.have(Part::Name) {
         "`*` is not a wildcard: write a rule for each phase, and a link for each port.\n"
+    } else if is_arithmetic(symbol) && expected.have(EQUAL) {
+        "A bound is a number, with or without `-`: work it out.\n"
     } else if symbol == Symbol::Comma && !expected.have(Part::Operators) {
         hint_on_comma(expected)
     } else if symbol == Symbol::Semicolon && expected.have(ASSIGN) {
@@ -214,9 +246,18 @@ fn hint_on_sign(expected: &Expectations, symbol: Symbol) -> &'static str {
     }
 }
 
+fn is_arithmetic(symbol: Symbol) -> bool {
+    matches!(
+        symbol,
+        Symbol::Plus | Symbol::Minus | Symbol::Star | Symbol::Slash | Symbol::Percent
+    )
+}
+
 fn hint_on_comma(expected: &Expectations) -> &'static str {
     if expected.have(SEMICOLON) || expected.have(COLON) || expected.have(EQUAL) {
         "Each name needs an item of its own, as `in x; in z;`.\n"
+    } else if expected.have(OPEN_BRACE) {
+        "A rule is for one phase: write one for each.\n"
     } else {
         ""
     }

@@ -71,4 +71,5 @@ mod wanted;
 mod words;
 
 pub use hint::hint_on;
+pub use lists::WantedSentence;
 pub use near::unknown_name;
