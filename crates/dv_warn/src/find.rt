@@ -3,12 +3,14 @@
 use crate::atomic::AtomicModel;
 use crate::constants::Nowhere;
 use crate::findings::Findings;
+use crate::gotos::find_behind_gotos;
 use crate::links::{InsideLinks, PortLinks, links_inside, port_links};
 use crate::mentions::{ReadRule, mentions_in_holds, rules_of};
 use crate::models::find_unreached_models;
 use crate::names::{Uses, find_unused_names};
 use crate::parts::{find_unlinked_parts, find_unlinked_ports};
 use crate::phases::{Phase, phases_of};
+use crate::ranges::find_outside_ranges;
 use crate::reach::{phases_behind_internal_rules, reached_phases};
 use crate::rules::{Reach, find_constant_conditions, find_in_phase};
 use crate::warning::Found;
@@ -70,6 +72,8 @@ fn find_in_atomic(
     let rules = rules_of(alloc, model.atomic)?;
     find_unused(alloc, model, &rules, findings)?;
     find_constant_conditions(findings, &rules, nowhere)?;
+    find_behind_gotos(findings, &rules)?;
+    find_outside_ranges(findings, &rules, model.scope, nowhere)?;
     let phases = phases_of(alloc, model.atomic, model.scope, rules, nowhere)?;
     find_in_phases(alloc, model, &phases, findings)
 }

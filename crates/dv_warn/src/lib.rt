@@ -1,7 +1,7 @@
 //! Warnings: probable mistakes in a model that is accepted.
 //!
 //! `find_warnings` looks for names that nothing uses, phases that nothing reaches, rules that never
-//! run, and values that are lost. Each `Warning` comes with the offset of the token to which it
+//! run, values that are lost, statements behind a `goto`, and numbers outside of their ranges. Each `Warning` comes with the offset of the token to which it
 //! belongs. `write_warnings` prints them in the order of the text, one a line.
 //!
 //! `dv_views` calls it for `check --warn`. It is proved that these calls are safe and return, and
@@ -17,6 +17,8 @@ mod constants;
 pub mod find;
 /// The list of the warnings found so far.
 mod findings;
+/// Warnings about statements behind a `goto`.
+mod gotos;
 /// Which ports have links.
 mod links;
 /// What rules and holds do with names.
@@ -29,6 +31,8 @@ mod names;
 mod parts;
 /// The phases of an atomic model, with their holds and rules.
 mod phases;
+/// Warnings about numbers outside of the range of a variable.
+mod ranges;
 /// Which phases can be reached.
 mod reach;
 /// Warnings about phases and rules.

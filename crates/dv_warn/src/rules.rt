@@ -161,8 +161,8 @@ fn find_constant_conditions_of(
     Ok(())
 }
 
-// The condition of an `if`, with the offset of the `if`.
-fn condition_of(statement: &Stmt) -> Option<(u32, &Expr)> {
+/// The condition of an `if`, with the offset of the `if`.
+pub(crate) fn condition_of(statement: &Stmt) -> Option<(u32, &Expr)> {
     match statement {
         Stmt::If {
             offset,

@@ -173,6 +173,38 @@ pub enum Warning<'a> {
         /// The name of the phase.
         phase: &'a str,
     },
+    /// A statement stands behind a `goto` in the same block, and runs all the same.
+    BehindGoto {
+        /// The name of the phase of the `goto`.
+        phase: &'a str,
+    },
+    /// A `goto` stands directly behind another one.
+    ReplacedGoto {
+        /// The name of the phase of the first one.
+        phase: &'a str,
+    },
+    /// A constant that is assigned to a variable is outside of its range.
+    OutsideRange {
+        /// The name of the variable.
+        name: &'a str,
+        /// The constant.
+        number: i64,
+        /// The least number of the range.
+        low: i64,
+        /// The greatest number of the range.
+        high: i64,
+    },
+    /// A condition has the same value whatever number of its range a variable has.
+    DecidedByRange {
+        /// The value.
+        value: bool,
+        /// The name of the variable.
+        name: &'a str,
+        /// The least number of the range.
+        low: i64,
+        /// The greatest number of the range.
+        high: i64,
+    },
     /// A condition uses no names, so it always has the same value.
     ConstantCondition {
         /// The value.
@@ -252,11 +284,37 @@ impl fmt::Display for Warning<'_> {
             Warning::EndlessPhase { phase } => {
                 write_named(f, "no rule leaves the phase", phase, BEGINS_AGAIN)
             }
-            Warning::ConstantCondition { value: true } => {
-                f.write_str("this condition is always true")
+            Warning::BehindGoto { phase } => {
+                write_named(
+                    f,
+                    "this runs although a `goto` stands before it, to",
+                    phase,
+                    ENDS_NONE,
+                )
             }
-            Warning::ConstantCondition { value: false } => {
-                f.write_str("this condition is always false")
+            Warning::ReplacedGoto { phase } => {
+                write_named(f, "this `goto` replaces the one before it, to", phase, "")
+            }
+            Warning::OutsideRange {
+                name,
+                number,
+                low,
+                high,
+            } => write!(
+                f,
+                "{number} is outside of {low}..{high}, the range of `{name}`"
+            ),
+            Warning::DecidedByRange {
+                value,
+                name,
+                low,
+                high,
+            } => write!(
+                f,
+                "this condition is always {value}: `{name}` is in {low}..{high}"
+            ),
+            Warning::ConstantCondition { value } => {
+                write!(f, "this condition is always {value}")
             }
         }
     }
@@ -265,6 +323,8 @@ impl fmt::Display for Warning<'_> {
 const IS_UNUSED: &str = " is never used";
 
 const IS_LOST: &str = " is lost: it has no external rule";
+
+const ENDS_NONE: &str = ": a `goto` ends no rule";
 
 const BEGINS_AGAIN: &str =
     ", whose hold is 0: it begins again at once, until the fault `microsteps`";
