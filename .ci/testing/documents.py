@@ -20,11 +20,11 @@ from pathlib import Path
 
 from testing.trial import Group, Trial, difference
 
-DOCUMENTS = ("README.md", "docs/TUTORIAL.md", "docs/ERRORS.md", "docs/PARALLEL.md", "docs/LOOKING.md")
+DOCUMENTS = ("README.md", "docs/TUTORIAL.md", "docs/ERRORS.md", "docs/PARALLEL.md", "docs/LOOKING.md", "docs/STUDY.md", "parts/README.md")
 # A document that shows no models calls those of another one by these names.
 BORROWED = {"docs/LOOKING.md": ("README.md", ("plant.pd", "model.pd"), ("rain.txt",))}
 # What is there where a command is run, beside what it names itself.
-LINKED = ("examples", "scripts", "tick.pd")
+LINKED = ("examples", "parts", "scripts", "tick.pd")
 # Programs that may be missing, whose output is a picture or is shown on a screen.
 FOREIGN = ("dot", "jq", "sqlite3", "gtkwave")
 CUT = re.compile(rf" \| ({'|'.join(FOREIGN)})\b.*")
@@ -92,7 +92,7 @@ def is_printed(lines, number):
 
 def named(line):
     """The files of models and of inputs that a command names."""
-    model = re.search(r"\./pdevs \w+(?: --warn)? (\S+\.pd)", line)
+    model = re.search(r"(?:\./pdevs \w+(?: --warn)?|scripts/replicate\.py) (\S+\.pd)", line)
     inputs = re.search(r"--inputs (\S+)", line)
     return (model[1] if model else None), (inputs[1] if inputs else None)
 
