@@ -60,9 +60,17 @@ fn push_case(
         Stmt::If { condition, .. } | Stmt::IfElse { condition, .. } => {
             push_operation(text, atom, moment, condition)
         }
-        // That a queue is empty is said with the values read. A loop and a `goto` have no fault.
         Stmt::Command {
-            command: Command::Pop | Command::Goto,
+            command: Command::Pop,
+            name,
+            ..
+        } => {
+            let name = Quoted(atom.name(name.number));
+            writeln!(text, "{name} is empty, so it has no value to take away.")
+        }
+        // These have no fault.
+        Stmt::Command {
+            command: Command::Goto,
             ..
         }
         | Stmt::For { .. } => Ok(()),
