@@ -2,10 +2,10 @@
 //!
 //! Each call takes the bytes of a model, and those of a trace, inputs or a partition if it needs
 //! them, and writes one view: `graph_bytes` a graph, `vcd_bytes` a value change dump, `stats_bytes`
-//! numbers, `table_bytes` a table, `plot_bytes` curves, `warnings_bytes` warnings. `faults_text` runs the model again
-//! and explains its faults. All of them read the model by `load` and `accept` of `dv_job`, so a
-//! model is refused with the same answer as by a run. A `ViewError` is the answer to the first text
-//! that is refused.
+//! numbers, `table_bytes` a table, `plot_bytes` curves, `warnings_bytes` warnings. `faults_text`
+//! runs the model again and explains its faults. All of them read the model by `load` and `accept`
+//! of `dv_job`, so a model is refused with the same answer as by a run. A `ViewError` is the answer
+//! to the first text that is refused.
 //!
 //! The program calls these for `graph`, `vcd`, `stats`, `table`, `plot`, `check --warn` and `run
 //! --explain`. No trace depends on a view, and nothing is claimed of a view except that it is made

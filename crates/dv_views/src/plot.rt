@@ -37,8 +37,8 @@ pub fn plot_bytes<T: Read, W: Write>(
     plot_trace(alloc, &tree, &mut pieces, names, options, writer)
 }
 
-// Writes a picture of a trace, whose first piece was read. `finish` returns the error of a line that
-// is not taken.
+// Writes a picture of a trace, whose first piece was read. `finish` returns the error of a line
+// that is not taken.
 fn plot_trace<T: Read, W: Write>(
     alloc: Global,
     tree: &Tree<'_>,
