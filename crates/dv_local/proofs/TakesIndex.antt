@@ -39,13 +39,13 @@ use Rattle.dv_local.proofs.Sending.{same_numbers}
 
 module _ {S R : Type 0} (behaviour : S → Behaviour) (x : LocalState S R) (n : ℕ) (outside : List Counts) (ds : List Delivery)
     (os : List (Indexed Outcome)) where
-  instant_part : AreEmitted behaviour x.share.tables n x.components.running x.emitted.items
-      → AreOutcomes behaviour x.share.tables n x.components.running outside ds x.emitted.items os
+  instant_part : AreEmitted behaviour x.share.tables n x.components.running x.emitted
+      → AreOutcomes behaviour x.share.tables n x.components.running outside ds x.emitted os
       → (es : List Entry) (ls : List Outer)
       → es ≡ entries_by x.share.tables.limit n (numbers_of x.share.tables.members.items)
-      (reactions_by x.share.tables.limit 0 x.components.running x.emitted.items os)
+      (reactions_by x.share.tables.limit 0 x.components.running x.emitted os)
       → ls ≡ outer_from x.share.tables.limit n 0
-      (inbox 0 (carried x.share.tables.exits (sent_in x.share.tables.members.items x.emitted.items)) 0 x.share.tables.outputs)
+      (inbox 0 (carried x.share.tables.exits (sent_in x.share.tables.members.items x.emitted)) 0 x.share.tables.outputs)
       → (let p : PartOf = record { entries = es; outer = ls } in p)
       ≡ part_of_instant x.share.tables.limit (network (flat_by behaviour x.share.tables)) n (outside, ds)
       (components_of x.share.tables.limit x.components.running)
@@ -96,11 +96,11 @@ module _ {S R : Type 0} (behaviour : S → Behaviour) (fits : S → State → Ty
   -- what components committed that reacted to all that comes is the part of the instant, and they are those after it
   pub took_index : (ss : List Running) (p : PartOf) → IsOfRun tables.limit now
       → (outside, ds) ≡ input_at (view_by behaviour told x) n
-      → AreComponents fits tables standing → AreEmitted behaviour tables n standing x.emitted.items
-      → AreAmong (indices_of x.emitted.items) (indices_of xs) → AreReceived tables.members.items (coming tables x.emitted.items outside ds) xs
-      → HaveReacted behaviour fits tables n standing x.emitted.items xs (indices_of xs) ss (told x.record).entries p.entries
+      → AreComponents fits tables standing → AreEmitted behaviour tables n standing x.emitted
+      → AreAmong (indices_of x.emitted) (indices_of xs) → AreReceived tables.members.items (coming tables x.emitted outside ds) xs
+      → HaveReacted behaviour fits tables n standing x.emitted xs (indices_of xs) ss (told x.record).entries p.entries
       → p.outer ≡ (told x.record).outer
-      ++ outer_from tables.limit n 0 (inbox 0 (carried tables.exits (sent_in tables.members.items x.emitted.items)) 0 tables.outputs)
+      ++ outer_from tables.limit n 0 (inbox 0 (carried tables.exits (sent_in tables.members.items x.emitted)) 0 tables.outputs)
       → x.undo.taken ≡ None
       → IsAfterInstant n (view_by behaviour told x)
       (let v : View = record {
@@ -113,14 +113,14 @@ module _ {S R : Type 0} (behaviour : S → Behaviour) (fits : S → State → Ty
       let limit = tables.limit in
       let net = network (flat_by behaviour tables) in
       let os = reacted.outcomes in
-      let outcomes : AreOutcomes behaviour tables n standing outside ds x.emitted.items os =
-      outcomes_are behaviour fits tables n standing x.emitted.items xs os outside ds are emitted among received reacted.indices
+      let outcomes : AreOutcomes behaviour tables n standing outside ds x.emitted os =
+      outcomes_are behaviour fits tables n standing x.emitted xs os outside ds are emitted among received reacted.indices
       reacted.right in
       let stand : StandByIndex (length tables.members.items) os =
       subst (λ (k : ℕ). StandByIndex k os) are.count outcomes.indices in
       let entries = reacted.entries
       ∙ ap (λ (es : List Entry). (told x.record).entries ++ es)
-      (entries_of_instant limit n x.emitted.items tables.members.items standing os are.count stand) in
+      (entries_of_instant limit n x.emitted tables.members.items standing os are.count stand) in
       record {
         share = refl;
         components =

@@ -55,22 +55,22 @@ module _ {S R : Type 0} (behaviour : S → Behaviour) (x : LocalState S R) (cs :
 pub received_few : {S R : Type 0} (behaviour : S → Behaviour) (fits : S → State → Type 0) (told : R → PartOf) (x : LocalState S R) (n : ℕ)
     (outside : List Counts) (ds : List Delivery) (xs : List (Indexed (List Counts))) (imminent : ℕ)
     → (outside, ds) ≡ input_at (view_by behaviour told x) n
-    → AreEmitted behaviour x.share.tables n x.components.running x.emitted.items
-    → AreReceived x.share.tables.members.items (coming x.share.tables x.emitted.items outside ds) xs
-    → AreTouched (indices_of x.emitted.items) xs → length x.emitted.items ≤ imminent
+    → AreEmitted behaviour x.share.tables n x.components.running x.emitted
+    → AreReceived x.share.tables.members.items (coming x.share.tables x.emitted outside ds) xs
+    → AreTouched (indices_of x.emitted) xs → length x.emitted ≤ imminent
     → length xs ≤ imminent + receiving_at (view_by behaviour told x) n
 received_few behaviour fits told x n outside ds xs imminent input emitted received touched few =
     let t = x.share.tables in
     let net = network (flat_by behaviour t) in
     let sent = sent_at (view_by behaviour told x) n in
-    let all : List (List Counts) = received_by (flat_by behaviour t).members (coming t x.emitted.items outside ds) in
+    let all : List (List Counts) = received_by (flat_by behaviour t).members (coming t x.emitted outside ds) in
     let same : net.arrives sent (input_at (view_by behaviour told x) n) ≡ all =
     ap (λ (i : List Counts × List Delivery). net.arrives sent i) (sym input)
-    ∙ received_of behaviour fits t n x.components.running x.emitted.items xs [] outside ds emitted in
-    let most : length xs ≤ length (indices_of x.emitted.items) + count_by (λ (bags : List Counts). not (all_empty bags)) all =
-    touched_few behaviour t.limit t.models.items (coming t x.emitted.items outside ds) t.members.items (indices_of x.emitted.items) xs
+    ∙ received_of behaviour fits t n x.components.running x.emitted xs [] outside ds emitted in
+    let most : length xs ≤ length (indices_of x.emitted) + count_by (λ (bags : List Counts). not (all_empty bags)) all =
+    touched_few behaviour t.limit t.models.items (coming t x.emitted outside ds) t.members.items (indices_of x.emitted) xs
     received touched in
-    let indices : length (indices_of x.emitted.items) ≡ length x.emitted.items =
-    length-map x.emitted.items (λ (e : Indexed (Result (List Counts) Fault)). e.index) in
+    let indices : length (indices_of x.emitted) ≡ length x.emitted =
+    length-map x.emitted (λ (e : Indexed (Result (List Counts) Fault)). e.index) in
     subst (λ (bags : List (List Counts)). length xs ≤ imminent + count_by (λ (b : List Counts). not (all_empty b)) bags) (sym same)
     (omega (arith, most, indices, few))

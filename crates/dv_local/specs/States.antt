@@ -44,7 +44,7 @@ settled_by behaviour settled x = record {
 
 -- what was sent at the time of the last emission
 abbrev pub sent_of : {S R : Type 0} → LocalState S R → List (List Counts)
-sent_of x = sents_by 0 x.share.tables.members.items x.emitted.items
+sent_of x = sents_by 0 x.share.tables.members.items x.emitted
 
 -- a delivery brings something: there is a copy, and a port for it
 abbrev pub IsOfPort : List Member → Delivery → Type 0
@@ -64,8 +64,8 @@ abbrev pub AreEmittedIf : {S R : Type 0} → (S → Behaviour) → LocalState S 
 AreEmittedIf behaviour x None = Unit {0}
 AreEmittedIf behaviour x (Some t) =
     IsOfRun x.share.tables.limit t
-    × AreEmitted behaviour x.share.tables (rank x.share.tables.limit t) x.components.running x.emitted.items
-    × (length x.emitted.items ≤ imminent_of x.share.tables.limit t x.components.running)
+    × AreEmitted behaviour x.share.tables (rank x.share.tables.limit t) x.components.running x.emitted
+    × (length x.emitted ≤ imminent_of x.share.tables.limit t x.components.running)
 
 -- the invariant of a state
 pub record IsKept {S R : Type 0} (behaviour : S → Behaviour) (fits : S → State → Type 0) (comes : S → List Counts → Type 0)
@@ -77,7 +77,7 @@ pub record IsKept {S R : Type 0} (behaviour : S → Behaviour) (fits : S → Sta
   pub arrive : AllArrive x.share.tables.limit x.share.tables.members.items x.inbox
   pub within : AreWithin (length x.components.running) x.undo.before
   pub before : AreComponents fits x.share.tables (undone x.undo.before x.components.running)
-  pub emitted : StandByIndex (length x.share.tables.members.items) x.emitted.items
+  pub emitted : StandByIndex (length x.share.tables.members.items) x.emitted
   pub still : AreEmittedIf behaviour x x.emitted_at
 
 -- nothing has changed since all was settled

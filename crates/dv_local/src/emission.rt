@@ -1,14 +1,15 @@
 //! What the imminent components emit.
 
-ghost use Rattle.std.specs.Prelude.{◌≡◌, OnOk, length};
+ghost use Rattle.std.specs.Prelude.{◌≡◌, ◌<◌, ℕ, OnOk, length};
+ghost use Rattle.std.specs.List.{All};
 ghost use Rattle.dv_proc.specs.Accesses.{IsCounted};
-ghost use Rattle.dv_react.specs.Components.{rank_of};
+ghost use Rattle.dv_share.specs.Indices.{AreRising};
 ghost use Rattle.dv_share.specs.Share.{AreComponents, AreDue, AreEmitted, AreTables, StandByIndex};
 
 use crate::components::Components;
-use dv_bag::{Fault, Sent};
-use dv_react::{Atomic, Instant};
-use dv_share::{Indexed, Tables, emit};
+use crate::emitted::Emitted;
+use dv_react::Atomic;
+use dv_share::Tables;
 use std::alloc::{AllocError, Global};
 
 /// Fills `emitted` with what the output functions of the components at the due indices give. Each
@@ -23,19 +24,19 @@ pub(crate) fn emit_all<A: Atomic>(
     alloc: Global,
     tables: &Tables<A>,
     work: &mut A::Work,
-    instant: &Instant,
     components: &mut Components,
     due: &[u32],
-    emitted: &mut Vec<Indexed<Result<Sent, Fault>>>,
+    emitted: &mut Emitted,
 ) -> Result<(), AllocError>
     requires tables { AreTables A.fits tables.now }
-    requires limit { instant.now.limit ≡ tables.now.limit }
     requires components { AreComponents A.fits tables.now components.old.running }
-    requires due { AreDue tables.now.limit (rank_of instant.now) components.old.running due.now }
-    ensures emitted { OnOk result (AreEmitted A.behaviour tables.now (rank_of instant.now)
-        components.old.running emitted.new.items) }
-    ensures indices { StandByIndex (length components.old.running) emitted.new.items }
-    ensures count { OnOk result (length emitted.new.items ≡ length due.now) }
+    requires rise { AreRising due.now }
+    requires within { All (λ p. p < length components.old.running) due.now }
+    ensures emitted { OnOk result ((now : ℕ)
+        → AreDue tables.now.limit now components.old.running due.now
+        → AreEmitted A.behaviour tables.now now components.old.running emitted.new) }
+    ensures indices { StandByIndex (length components.old.running) emitted.new }
+    ensures count { OnOk result (length emitted.new ≡ length due.now) }
     ensures components { components.new.running ≡ components.old.running }
     ensures visits { OnOk result (IsCounted (length due.now) (length due.now)
         components.old.visits components.new.visits) }
@@ -44,11 +45,7 @@ pub(crate) fn emit_all<A: Atomic>(
     emitted.clear();
     for index in due {
         components.visit(*index);
-        let what = emit(alloc, tables, work, instant, *index, components.visited())?;
-        emitted.push(Indexed {
-            index: *index,
-            what,
-        })?;
+        emitted.add(alloc, tables, work, *index, components.visited())?;
     }
     Ok(())
 }

@@ -37,6 +37,9 @@ mod commit;
 pub mod components;
 mod copies;
 mod emission;
+
+/// What components emitted.
+pub mod emitted;
 mod events;
 
 /// The undo log of components.
@@ -64,6 +67,7 @@ mod waiting;
 
 pub use beginning::begin;
 pub use components::Components;
+pub use emitted::Emitted;
 pub use former::Former;
 pub use inbox::Inbox;
 pub use local_run::LocalRun;

@@ -23,6 +23,7 @@ use crate::arriving::arrive;
 use crate::commit::commit;
 use crate::components::Components;
 use crate::emission::emit_all;
+use crate::emitted::Emitted;
 use crate::events::{add_events, bringing};
 use crate::former::Former;
 use crate::inbox::Inbox;
@@ -32,12 +33,12 @@ use crate::share::Share;
 use crate::undo::{Undo, agenda_of, let_go, put_all_back};
 use crate::waiting::{first_held, first_outside, is_taken};
 use dv_agenda::Agenda;
-use dv_bag::{Fault, Response, Sent};
+use dv_bag::Response;
 use dv_proc::{Event, Frame};
 use dv_react::{Atomic, Instant, Running};
 use dv_record::Record;
 use dv_share::tables::index_of;
-use dv_share::{Indexed, away, outer};
+use dv_share::{away, outer};
 use dv_time::{Time, earliest};
 use dv_written::{HandsOver, OfJob, WrittenPart};
 use std::alloc::{AllocError, Global};
@@ -63,7 +64,7 @@ pub struct LocalState<A, R> {
     /// What is needed to take back the changes since all was settled.
     pub undo: Undo,
     /// What the components emitted, or their faults, in the order of their indices.
-    pub emitted: Vec<Indexed<Result<Sent, Fault>>>,
+    pub emitted: Emitted,
     /// The time for which `emitted` was computed; `None` if components have changed since.
     pub emitted_at: Option<Time>,
     /// Lists of an instant, kept for their memory.
@@ -105,7 +106,7 @@ impl<A: Atomic + Drop, R: Record> LocalState<A, R> {
     {
         let room = running.len().min(ROOM_AT_FIRST);
         let before = Former::with_room(alloc, share.tables.models.len(), room)?;
-        let emitted = Vec::with_capacity(alloc, room)?;
+        let emitted = Emitted::with_room(alloc, room)?;
         let agenda = agenda_of(alloc, &running)?;
         let components = Components::new(running);
         Ok(LocalState {
@@ -246,17 +247,13 @@ impl<A: Atomic, R: Record> LocalState<A, R> {
         ensures handed { R.handed self.new.record ≡ R.handed self.old.record }
         ensures emitted { OnOk result (AreEmitted A.behaviour self.new.share.tables
             (rank self.new.share.tables.limit now) self.new.components.running
-            self.new.emitted.items) }
-        ensures few { OnOk result (length self.new.emitted.items
+            self.new.emitted) }
+        ensures few { OnOk result (length self.new.emitted
             ≤ imminent_of self.new.share.tables.limit now self.new.components.running) }
     {
         if is_taken(self.emitted_at, now) {
             return Ok(());
         }
-        let instant = Instant {
-            time: now,
-            limit: self.share.tables.limit,
-        };
         self.emitted_at = None;
         self.scratch.due.clear();
         self.agenda.due(now, &mut self.scratch.due)?;
@@ -264,7 +261,6 @@ impl<A: Atomic, R: Record> LocalState<A, R> {
             self.alloc,
             &self.share.tables,
             work,
-            &instant,
             &mut self.components,
             &self.scratch.due,
             &mut self.emitted,

@@ -3,7 +3,6 @@ use Rattle.std.proofs.Common.{◌≡◌, inl, inr, ℕ, zero, suc, ◌+◌, ◌<
 use Rattle.std.proofs.Common.{Option, Some, Result, Ok, Err, IsTrue, refl, sym, ap, ◌∙◌, subst, arith}
 use Rattle.std.specs.List.{All, slice_get}
 use Rattle.std.specs.Option.{unwrap_or}
-use Rattle.std.proofs.lemmas.Option.{same_Some}
 use Rattle.dv_bag.specs.Bag.{Counts}
 use Rattle.dv_bag.specs.declared.fault.Fault.{Fault}
 use Rattle.dv_devs.specs.Behaviour.{Behaviour, Component, emission, is_imminent}
@@ -26,18 +25,6 @@ abbrev pub IsGiven : {S : Type 0} → (S → Behaviour) → Tables S → ℕ →
 IsGiven behaviour t now rs p w =
     (m : Member) (r : Running) → slice_get t.members.items p ≡ Some m → slice_get rs p ≡ Some r
     → w ≡ emission (behaviour_of behaviour (slice_get t.models.items m.model)) now (component_of t.limit r)
-
-pub given_one : {S : Type 0} (behaviour : S → Behaviour) (t : Tables S) (now : ℕ) (rs : List Running) (p : ℕ)
-    (w : Result (List Counts) Fault) (m : Member)
-    (r : Running) (a : S) → slice_get t.members.items p ≡ Some m → slice_get rs p ≡ Some r → slice_get t.models.items m.model ≡ Some a →
-    emission (behaviour a) now (component_of t.limit r) ≡ w → IsGiven behaviour t now rs p w
-given_one {S} behaviour t now rs p w m r a at-m at-r at-a is = λ n q at-n at-q.
-    let same-m : m ≡ n = same_Some m n (sym at-m ∙ at-n) in
-    let same-r : r ≡ q = same_Some r q (sym at-r ∙ at-q) in
-    sym is
-    ∙ ap (λ (o : Option S). emission (behaviour_of behaviour o) now (component_of t.limit r)) (sym at-a)
-    ∙ ap (λ (n : Member). emission (behaviour_of behaviour (slice_get t.models.items n.model)) now (component_of t.limit r)) same-m
-    ∙ ap (λ (q : Running). emission (behaviour_of behaviour (slice_get t.models.items n.model)) now (component_of t.limit q)) same-r
 
 -- one that is quiet is not imminent, so what is sent is what was given
 loud_sends : (c : Component) (r : Result (List Counts) Fault) → c.quiet ≡ false → sent_by c r ≡ sent_of r
@@ -74,6 +61,29 @@ map_all {X} {Y} f P (x ∷ xs) h = λ k d lt. by_index (map_all f P xs (all_rest
     by_index : All P (map f xs) → (k : ℕ) (d : Y) → k < length (f x ∷ map f xs) → P (get_or (f x ∷ map f xs) k d)
     by_index rest zero d lt = all_first (λ x. P (f x)) x xs h
     by_index rest (suc k) d lt = rest k d (omega (arith, lt))
+
+-- what a component's output function gives, at its index
+abbrev pub IsOutput : {S : Type 0} → (S → Behaviour) → Tables S → List Running → ℕ → Result (List Counts) Fault → Type 0
+IsOutput behaviour t rs p w =
+    (m : Member) (r : Running) → slice_get t.members.items p ≡ Some m → slice_get rs p ≡ Some r
+    → w ≡ (behaviour_of behaviour (slice_get t.models.items m.model)).output r.state
+
+-- what the output functions of imminent components give is what the components emit
+pub outputs_given : {S : Type 0} (behaviour : S → Behaviour) (t : Tables S) (now : ℕ) (rs : List Running)
+    (es : List (Indexed (Result (List Counts) Fault))) (due : List ℕ) → AreDue t.limit now rs due → indices_of es ≡ due
+    → All (λ (e : Indexed (Result (List Counts) Fault)). IsOutput behaviour t rs e.index e.what) es
+    → All (λ (e : Indexed (Result (List Counts) Fault)). IsGiven behaviour t now rs e.index e.what) es
+outputs_given {S} behaviour t now rs es due are_due same outputs = λ k d lt m r at-m at-r.
+    let soon : is_imminent now (component_of t.limit r) ≡ true = imminent k d lt r at-r in
+    outputs k d lt m r at-m at-r ∙ rw soon refl
+  where
+    IsImminent : ℕ → Type 0
+    IsImminent p = (r : Running) → slice_get rs p ≡ Some r → is_imminent now (component_of t.limit r) ≡ true
+
+    imminent : All (λ (e : Indexed (Result (List Counts) Fault)). IsImminent e.index) es
+    imminent =
+        all_map (λ (e : Indexed (Result (List Counts) Fault)). e.index) IsImminent es
+        (subst (λ (ps : List ℕ). All IsImminent ps) (sym same) are_due.only)
 
 module _ {S : Type 0} (behaviour : S → Behaviour) (limit now : ℕ) (models : List S) (es : List (Indexed (Result (List Counts) Fault))) where
   emissions_are : (q : ℕ) (ms : List Member) (rs : List Running) → length rs ≡ length ms →

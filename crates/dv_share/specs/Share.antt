@@ -82,11 +82,16 @@ abbrev pub HasImminent : ℕ → ℕ → List Running → List ℕ → Type 0
 HasImminent limit now rs due =
     (p : ℕ) (r : Running) → slice_get rs p ≡ Some r → is_imminent now (component_of limit r) ≡ true → IsTrue (is_in p due)
 
--- indices that rise, among them all that are imminent
+-- a component at one of the indices is imminent
+abbrev pub AreImminent : ℕ → ℕ → List Running → List ℕ → Type 0
+AreImminent limit now rs due = All (λ p. (r : Running) → slice_get rs p ≡ Some r → is_imminent now (component_of limit r) ≡ true) due
+
+-- indices that rise: those of the components that are imminent, and no others
 pub record AreDue (limit now : ℕ) (rs : List Running) (due : List ℕ) : Type 0 where
   pub rise : AreRising due
   pub within : All (λ p. p < length rs) due
   pub imminent : HasImminent limit now rs due
+  pub only : AreImminent limit now rs due
 
 -- what the output function gave at an index; if none was applied, nothing is sent
 abbrev pub given_at : ℕ → List (Indexed (Result (List Counts) Fault)) → Result (List Counts) Fault

@@ -25,7 +25,7 @@ returns-clause-kept g c =
           (all_none (λ (p : Indexed Running). p.index < length rs));
       before = subst (λ (xs : List (Indexed Running)). AreComponents g.A.Atomic.fits t (undone xs rs)) (sym c.in_ok-before.ensures)
           (subst (λ (ss : List Running). AreComponents g.A.Atomic.fits t ss) same c.requires.components);
-      emitted = subst (λ (xs : List (Indexed _)). StandByIndex (length t.members.items) xs) (sym c.in_ok-emitted.ensures.items)
+      emitted = subst (λ (xs : List (Indexed _)). StandByIndex (length t.members.items) xs) (sym c.in_ok-emitted.ensures)
           (record { rise = tt; within = all_none _ });
       still = tt;
     }

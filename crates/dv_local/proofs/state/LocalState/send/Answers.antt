@@ -39,8 +39,8 @@ returns g c =
     ∙ ap (λ (v : Way). in_order (carried v.links (sent_in ms es))) (sym c.index-ways-index.is) in
     let here : in_order (carried w.links (sent_in ms es)) ≡ carried_away (view_by b g.R.Record.told x) w.links (sent_of x) =
     ap (λ (ns : List Member). in_order (carried w.links (sent_in ns es))) c.as_slice-members.ensures.value
-    ∙ ap (λ (fs : List (Indexed _)). in_order (carried w.links (sent_in t.members.items fs))) c.as_slice-emitted.ensures.value
-    ∙ ap (λ (ks : List ℕ). in_order (carried w.links (sent_from ks (sents_by 0 t.members.items x.emitted.items))))
+    ∙ ap (λ (fs : List (Indexed _)). in_order (carried w.links (sent_in t.members.items fs))) c.as_slice-emitted.ensures
+    ∙ ap (λ (ks : List ℕ). in_order (carried w.links (sent_from ks (sents_by 0 t.members.items x.emitted))))
     (sym (same_numbers b t.limit t.models.items t.members.items)) in
     where_ok c.add_events.result _ _ c.add_events.ensures
     (λ added out at.
