@@ -30,12 +30,12 @@
 mod actions;
 /// What short programs give, without the machine.
 pub mod at_once;
+/// What is combined with the number in hand.
+mod combining;
 /// How programs are decoded to operations.
 mod decode;
 /// The effect of a run so far.
 mod draft;
-/// What operations do.
-mod fused;
 /// What is in hand.
 mod hand;
 /// The instructions.
@@ -46,16 +46,24 @@ pub mod laws;
 mod leaf;
 /// Instructions as text.
 pub mod listing;
+/// What is read into the hand.
+mod loading;
 /// The open loops, as a stack.
 mod loops;
 /// The machine that runs programs.
 pub mod machine;
 /// One open loop.
 mod open_loop;
+/// What operations do.
+mod operate;
 /// Operations: several instructions at once.
 mod operation;
 /// The values of operators.
 mod operators;
+/// Where a run is between operations.
+mod place;
+/// Where values go.
+mod putting;
 /// Numbers that are read of collections.
 mod reading;
 /// Worked rows.
