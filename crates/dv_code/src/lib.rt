@@ -10,14 +10,14 @@
 //! copy, since the body may change the collection.
 //!
 //! When a program is made ready (`Valid::adopt`), each address gets an `Operation`, which does at
-//! once what one to three instructions from there on do: it reads a leaf, or combines the number on
-//! top with an operand (a number, a variable, a loop's item) or with the number below it, and puts
-//! a truth value where it goes: on the stack, into a flag, or it jumps by it. Each operator and
-//! kind of operand has an operation of its own, so that one jump finds all that is to be done. A
-//! value on top stays in hand, in a register, until an operation uses it or it has to go on the
-//! stack. An operation does nothing if one of its instructions would fault: then the instructions
-//! are performed one by one. So addresses stay the same, jumps may lead anywhere, and faults are
-//! found in one place.
+//! once what one to three instructions from there on do: it reads a leaf, or calculates with two of
+//! them, or combines the number on top with an operand (a number, a variable, a loop's item) or
+//! with the number below it, and puts a truth value where it goes: on the stack, into a flag, or it
+//! jumps by it. Each operator and kind of operand has an operation of its own, so that one jump
+//! finds all that is to be done. A value on top stays in hand, in a register, until an operation
+//! uses it or it has to go on the stack. An operation does nothing if one of its instructions would
+//! fault: then the instructions are performed one by one. So addresses stay the same, jumps may
+//! lead anywhere, and faults are found in one place.
 //!
 //! Programs that do little are recognized at the same time (`Short`): nothing, a `goto`, a leaf
 //! that is left or sent, a leaf added to a variable. `at_once` gives what these give, without the
