@@ -9,3 +9,4 @@ pub mod Stamps
 pub mod Tables
 pub mod Walks
 pub mod Views
+pub mod Spans

@@ -1,6 +1,7 @@
 -- What a reader has to believe: what it means to put a text into a slice, and the words of a component.
+pub mod Entries
 pub mod Records
 pub mod Rooms
-pub mod Words
+pub mod Spans
 pub mod Tables
-pub mod Entries
+pub mod Words

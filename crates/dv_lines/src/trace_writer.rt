@@ -1,8 +1,8 @@
 //! Writes a trace as text, part by part.
 
-ghost use Rattle.std.specs.Prelude.{◌≡◌, ◌++◌, ◌-◌, ◌≤◌, length, OnErr, OnOk, IfOk};
+ghost use Rattle.std.specs.Prelude.{◌≡◌, ◌++◌, ◌-◌, ◌≤◌, false, length, IsTrue, OnErr, OnOk, IfOk};
 ghost use Rattle.std.specs.Io.KnownBytes.{Appends};
-ghost use Rattle.std.specs.List.{flat_map};
+ghost use Rattle.std.specs.List.{All, flat_map};
 ghost use Rattle.std.specs.Ordering.{is_eq};
 ghost use Rattle.dv_bag.specs.Part.{IsByTime};
 ghost use Rattle.dv_bag.specs.declared.entry.Entry.{Entry as MeantEntry};
@@ -13,16 +13,17 @@ ghost use Rattle.dv_text.specs.Writing.{AppendsBeginning, StopsShort, TakesFront
 ghost use Rattle.dv_text.specs.declared.writing.Ending.TheVariants.{Whole};
 ghost use Rattle.dv_time.specs.Time.{time_cmp};
 ghost use Rattle.dv_lines.specs.Entries.{line_of};
+ghost use Rattle.dv_lines.specs.Spans.{SpanBegins, SpanPasses, is_first_before};
 
 use crate::lines::Lines;
 use crate::tree_words::TreeWords;
 use crate::written_part::written_part;
 use dv_bag::{Outer, Trace};
-use dv_merge::PartRefs;
+use dv_merge::{PartRefs, Span};
 use dv_text::{Ending, WriteError, hand_over, write_ending};
 use dv_time::Time;
 use dv_tree::Tree;
-use dv_written::{OfJob, WrittenPart};
+use dv_written::{OfJob, WrittenEntry, WrittenPart};
 use std::alloc::{AllocError, Global};
 use std::io::Write;
 use std::marker::{Brand, Model, PhantomData};
@@ -168,14 +169,93 @@ fn write_merged<N: OfJob, W: Write>(
 {
     lines.clear();
     let mut outer = part.outer();
-    for index in 0..part.entry_count() {
-        let entry = part.entry(index);
-        outer = write_before(lines, writer, words, entry.time(), outer)?;
-        lines.put(entry.line())?;
-        hand_over_if_long(lines, writer)?;
+    let spans = part.spans();
+    for span in spans {
+        outer = write_span(lines, writer, words, span, outer)?;
     }
     write_groups(lines, writer, words, outer)?;
     hand_over(writer, lines.as_bytes())
+}
+
+// Writes the lines of a span, merged by time with output lines. Returns the rest of these.
+fn write_span<'o, N: OfJob, W: Write>(
+    lines: &mut Lines,
+    writer: &mut W,
+    words: &TreeWords,
+    span: &Span<'_, N>,
+    outer: &'o [Outer],
+) -> Result<&'o [Outer], WriteError>
+    requires { (e : MeantEntry) → line_of (tree_names words.now) e ≡ N.line e }
+    ensures ok { IfOk result (λ left. SpanPasses words.now span.now
+        (W.contents writer.old) (W.contents writer.new) lines.old lines.new outer.now left.now) }
+    ensures err { OnErr result (SpanBegins words.now span.now
+        (W.contents writer.old) (W.contents writer.new) lines.old outer.now) }
+{
+    if is_none_after(span.entries(), outer) {
+        write_text(lines, writer, span.text())?;
+        return Ok(outer);
+    }
+    write_entries(lines, writer, words, span, outer)
+}
+
+// Whether no entry is after the first output line.
+fn is_none_after<N: OfJob>(entries: &[WrittenEntry<N>], outer: &[Outer]) -> bool
+    ensures { IsTrue result
+        → All (λ (e : MeantEntry). is_first_before outer.now e.time ≡ false) entries.now }
+{
+    let Some((first, _)) = outer.split_first() else {
+        return true;
+    };
+    for entry in entries {
+        if first.time.is_before(entry.time()) {
+            return false;
+        }
+    }
+    true
+}
+
+// Writes a text behind the lines so far. A long text is not copied.
+fn write_text<W: Write>(lines: &mut Lines, writer: &mut W, text: &[u8]) -> Result<(), WriteError>
+    ensures ok { OnOk result (TakesFront (W.contents writer.old) (W.contents writer.new)
+        (lines.old ++ text.now) lines.new) }
+    ensures err { OnErr result (AppendsBeginning (W.contents writer.old) (W.contents writer.new)
+        (lines.old ++ text.now)) }
+{
+    if text.len() >= PIECE_LENGTH {
+        hand_over(writer, lines.as_bytes())?;
+        lines.clear();
+        return hand_over(writer, text);
+    }
+    lines.put(text)?;
+    hand_over_if_long(lines, writer)
+}
+
+// Writes the lines of a span one by one, merged by time with output lines. Returns the rest of
+// these.
+fn write_entries<'o, N: OfJob, W: Write>(
+    lines: &mut Lines,
+    writer: &mut W,
+    words: &TreeWords,
+    span: &Span<'_, N>,
+    outer: &'o [Outer],
+) -> Result<&'o [Outer], WriteError>
+    requires { (e : MeantEntry) → line_of (tree_names words.now) e ≡ N.line e }
+    ensures ok { IfOk result (λ left. SpanPasses words.now span.now
+        (W.contents writer.old) (W.contents writer.new) lines.old lines.new outer.now left.now) }
+    ensures err { OnErr result (SpanBegins words.now span.now
+        (W.contents writer.old) (W.contents writer.new) lines.old outer.now) }
+{
+    let entries = span.entries();
+    let mut text = span.text();
+    let mut rest = outer;
+    for entry in entries {
+        rest = write_before(lines, writer, words, entry.time(), rest)?;
+        let (line, behind) = text.split_at(entry.line_length());
+        lines.put(line)?;
+        hand_over_if_long(lines, writer)?;
+        text = behind;
+    }
+    Ok(rest)
 }
 
 // Writes the lines so far if they are long enough.

@@ -1,52 +1,48 @@
 //! Parts with borrowed entries.
 
-ghost use Rattle.std.specs.Prelude.{◌≡◌, ◌≤◌, ◌<◌, ◌++◌, Some, filter, length, not, slice_get, take, IfOk, OnOk};
+ghost use Rattle.std.specs.Prelude.{◌≡◌, ◌++◌, IfOk, OnOk};
+ghost use Rattle.std.specs.Option.{option_to_list};
 ghost use Rattle.dv_bag.specs.Part.{IsByTime, before, joined, nothing, since};
-ghost use Rattle.dv_bag.specs.declared.entry.Entry.{Entry};
-ghost use Rattle.dv_time.specs.Time.{is_before};
+ghost use Rattle.dv_written.specs.Faults.{has_fault};
+ghost use Rattle.dv_merge.specs.Spans.{entries_of};
 
-use crate::indices::{entries_before, lines_between};
+use crate::indices::lines_between;
+use crate::span::Span;
 use dv_bag::Outer;
 use dv_time::Time;
-use dv_written::{OfJob, WrittenLine, WrittenPart};
+use dv_written::{OfJob, WrittenPart};
 use std::alloc::{AllocError, Global};
 use std::marker::Model;
 
-/// Borrowed entries with their lines, from one or several parts, and copies of their output lines.
+/// Borrowed entries with their lines, as spans of one or several parts, and copies of the output
+/// lines of these parts.
 #[derive(Drop)]
 pub struct PartRefs<'p, N: OfJob> {
-    pub(crate) entries: Vec<WrittenLine<'p, N>>,
+    pub(crate) spans: Vec<Span<'p, N>>,
     pub(crate) outer: Vec<Outer>,
 }
 
 impl<'p, N: OfJob> Model for PartRefs<'p, N> {
     ghost use Rattle.dv_bag.specs.Part.{PartOf};
+    ghost use Rattle.dv_merge.specs.Spans.{entries_of};
 
     ghost Value = { PartOf };
 
-    ghost view = { λ p. record { entries = p.entries.items; outer = p.outer.items } };
+    ghost view = { λ p. record { entries = entries_of p.spans.items; outer = p.outer.items } };
 }
 
-// Appends those of the first `count` entries of a part that are not before a time.
-fn push_lines<'p, N: OfJob>(
-    lines: &mut Vec<WrittenLine<'p, N>>,
-    part: &'p WrittenPart<N>,
-    count: usize,
-    from: Time,
+// Appends a span, if there is one.
+fn push_span<'p, N: OfJob>(
+    spans: &mut Vec<Span<'p, N>>,
+    span: Option<Span<'p, N>>,
 ) -> Result<(), AllocError>
-    requires { count ≤ length part.now.entries }
-    ensures { OnOk result (lines.new.items ≡ lines.old.items
-        ++ filter (λ (e : Entry). not (is_before e.time from)) (take count part.now.entries)) }
+    ensures { OnOk result (entries_of spans.new.items
+        ≡ entries_of spans.old.items ++ entries_of (option_to_list span.entry)) }
 {
-    let mut text = part.text();
-    for entry in &part.entries()[..count] {
-        let (line, behind) = text.split_at(entry.line_length());
-        if !entry.time().is_before(from) {
-            lines.push(WrittenLine::new(entry, line))?;
-        }
-        text = behind;
+    match span {
+        Some(span) => Ok(spans.push(span)?),
+        None => Ok(()),
     }
-    Ok(())
 }
 
 impl<'p, N: OfJob> PartRefs<'p, N> {
@@ -55,7 +51,7 @@ impl<'p, N: OfJob> PartRefs<'p, N> {
         ensures { result ≡ nothing }
     {
         PartRefs {
-            entries: Vec::new(alloc),
+            spans: Vec::new(alloc),
             outer: Vec::new(alloc),
         }
     }
@@ -69,7 +65,7 @@ impl<'p, N: OfJob> PartRefs<'p, N> {
         ensures { IfOk result (λ all. all ≡ part.now) }
     {
         let mut all = PartRefs::new(alloc);
-        push_lines(&mut all.entries, part, part.entry_count(), Time::ZERO)?;
+        push_span(&mut all.spans, Span::of(part.entries(), part.text()))?;
         all.outer = part.outer().to_vec(alloc)?;
         Ok(all)
     }
@@ -91,25 +87,30 @@ impl<'p, N: OfJob> PartRefs<'p, N> {
         ensures { OnOk result
             (self.new ≡ joined self.old (since from (before upto part.now))) }
     {
-        let count = entries_before(part.entries(), upto);
-        push_lines(&mut self.entries, part, count, from)?;
+        let span = Span::between(part.entries(), part.text(), from, upto);
+        push_span(&mut self.spans, span)?;
         let mut outer = lines_between(part.outer(), from, upto).to_vec(alloc)?;
         Ok(self.outer.append(&mut outer)?)
     }
 
-    /// The number of entries.
-    pub fn entry_count(&self) -> usize
-        ensures { result ≡ length self.now.entries }
+    /// The entries with their lines.
+    pub fn spans(&self) -> &[Span<'p, N>]
+        ensures { entries_of result.now ≡ self.now.entries }
     {
-        self.entries.len()
+        &self.spans
     }
 
-    /// An entry with its line. Indices count from 0.
-    pub fn entry(&self, index: usize) -> &WrittenLine<'p, N>
-        requires { index < length self.now.entries }
-        ensures { slice_get self.now.entries index ≡ Some result.now }
+    /// Whether an entry is a fault.
+    pub fn has_fault(&self) -> bool
+        ensures { result ≡ has_fault self.now }
     {
-        &self.entries[index]
+        let spans = self.spans();
+        for span in spans {
+            if span.has_fault() {
+                return true;
+            }
+        }
+        false
     }
 
     /// The output lines.

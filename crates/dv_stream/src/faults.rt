@@ -10,10 +10,5 @@ use dv_written::OfJob;
 pub fn has_fault<N: OfJob>(part: &PartRefs<'_, N>) -> bool
     ensures { result ≡ has_fault part.now }
 {
-    for index in 0..part.entry_count() {
-        if part.entry(index).is_fault() {
-            return true;
-        }
-    }
-    false
+    part.has_fault()
 }
