@@ -217,15 +217,25 @@ impl Variables {
     }
 
     /// Sets the variable at an index.
-    #[inline]
+    #[inline(always)]
     pub fn set_number(&mut self, index: usize, value: i64)
         requires { index < length self.old }
         ensures { self.new ≡ slice_set self.old index (datum.Number value) }
     {
         match &mut self.data[index] {
             Datum::Number(number) => *number = value,
-            other => *other = Datum::Number(value),
+            _ => self.replace_by_number(index, value),
         }
+    }
+
+    // `set_number` where something else stands. No rule does this, so it is not inlined.
+    #[cold]
+    #[inline(never)]
+    fn replace_by_number(&mut self, index: usize, value: i64)
+        requires { index < length self.old }
+        ensures { self.new ≡ slice_set self.old index (datum.Number value) }
+    {
+        self.data[index] = Datum::Number(value);
     }
 
     /// Sets the flag at an index.
