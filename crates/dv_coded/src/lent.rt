@@ -71,11 +71,14 @@ impl Atomic for Lent<'_> {
 
     ghost comes = { λ _ _. Unit {0} };
 
-    #[inline]
-    fn output(&self, work: &mut Bench, state: &State) -> Result<Sent, RuleError> {
+    #[inline(always)]
+    fn output(&self, work: &mut Bench, state: &State, into: &mut Sent) -> Result<(), RuleError> {
         match self.phase(state) {
-            Some(code) => work.output(&code.output, state),
-            None => Ok(Sent::empty(work.alloc, 0)),
+            Some(code) => work.output(&code.output, state, into),
+            None => {
+                *into = Sent::empty(work.alloc, 0);
+                Ok(())
+            }
         }
     }
 

@@ -20,6 +20,7 @@ use std::alloc::{AllocError, Global};
 ///
 /// No memory for what is sent. Some of the components were visited, and the list has what they
 /// send.
+#[inline(always)]
 pub(crate) fn emit_all<A: Atomic>(
     alloc: Global,
     tables: &Tables<A>,

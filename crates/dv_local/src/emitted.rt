@@ -100,7 +100,7 @@ impl Emitted {
         }
         let item = &mut self.items[self.count];
         item.index = index;
-        output(tables, work, index, component, &mut item.what)?;
+        output(alloc, tables, work, index, component, &mut item.what)?;
         self.count += 1;
         Ok(())
     }

@@ -91,9 +91,10 @@ impl Atomic for Atom<'_> {
 
     ghost comes = { λ _ _. Unit {0} };
 
-    fn output(&self, work: &mut Global, state: &State) -> Result<Sent, RuleError> {
+    fn output(&self, work: &mut Global, state: &State, into: &mut Sent) -> Result<(), RuleError> {
         let statements = rule_body(self.model, RuleSort::Output, self.phase_name(state));
-        Ok(run_rule(*work, statements, state, &Arrivals::nothing(), self.scope)?.sent)
+        *into = run_rule(*work, statements, state, &Arrivals::nothing(), self.scope)?.sent;
+        Ok(())
     }
 
     fn internal(&self, work: &mut Global, state: &mut State) -> Result<bool, RuleError> {

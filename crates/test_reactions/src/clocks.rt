@@ -5,7 +5,7 @@ ghost use Rattle.dv_coded.specs.Components.{StandsAmong};
 ghost use Rattle.dv_coded.specs.Models.{TakesState};
 ghost use Rattle.dv_share.specs.declared.tables.Member.{Member};
 
-use dv_bag::{DatumView, Response, RuleError, State};
+use dv_bag::{DatumView, Response, RuleError, Sent, State};
 use dv_coded::{Bench, Components, Lent, Programs, components_of};
 use dv_react::{Atomic, Wait};
 use dv_share::Member;
@@ -99,7 +99,8 @@ fn beat_of(bench: &mut Bench, clock: &Programs, state: &State) -> Result<Beat, R
     requires { TakesState clock.now state.now }
 {
     let clock = Lent::of(clock);
-    let sent = clock.output(bench, state)?;
+    let mut sent = Sent::empty(bench.alloc, 0);
+    clock.output(bench, state, &mut sent)?;
     let mut after = state.clone()?;
     let _goes = clock.internal(bench, &mut after)?;
     Ok(Beat {
