@@ -50,10 +50,10 @@ impl Inbox {
         }
     }
 
-    // Whether nothing arrives. In a process without incoming links this saves a search at each
-    // time.
+    /// Whether nothing arrives. In a process without incoming links this saves a search at each
+    /// time.
     #[inline]
-    fn is_empty(&self) -> bool
+    pub fn is_empty(&self) -> bool
         ensures { IsTrue result → (t : Time) → arrivals_at t self.now ≡ [] }
     {
         self.by_time.is_empty()

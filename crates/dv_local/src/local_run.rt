@@ -81,7 +81,7 @@ impl<A: Atomic + Drop, R: Record> Local for LocalRun<A, R> {
         self.state.next()
     }
 
-    #[inline]
+    #[inline(always)]
     fn first_input(&self, from: Time) -> Option<Time> {
         self.state.first_input(from)
     }

@@ -187,6 +187,21 @@ impl<A: Atomic, R: Record> LocalState<A, R> {
         ensures { IsFirstInput (view_by A.behaviour R.told self.now)
             (rank (view_by A.behaviour R.told self.now).share.limit from) result }
     {
+        // Most runs of one process have no input at all, and this is asked twice an instant.
+        if self.share.inputs.as_slice().is_empty() && self.inbox.is_empty() {
+            return None;
+        }
+        self.searched_input(from)
+    }
+
+    // `first_input`, by searches.
+    #[inline(never)]
+    fn searched_input(&self, from: Time) -> Option<Time>
+        requires kept { IsKept A.behaviour A.fits A.comes self.now }
+        requires of_run { IsOfRun (view_by A.behaviour R.told self.now).share.limit from }
+        ensures { IsFirstInput (view_by A.behaviour R.told self.now)
+            (rank (view_by A.behaviour R.told self.now).share.limit from) result }
+    {
         let held = first_held(&self.inbox, self.undo.taken, from);
         let outside = first_outside(self.share.inputs.as_slice(), from);
         earliest(held, outside)
