@@ -13,4 +13,5 @@ pub mod CheckedFiles
 pub mod WholeTrees
 pub mod SettledSizes
 pub mod Order
+pub mod Writable
 pub mod Computing

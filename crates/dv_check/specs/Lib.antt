@@ -10,6 +10,7 @@ pub mod Couplings
 pub mod Cycles
 pub mod Tree
 pub mod Refusals
+pub mod Writable
 -- What laws use.
 pub mod CheckedFiles
 pub mod Loops

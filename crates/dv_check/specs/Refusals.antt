@@ -2,15 +2,12 @@
 use Rattle.std.specs.Prelude.{◌≡◌, ℕ, suc, ◌==◌, nat_lt, Bool, ◌||◌, List, [], ◌∷◌, ◌++◌, map, Option, Some, None}
 use Rattle.std.specs.List.{flat_map}
 use Rattle.std.specs.Option.{option_or}
-use Rattle.dv_lex.specs.declared.token.Token.{Token}
 use Rattle.dv_lex.specs.declared.error.Refusal.{Refusal}
 use Rattle.dv_lex.specs.declared.error.RefusalNumber.TheVariants.{E6, E7, E16, E17}
 use Rattle.dv_lex.specs.declared.error.LoadError.{LoadError}
 use Rattle.dv_lex.specs.declared.error.LoadError.TheVariants.{Refused, Memory}
 use Rattle.dv_lex.specs.Order.{first_refusal}
-use Rattle.dv_lex.specs.Texts.{IsTokensOf}
 use Rattle.dv_syntax.specs.Trees.{ModelTree, AtomicModel, CoupledModel, FileTree}
-use Rattle.dv_syntax.specs.Grammar.{IsFileOf}
 use Rattle.dv_check.specs.Names.{refusal, refusal_if, repeats, name_of_model, model_named}
 use Rattle.dv_check.specs.Limits.{greatest_components, greatest_depth, greatest_instances}
 use Rattle.dv_check.specs.Rules.{atomic_refusals}
@@ -61,10 +58,3 @@ refusal_of f = option_or (first_refusal (refusals f)) (first_refusal (limit_refu
 abbrev pub IsAnswerTo : FileTree → LoadError → Type 0
 IsAnswerTo f (Refused r) = refusal_of f ≡ Some r
 IsAnswerTo f Memory = Unit {0}
-
--- the names and the file are those of one text
-pub record AreOfOneText (names : List (List ℕ)) (f : FileTree) : Type 0 where
-  pub text : List ℕ
-  pub tokens : List Token
-  pub lexed : IsTokensOf text names tokens
-  pub parsed : IsFileOf tokens f

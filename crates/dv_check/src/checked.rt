@@ -2,14 +2,15 @@
 
 ghost use Rattle.std.specs.Prelude.{◌≡◌, None};
 ghost use Rattle.dv_syntax.specs.Trees.{file_of};
-ghost use Rattle.dv_check.specs.Refusals.{AreOfOneText, refusal_of};
+ghost use Rattle.dv_check.specs.Refusals.{refusal_of};
 ghost use Rattle.dv_check.specs.Tree.{components_of};
+ghost use Rattle.dv_check.specs.Writable.{IsWritable};
 
 use dv_lex::Names;
 use dv_syntax::File;
 
-/// A file that breaks no rule, and the texts of its names. The type keeps that both are of one
-/// model text.
+/// A file that breaks no rule, and the texts of its names. The type keeps that the file could be
+/// written down.
 #[derive(Drop)]
 pub struct Checked {
     /// The tree of the text.
@@ -18,7 +19,7 @@ pub struct Checked {
     pub names: Names,
     pub(crate) component_count: u32,
     pub ghost checked: { refusal_of (file_of file) ≡ None },
-    pub ghost of_one_text: { ∥ AreOfOneText names (file_of file) ∥₁ },
+    pub ghost writable: { ∥ IsWritable (file_of file) ∥₁ },
     pub ghost counted: { component_count ≡ components_of (file_of file) },
 }
 

@@ -11,9 +11,10 @@ ghost use Rattle.dv_syntax.specs.Trees.{CoupledModel, coupled_of, file_of, model
 ghost use Rattle.dv_check.specs.Findings.{with_refusals};
 ghost use Rattle.dv_check.specs.Models.{faces_by, faces_in};
 ghost use Rattle.dv_check.specs.Names.{model_named, name_of_model, refusal, repeats};
-ghost use Rattle.dv_check.specs.Refusals.{AreOfOneText, IsAnswerTo, limit_refusals, model_refusals, refusal_of, refusals};
+ghost use Rattle.dv_check.specs.Refusals.{IsAnswerTo, limit_refusals, model_refusals, refusal_of, refusals};
 ghost use Rattle.dv_check.specs.Refusals.{root_limit_refusals, root_refusals};
 ghost use Rattle.dv_check.specs.Tree.{component_count, components_at, components_of, tree_of};
+ghost use Rattle.dv_check.specs.Writable.{IsWritable};
 
 use crate::atomic::check_atomic;
 use crate::checked::Checked;
@@ -37,7 +38,7 @@ use std::alloc::{AllocError, Global};
 /// and there the one with the least number. The limits on the whole tree are tested only if no
 /// other rule is broken. `Memory`: no memory for the tables of names and of models.
 pub fn check(alloc: Global, file: File, names: Names) -> Result<Checked, LoadError>
-    requires { AreOfOneText names (file_of file) }
+    requires { IsWritable (file_of file) }
     ensures file { IfOk result (λ c. c.file ≡ file) }
     ensures names { IfOk result (λ c. c.names ≡ names) }
     ensures checked { OnOk result (refusal_of (file_of file) ≡ None) }

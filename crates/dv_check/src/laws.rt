@@ -5,8 +5,11 @@ ghost use Rattle.std.specs.Prelude.{◌≡◌, ℕ, ◌≤◌, true, false, List
 ghost use Rattle.std.specs.List.{All};
 ghost use Rattle.dv_bag.specs.declared.discipline.Change.TheVariants.{Add, Drop, Push};
 ghost use Rattle.dv_lex.specs.Order.{first_refusal, precedes};
+ghost use Rattle.dv_lex.specs.Texts.{IsTokensOf};
 ghost use Rattle.dv_lex.specs.declared.error.Refusal.{Refusal};
 ghost use Rattle.dv_lex.specs.declared.error.RefusalNumber.TheVariants as number;
+ghost use Rattle.dv_lex.specs.declared.token.Token.{Token};
+ghost use Rattle.dv_syntax.specs.Grammar.{IsFileOf};
 ghost use Rattle.dv_syntax.specs.Trees.{Assign, Binary, Call, Changes, CoupledModel, CoupledTree, Does, Done, Elapsed, FileTree, If};
 ghost use Rattle.dv_syntax.specs.Trees.{Named, Times, TruthValue};
 ghost use Rattle.dv_syntax.specs.declared.tree.BagCall.TheVariants.{Front, Size, Sum};
@@ -24,6 +27,9 @@ ghost use Rattle.dv_check.specs.Refusals.{limit_refusals, refusal_of};
 ghost use Rattle.dv_check.specs.Relays.{link_at, wrong_links};
 ghost use Rattle.dv_check.specs.Tree.{parts_to, tree_of};
 ghost use Rattle.dv_check.specs.Limits.{greatest_depth};
+ghost use Rattle.dv_check.specs.Writable.{IsWritable};
+
+use dv_lex::laws::tokens_are_no_more_than_bytes;
 
 /// A checked file has a coupled root. The parts of each of its coupled models have known models.
 /// Each link leads between two parts, or between a part and the model itself: from an output of a
@@ -33,6 +39,15 @@ ghost use Rattle.dv_check.specs.Limits.{greatest_depth};
 pub fn checked_files()
     ensures { (f : FileTree) → refusal_of f ≡ None → IsCheckedFile f }
 {}
+
+/// A file that was read from a text could be written down: the text spells it, with numbers of the
+/// language and at most as many tokens as the text has bytes.
+pub fn files_of_texts_are_writable()
+    ensures { (text : List ℕ) (names : List (List ℕ)) (tokens : List Token) (f : FileTree) →
+        IsTokensOf text names tokens → IsFileOf tokens f → IsWritable f }
+{
+    tokens_are_no_more_than_bytes();
+}
 
 /// The tree of a checked file is complete: with more levels than the limit it stays the same.
 pub fn trees_are_whole()
