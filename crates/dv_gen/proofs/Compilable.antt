@@ -1,5 +1,5 @@
--- The models of a text that is accepted are compilable.
-use Rattle.std.proofs.Common.{◌≡◌, ℕ, ◌≤◌, List, [], ◌∷◌, map, None, sym, ap, subst}
+-- The models of a file that is accepted are compilable.
+use Rattle.std.proofs.Common.{◌≡◌, ◌≤◌, List, [], ◌∷◌, map, None, sym, ap, subst}
 use Rattle.std.specs.List.{All, AllByRecursion}
 use Rattle.std.proofs.lemmas.List.Elements.{All-from_recursion}
 use Rattle.dv_syntax.specs.declared.tree.Name.{Name}
@@ -9,7 +9,8 @@ use Rattle.dv_syntax.specs.Written.{AtomicItem, Declares, Lists, Starts, Holds, 
 use Rattle.dv_syntax.specs.Written.{WrittenCoupled, sorted_items, sorted_model}
 use Rattle.dv_code.specs.Limits.{deepest_loops}
 use Rattle.dv_check.specs.CheckedFiles.{IsCheckedModel}
-use Rattle.dv_check.specs.Refusals.{AreOfOneText, refusal_of}
+use Rattle.dv_check.specs.Refusals.{refusal_of}
+use Rattle.dv_check.specs.Writable.{IsWritable}
 use Rattle.dv_check.proofs.CheckedFiles.{file_accepted}
 use Rattle.dv_gen.specs.ModelCode.{IsCompilableModel}
 
@@ -34,12 +35,12 @@ compilable_models known (WrittenAtomic name items ∷ written) within accepted =
     (record { accepted = accepted.0; shallow = shallow }, compilable_models known written within.1 accepted.1)
 compilable_models known (WrittenCoupled name items ∷ written) within accepted = (tt, compilable_models known written within.1 accepted.1)
 
-pub text_compilable : (names : List (List ℕ)) (f : FileTree) → AreOfOneText names f → refusal_of f ≡ None
+pub file_compilable : (f : FileTree) → IsWritable f → refusal_of f ≡ None
     → All (λ (m : ModelTree). IsCompilableModel m) f.models
-text_compilable names f text fine =
-    let written = text.parsed.written in
-    let tree = ap (λ (g : FileTree). g.models) text.parsed.tree in
+file_compilable f writable fine =
+    let written = writable.written in
+    let tree = ap (λ (g : FileTree). g.models) writable.tree in
     let accepted = subst (λ models. AllByRecursion (IsCheckedModel f.models) models) tree (file_accepted f fine).models in
-    let all = compilable_models f.models written.models text.parsed.read.models accepted in
+    let all = compilable_models f.models written.models writable.within accepted in
     All-from_recursion (λ (m : ModelTree). IsCompilableModel m) f.models
     (subst (λ models. AllByRecursion IsCompilableModel models) (sym tree) all)

@@ -1,16 +1,15 @@
--- A program has no more instructions than its rule or its hold has tokens, and so no more than its text has bytes.
-use Rattle.std.proofs.Common.{◌≡◌, ℕ, ◌+◌, ◌≤◌, List, [], ◌∷◌, ◌++◌, length, length-append, map, IfSome, Option, Some, None}
+-- A program has no more instructions than its rule or its hold has tokens, and so no more than its file may have.
+use Rattle.std.proofs.Common.{◌≡◌, ℕ, ◌+◌, ◌≤◌, ◌^◌, List, [], ◌∷◌, ◌++◌, length, length-append, map, IfSome, Option, Some, None}
 use Rattle.std.proofs.Common.{ap, sym, subst, arith}
 use Rattle.std.specs.List.{All, AllByRecursion, flat_map}
 use Rattle.std.proofs.lemmas.List.Elements.{All-from_recursion}
-use Rattle.dv_lex.specs.declared.token.Token.{Token}
 use Rattle.dv_lex.specs.declared.token.Keyword.TheVariants as keyword
 use Rattle.dv_lex.specs.declared.token.Symbol.TheVariants as symbol
 use Rattle.dv_syntax.specs.declared.tree.Name.{Name}
 use Rattle.dv_syntax.specs.declared.tree.Operator.{Operator}
 use Rattle.dv_syntax.specs.declared.tree.Operator.TheVariants as operator
 use Rattle.dv_syntax.specs.declared.tree.Prefix.TheVariants as prefix
-use Rattle.dv_syntax.specs.Grammar.{Anywhere, IsFileOf, Spelled, braces, change_preposition, expression_spelling, file_spelling}
+use Rattle.dv_syntax.specs.Grammar.{Anywhere, Spelled, braces, change_preposition, expression_spelling}
 use Rattle.dv_syntax.specs.Grammar.{header_spelling, hold_spelling, item_spelling, model_spelling, name, operator_kind, rule_spelling, sign}
 use Rattle.dv_syntax.specs.Grammar.{statements_spelling, word}
 use Rattle.dv_syntax.specs.Trees.{AtomicTree, FileTree, HoldTree, ModelTree, RuleTree, Expression as NamedExpression, Literal, TruthValue}
@@ -18,8 +17,9 @@ use Rattle.dv_syntax.specs.Trees.{Named, Parens, Prefixed, Binary, Call, Elapsed
 use Rattle.dv_syntax.specs.Trees.{Assign, Does, Send, If as IfOnly, IfElse, For as Each, Changes}
 use Rattle.dv_syntax.specs.Written.{AtomicItem, Declares, Lists, Starts, Holds, Rules, WrittenModel, WrittenAtomic, WrittenCoupled}
 use Rattle.dv_syntax.specs.Written.{sorted_items, sorted_model}
-use Rattle.dv_syntax.proofs.Lengths.{Spells-length, length-braces}
+use Rattle.dv_syntax.proofs.Lengths.{length-braces}
 use Rattle.dv_eval.specs.Scope.{Scope, scope_of}
+use Rattle.dv_check.specs.Writable.{IsWritable}
 use Rattle.dv_code.specs.declared.instruction.Instruction.TheVariants.{End}
 use Rattle.dv_gen.specs.Generator.{code_of, code_of_all, hold_program_of, past, past_all, program_of}
 use Rattle.dv_gen.specs.ModelCode.{HasProgramsWithin}
@@ -159,7 +159,7 @@ pub hold_within : (m : AtomicTree) (h : HoldTree)
     → IfSome h.ticks (λ e. length (hold_program_of (hold_tree m e)) ≤ length (hold_spelling h))
 hold_within m h = ticks_within m h.offset h.phase h.ticks
 
--- ---- Texts
+-- ---- Files
 
 -- what stands in a list of tokens is no longer than the list
 front_within : (front rest : List Spelled) (n : ℕ) → length (front ++ rest) ≤ n → length front ≤ n
@@ -217,20 +217,14 @@ models_within n (WrittenAtomic name items ∷ written) within =
 models_within n (WrittenCoupled name items ∷ written) within =
     (tt, models_within n written (rest_within (model_spelling (WrittenCoupled name items)) (flat_map model_spelling written) n within))
 
--- the programs of a text that has at most so many tokens
-pub text_within : (n : ℕ) (tokens : List Token) (f : FileTree) → length tokens ≤ n → IsFileOf tokens f
-    → All (λ (m : ModelTree). HasProgramsWithin n m) f.models
-text_within n tokens f few parsed =
-    let written = parsed.written in
+-- the programs of a file that could be written down
+pub file_within : (f : FileTree) → IsWritable f → All (λ (m : ModelTree). HasProgramsWithin (2 ^ 27) m) f.models
+file_within f writable =
+    let written = writable.written in
     let spelled = flat_map model_spelling written.models in
     let behind : List Spelled = word keyword.Root ∷ name written.root ∷ sign symbol.Semicolon ∷ [] in
-    let own : length spelled ≤ n = omega (
-      arith,
-      few,
-      Spells-length (file_spelling written) tokens [] parsed.read.spelled,
-      length-append (header_spelling written.header) (spelled ++ behind),
-      length-append spelled behind,
-    ) in
-    All-from_recursion (λ (m : ModelTree). HasProgramsWithin n m) f.models
-    (subst (λ models. AllByRecursion (HasProgramsWithin n) models) (sym (ap (λ (g : FileTree). g.models) parsed.tree))
-    (models_within n written.models own))
+    let own : length spelled ≤ 2 ^ 27 =
+    front_within spelled behind (2 ^ 27) (rest_within (header_spelling written.header) (spelled ++ behind) (2 ^ 27) writable.few) in
+    All-from_recursion (λ (m : ModelTree). HasProgramsWithin (2 ^ 27) m) f.models
+    (subst (λ models. AllByRecursion (HasProgramsWithin (2 ^ 27)) models) (sym (ap (λ (g : FileTree). g.models) writable.tree))
+    (models_within (2 ^ 27) written.models own))

@@ -27,7 +27,7 @@ use std::sync::Arc;
 /// # Errors
 ///
 /// No memory for the programs. A program of 2^32 instructions counts as one without memory; by
-/// `programs_are_no_longer_than_their_texts` no text has one.
+/// `programs_are_no_longer_than_their_spellings` no file that could be written down has one.
 pub fn generate(alloc: Global, model: &Atomic, scope: &Scope) -> Result<ModelCode, AllocError>
     requires scope { scope.now ≡ scope_of (atomic_of model.now) }
     requires compilable { IsCompilable (atomic_of model.now) }

@@ -1,29 +1,26 @@
 //! Laws of generated programs. Each function states a law in its contract.
 
-ghost use Rattle.std.specs.Prelude.{◌≡◌, ◌≤◌, ℕ, true, List, [], ◌∷◌, length, IfSome};
+ghost use Rattle.std.specs.Prelude.{◌≡◌, ◌≤◌, ◌^◌, ℕ, true, [], ◌∷◌, length, IfSome};
 ghost use Rattle.std.specs.List.{All};
 ghost use Rattle.dv_bag.specs.Arrivals.{Arrivals, nothing_arrived};
 ghost use Rattle.dv_bag.specs.declared.state.State.{State};
 ghost use Rattle.dv_bag.specs.declared.value.ValueType.TheVariants.{Number};
-ghost use Rattle.dv_check.specs.Refusals.{AreOfOneText, refusal_of};
+ghost use Rattle.dv_check.specs.Refusals.{refusal_of};
 ghost use Rattle.dv_check.specs.Rules.{atomic_refusals};
+ghost use Rattle.dv_check.specs.Writable.{IsWritable};
 ghost use Rattle.dv_code.specs.Machine.{begins, first_effect, run};
 ghost use Rattle.dv_code.specs.Shape.{AreSmall, Fits, Shape};
 ghost use Rattle.dv_code.specs.Valid.{IsValid};
 ghost use Rattle.dv_eval.specs.Meaning.{effect_of, meaning, moment_in, outermost};
 ghost use Rattle.dv_eval.specs.Scope.{scope_of};
-ghost use Rattle.dv_lex.specs.Texts.{IsTokensOf};
-ghost use Rattle.dv_lex.specs.declared.token.Token.{Token};
 ghost use Rattle.dv_syntax.specs.Trees.{AtomicTree, FileTree, HoldTree, ModelTree, RuleTree};
-ghost use Rattle.dv_syntax.specs.Grammar.{IsFileOf, hold_spelling, loop_depth, rule_spelling};
+ghost use Rattle.dv_syntax.specs.Grammar.{hold_spelling, loop_depth, rule_spelling};
 ghost use Rattle.law_accepted.specs.Fitting.{fits};
 ghost use Rattle.dv_gen.specs.Generator.{ending, goes, hold_ending, hold_program_of, program_of};
 ghost use Rattle.dv_gen.specs.ModelCode.{HasProgramsWithin, IsCompilableModel, phase_codes};
 ghost use Rattle.dv_gen.specs.Over.{AreOver};
 ghost use Rattle.dv_gen.specs.Resolution.{goto_indices, hold_shape, hold_tree, rule_shape, rule_tree, tables_of};
 ghost use Rattle.dv_gen.specs.Resolved.{AreTyped, Expression, IsTyped, Statements, gotos, rule_effect, type_of, value_of};
-
-use dv_lex::laws::tokens_are_no_more_than_bytes;
 
 /// The program of a tree that is well typed is valid.
 pub fn generated_programs_are_valid()
@@ -125,23 +122,20 @@ pub fn indices_mean_what_names_mean()
         ≡ meaning (scope_of m) (moment_in (outermost nothing_arrived) s) e)) m.holds }
 {}
 
-/// Each atomic model of an accepted text can be compiled: the loops of its rules are not nested too
+/// Each atomic model of an accepted file can be compiled: the loops of its rules are not nested too
 /// deeply.
-pub fn texts_are_compilable()
-    ensures { (names : List (List ℕ)) (f : FileTree) → AreOfOneText names f → refusal_of f ≡ None
+pub fn accepted_files_are_compilable()
+    ensures { (f : FileTree) → IsWritable f → refusal_of f ≡ None
         → All (λ (m : ModelTree). IsCompilableModel m) f.models }
 {}
 
 /// A program has no more instructions than its rule, or its hold, has tokens. So the programs of a
-/// text have no more instructions than the text has bytes.
-pub fn programs_are_no_longer_than_their_texts()
+/// file that could be written down have at most 2^27.
+pub fn programs_are_no_longer_than_their_spellings()
     ensures rules { (m : AtomicTree) (r : RuleTree) →
         length (program_of (rule_tree m r.body)) ≤ length (rule_spelling r) }
     ensures holds { (m : AtomicTree) (h : HoldTree) → IfSome h.ticks (λ e.
         length (hold_program_of (hold_tree m e)) ≤ length (hold_spelling h)) }
-    ensures texts { (text : List ℕ) (names : List (List ℕ)) (tokens : List Token) (f : FileTree) →
-        IsTokensOf text names tokens → IsFileOf tokens f
-        → All (λ (m : ModelTree). HasProgramsWithin (length text) m) f.models }
-{
-    tokens_are_no_more_than_bytes();
-}
+    ensures writable { (f : FileTree) → IsWritable f →
+        All (λ (m : ModelTree). HasProgramsWithin (2 ^ 27) m) f.models }
+{}

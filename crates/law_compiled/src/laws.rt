@@ -8,7 +8,8 @@ ghost use Rattle.dv_bag.specs.declared.inputs.Input.{Input};
 ghost use Rattle.dv_bag.specs.declared.state.State.{State};
 ghost use Rattle.dv_bag.specs.Numbers.{HoldsNumbers};
 ghost use Rattle.dv_bound.specs.Response.{IsNotBelow, response_of};
-ghost use Rattle.dv_check.specs.Refusals.{AreOfOneText, refusal_of};
+ghost use Rattle.dv_check.specs.Refusals.{refusal_of};
+ghost use Rattle.dv_check.specs.Writable.{IsWritable};
 ghost use Rattle.dv_devs.specs.Behaviour.{Change};
 ghost use Rattle.dv_devs.specs.Fits.{Agrees, Keeps};
 ghost use Rattle.dv_devs.specs.Network.{trace_before};
@@ -27,8 +28,8 @@ use dv_code::laws::{programs_give_how_their_runs_end, valid_programs_end};
 use dv_devs::laws::fits::alike_networks_run_alike;
 use dv_flat::laws::links_route_as_the_tree;
 use dv_gen::laws::{
-    accepted_rules_are_well_typed, compiled_rules_have_the_rules_effect,
-    generated_programs_are_valid, states_fit_the_tables, texts_are_compilable,
+    accepted_files_are_compilable, accepted_rules_are_well_typed,
+    compiled_rules_have_the_rules_effect, generated_programs_are_valid, states_fit_the_tables,
 };
 use law_accepted::laws::{rules_keep_to_the_ranges, rules_send_bags, start_states_fit};
 
@@ -68,13 +69,13 @@ pub fn hold_programs_are_not_below_the_response()
 /// The compiled model is the model: the network of programs and links of an accepted text has the
 /// trace of the text, for every list of inputs, horizon and microstep limit.
 pub fn the_compiled_model_is_the_model()
-    ensures { (names : List (List ℕ)) (f : FileTree) (inputs : List Input) (horizon limit : ℕ)
-        → AreOfOneText names f → refusal_of f ≡ None
+    ensures { (f : FileTree) (inputs : List Input) (horizon limit : ℕ)
+        → IsWritable f → refusal_of f ≡ None
         → trace_before limit (compiled_network limit f) (outside f limit inputs)
         (end_of limit horizon) ≡ trace_of f inputs horizon limit }
 {
     programs_behave_as_rules();
-    texts_are_compilable();
+    accepted_files_are_compilable();
     start_states_fit();
     rules_send_bags();
     what_comes_in_stands_in_bags();

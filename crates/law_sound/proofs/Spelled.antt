@@ -1,22 +1,12 @@
--- The numbers of a file are those of the tokens that spell it, and these are of the language.
-use Rattle.std.proofs.Common.{◌≡◌, ℕ, zero, suc, ◌+◌, ◌<◌, ◌^◌, Bool, true, false, ◌&&◌, cond, List, [], ◌∷◌, ◌++◌, length, map}
+-- The numbers of a file are those of the tokens that spell it; if it could be written down, these are of the language.
+use Rattle.std.proofs.Common.{◌≡◌, ℕ, zero, suc, ◌+◌, ◌<◌, ◌^◌, Bool, true, false, ◌&&◌, cond, List, [], ◌∷◌, ◌++◌, map}
 use Rattle.std.proofs.Common.{Option, Some, None, refl, sym, subst, arith}
 use Rattle.std.specs.List.{AllByRecursion, cons_option, flat_map}
 use Rattle.std.proofs.lemmas.Bool.{and_from, and_parts, lt-ltb}
-use Rattle.dv_lex.specs.Lexemes.{Lexeme, Blank, Comment, Identifier, Numeral, Reserved, Sign}
-use Rattle.dv_lex.specs.Numbering.{token_of, tokens_of}
-use Rattle.dv_lex.specs.Reading.{IsInRange, Located, Reads}
-use Rattle.dv_lex.specs.Texts.{IsTokensOf}
-use Rattle.dv_lex.specs.Versions.{behind_header, headed, header_words, is_second_version, kind_or_word, later_words, text_in, versioned}
-use Rattle.dv_lex.specs.Versions.{with_words, word_written}
-use Rattle.dv_lex.specs.declared.token.Keyword.{Keyword}
 use Rattle.dv_lex.specs.declared.token.Symbol.TheVariants as symbol
-use Rattle.dv_lex.specs.declared.token.Token.{Token}
-use Rattle.dv_lex.specs.declared.token.TokenKind.{TokenKind}
-use Rattle.dv_lex.specs.declared.token.TokenKind.TheVariants as kind
-use Rattle.dv_syntax.specs.Grammar.{Anywhere, At, IsFileOf, IsSpelled, Spelled, Spells, bound_spelling, braces}
-use Rattle.dv_syntax.specs.Grammar.{declaration_spelling, expression_spelling, file_spelling, header_spelling, item_spelling}
-use Rattle.dv_syntax.specs.Grammar.{minus_spelling, model_spelling, name, number, sign, statements_spelling, word}
+use Rattle.dv_syntax.specs.Grammar.{Spelled, bound_spelling, braces}
+use Rattle.dv_syntax.specs.Grammar.{declaration_spelling, expression_spelling, header_spelling, item_spelling}
+use Rattle.dv_syntax.specs.Grammar.{minus_spelling, model_spelling, name, number, sign, statements_spelling}
 use Rattle.dv_syntax.specs.Trees.{Expression, Literal, TruthValue, Named, Parens, Prefixed, Binary, Call, Elapsed, Times, FileTree}
 use Rattle.dv_syntax.specs.Trees.{Statements, Done, Assign, Does, Send, If, IfElse, For, Changes}
 use Rattle.dv_syntax.specs.Written.{AtomicItem, Declares, Lists, Starts, Holds, Rules, WrittenAtomic, WrittenCoupled}
@@ -31,90 +21,16 @@ use Rattle.dv_bag.specs.Collections.{empty_of}
 use Rattle.dv_bag.specs.declared.discipline.Discipline.{Discipline}
 use Rattle.dv_bag.specs.declared.discipline.Discipline.TheVariants as discipline
 use Rattle.dv_bag.specs.declared.state.Datum.TheVariants as datum
+use Rattle.dv_check.specs.Writable.{AsksSmall, IsWritable}
 use Rattle.dv_eval.specs.Scope.{bound_value, is_declared, names_of, signed, start_data, start_datum, state_variable_of}
 use Rattle.dv_eval.specs.Scope.{state_variables_in, with_variable, with_variables}
 use Rattle.dv_eval.specs.declared.scope.Domain.{Domain}
 use Rattle.law_sound.specs.Jobs.{IsModelOfNumbers}
 use Rattle.law_sound.specs.Kept.{are_kept, is_kept, name_numbers, names_numbers, rules_name_numbers}
 
--- a token's number is of the language
-abbrev IsSmall : TokenKind → Type 0
-IsSmall (kind.Number n) = n < 2 ^ 63
-IsSmall (kind.Name n) = Unit {0}
-IsSmall (kind.Keyword k) = Unit {0}
-IsSmall (kind.Symbol s) = Unit {0}
-
-abbrev AreSmall : List Token → Type 0
-AreSmall [] = Unit {0}
-AreSmall (t ∷ ts) = IsSmall t.kind × AreSmall ts
-
--- what is asked of a token
-abbrev asked : Spelled → TokenKind
-asked (At k index) = k
-asked (Anywhere k) = k
-
+-- what is asked of tokens has no number above those of the language
 abbrev AskSmall : List Spelled → Type 0
-AskSmall [] = Unit {0}
-AskSmall (s ∷ ss) = IsSmall (asked s) × AskSmall ss
-
--- tokens of a text
-abbrev located : Lexeme → ℕ → Located
-located l offset = record { lexeme = l; offset = offset }
-
-small_then : (names : List (List ℕ)) (l : Lexeme) (index : ℕ) (more : List Token) → IsInRange l → AreSmall more →
-    AreSmall (cons_option (token_of names (located l index)) more)
-small_then names Blank index more h rest = rest
-small_then names Comment index more h rest = rest
-small_then names (Identifier text) index more h rest = (tt, rest)
-small_then names (Numeral value) index more h rest = (h, rest)
-small_then names (Reserved word) index more h rest = (tt, rest)
-small_then names (Sign sign) index more h rest = (tt, rest)
-
-tokens_small : (names : List (List ℕ)) (index : ℕ) (bytes : List ℕ) (xs : List Located) (end : ℕ) (rest : List ℕ) →
-    Reads index bytes xs end rest → AreSmall (tokens_of names xs)
-tokens_small names index bytes [] end rest h = tt
-tokens_small names index bytes (x ∷ xs) end rest h =
-    let front : List ℕ = h.2.0 in
-    small_then names x.lexeme x.offset (tokens_of names xs) h.1
-    (tokens_small names (index + length front) h.2.1 xs end rest h.2.3)
-
--- the same where words stand in the places of names
-small_or : (k : TokenKind) (word : Option Keyword) → IsSmall k → IsSmall (kind_or_word k word)
-small_or k None h = h
-small_or k (Some word) h = tt
-
-words_small : (names : List (List ℕ)) (words : List Keyword) (ts : List Token) → AreSmall ts →
-    AreSmall (map (with_words names words) ts)
-words_small names words [] h = tt
-words_small names words (t ∷ ts) h =
-    (small_or t.kind (word_written words (text_in names t.kind)) h.0, words_small names words ts h.1)
-
-behind_small : (names : List (List ℕ)) (ts : List Token) → AreSmall ts → AreSmall (behind_header names ts)
-behind_small names [] h = tt
-behind_small names (t ∷ ts) h = (h.0, by_test (is_second_version t.kind))
-  where
-    by_test : (second : Bool) → AreSmall (cond second (map (with_words names later_words) ts) ts)
-    by_test true = words_small names later_words ts h.1
-    by_test false = h.1
-
-headed_small : (names : List (List ℕ)) (word : Option Keyword) (t : Token) (ts : List Token) → AreSmall (t ∷ ts) →
-    AreSmall (headed names word t ts)
-headed_small names None t ts h = h
-headed_small names (Some word) t ts h = (tt, behind_small names ts h.1)
-
-versioned_small : (names : List (List ℕ)) (ts : List Token) → AreSmall ts → AreSmall (versioned names ts)
-versioned_small names [] h = tt
-versioned_small names (t ∷ ts) h = headed_small names (word_written header_words (text_in names t.kind)) t ts h
-
--- what they spell
-spelled_small : (ss : List Spelled) (ts rest : List Token) → Spells ss ts rest → AreSmall ts → AskSmall ss
-spelled_small [] ts rest h small = tt
-spelled_small (s ∷ ss) [] rest h small = absurd h
-spelled_small (s ∷ ss) (t ∷ ts) rest h small = (here s h.0 small.0, spelled_small ss ts rest h.1 small.1)
-  where
-    here : (s : Spelled) → IsSpelled t s → IsSmall t.kind → IsSmall (asked s)
-    here (At k index) e h = subst IsSmall e.0 h
-    here (Anywhere k) e h = subst IsSmall e h
+AskSmall ss = AllByRecursion AsksSmall ss
 
 parted : (a b : List Spelled) → AskSmall (a ++ b) → AskSmall a × AskSmall b
 parted [] b h = (tt, h)
@@ -272,13 +188,10 @@ models_of_numbers (m ∷ ms) h =
     let both = parted (model_spelling m) (flat_map model_spelling ms) h in
     (model_of_numbers m both.0, models_of_numbers ms both.1)
 
-pub file_of_numbers : (text : List ℕ) (names : List (List ℕ)) (tokens : List Token) (f : FileTree) → IsTokensOf text names tokens →
-    IsFileOf tokens f → AllByRecursion IsModelOfNumbers f.models
-file_of_numbers text names tokens f lexed parsed =
-    let written = parsed.written in
-    let small : AreSmall tokens = subst AreSmall (sym lexed.numbered)
-    (versioned_small names (tokens_of names lexed.lexemes) (tokens_small names 0 text lexed.lexemes (length text) [] lexed.reads)) in
-    let behind = parted (header_spelling written.header) _ (spelled_small (file_spelling written) tokens [] parsed.read.spelled small) in
+pub file_of_numbers : (f : FileTree) → IsWritable f → AllByRecursion IsModelOfNumbers f.models
+file_of_numbers f writable =
+    let written = writable.written in
+    let behind = parted (header_spelling written.header) _ writable.small in
     let both = parted (flat_map model_spelling written.models) _ behind.1 in
-    subst (λ (t : FileTree). AllByRecursion IsModelOfNumbers t.models) (sym parsed.tree)
+    subst (λ (t : FileTree). AllByRecursion IsModelOfNumbers t.models) (sym writable.tree)
     (models_of_numbers written.models both.0)

@@ -4,7 +4,8 @@ ghost use Rattle.std.specs.Prelude.{◌≡◌, ℕ, ◌+◌, ◌<◌, ◌≤◌,
 ghost use Rattle.std.specs.List.{filter, range_with_len};
 ghost use Rattle.dv_bag.specs.declared.entry.Entry.{Entry};
 ghost use Rattle.dv_bag.specs.declared.inputs.Input.{Input};
-ghost use Rattle.dv_check.specs.Refusals.{AreOfOneText, refusal_of};
+ghost use Rattle.dv_check.specs.Refusals.{refusal_of};
+ghost use Rattle.dv_check.specs.Writable.{IsWritable};
 ghost use Rattle.dv_conservative.specs.Events.{Event};
 ghost use Rattle.dv_conservative.specs.Flat.{kept, whole};
 ghost use Rattle.dv_conservative.specs.Process.{components_by, events_by, part_by};
@@ -35,7 +36,7 @@ use dv_conservative::world::{
 use dv_devs::laws::fits::alike_networks_run_alike;
 use dv_devs::laws::parts::parts_are_of_the_trace;
 use dv_flat::laws::links_route_as_the_tree;
-use dv_gen::laws::texts_are_compilable;
+use dv_gen::laws::accepted_files_are_compilable;
 use dv_plain::laws::networks_of_texts;
 use law_accepted::laws::{rules_send_bags, start_states_fit};
 use law_compiled::laws::programs_behave_as_rules;
@@ -43,37 +44,35 @@ use law_compiled::laws::programs_behave_as_rules;
 /// An accepted text with inputs of numbers of the language may be run in processes, for any
 /// partition. The response of a process is the least of its components'.
 pub fn texts_are_jobs()
-    ensures { (names : List (List ℕ)) (f : FileTree) (inputs : List Input)
-        (limit horizon processes : ℕ) (owner : ℕ → ℕ)
-        → AreOfOneText names f → refusal_of f ≡ None → AllInputNumbers inputs
+    ensures { (f : FileTree) (inputs : List Input) (limit horizon processes : ℕ) (owner : ℕ → ℕ)
+        → IsWritable f → refusal_of f ≡ None → AllInputNumbers inputs
         → ((k : ℕ) → owner k < processes)
         → IsJob (fits_number (instances f)) (job_of limit horizon f inputs processes owner) }
 {
     files_are_of_numbers();
     components_are_sound();
-    texts_are_compilable();
+    accepted_files_are_compilable();
     channels_are_where_links_cross();
 }
 
 /// The run of a text's flat model has the same components as the run of the text's network, they
 /// send the same, and the part of a set of components is that of the text.
 pub fn parts_of_the_flat_model_are_those_of_the_text()
-    ensures components { (names : List (List ℕ)) (f : FileTree) (inputs : List Input) (limit n : ℕ)
-        → AreOfOneText names f → refusal_of f ≡ None
+    ensures components { (f : FileTree) (inputs : List Input) (limit n : ℕ)
+        → IsWritable f → refusal_of f ≡ None
         → components_at limit (whole (flat_of limit f)) (outside f limit inputs) n
         ≡ components_at limit (network_of limit f) (outside f limit inputs) n }
-    ensures emissions { (names : List (List ℕ)) (f : FileTree) (inputs : List Input) (limit n : ℕ)
-        → AreOfOneText names f → refusal_of f ≡ None
+    ensures emissions { (f : FileTree) (inputs : List Input) (limit n : ℕ)
+        → IsWritable f → refusal_of f ≡ None
         → emissions_at limit (whole (flat_of limit f)) (outside f limit inputs) n
         ≡ emissions_at limit (network_of limit f) (outside f limit inputs) n }
-    ensures part { (names : List (List ℕ)) (f : FileTree) (inputs : List Input) (limit n : ℕ)
-        (who : ℕ → Bool)
-        → AreOfOneText names f → refusal_of f ≡ None
+    ensures part { (f : FileTree) (inputs : List Input) (limit n : ℕ) (who : ℕ → Bool)
+        → IsWritable f → refusal_of f ≡ None
         → part_before who limit (whole (flat_of limit f)) (outside f limit inputs) n
         ≡ part_before who limit (network_of limit f) (outside f limit inputs) n }
 {
     programs_behave_as_rules();
-    texts_are_compilable();
+    accepted_files_are_compilable();
     start_states_fit();
     rules_send_bags();
     what_comes_in_stands_in_bags();
@@ -88,14 +87,14 @@ pub fn one_process_commits_the_trace_of_the_text()
         → (share_of (job_of limit horizon f inputs 1 owner) 0).incoming ≡ [] }
     ensures outgoing { (f : FileTree) (inputs : List Input) (limit horizon : ℕ) (owner : ℕ → ℕ)
         → (share_of (job_of limit horizon f inputs 1 owner) 0).outgoing ≡ [] }
-    ensures before { (names : List (List ℕ)) (f : FileTree) (inputs : List Input)
+    ensures before { (f : FileTree) (inputs : List Input)
         (limit horizon n : ℕ) (owner : ℕ → ℕ) (events : ℕ → List Event)
-        → AreOfOneText names f → refusal_of f ≡ None → ((k : ℕ) → owner k ≡ 0)
+        → IsWritable f → refusal_of f ≡ None → ((k : ℕ) → owner k ≡ 0)
         → part_by (share_of (job_of limit horizon f inputs 1 owner) 0) events n
         ≡ trace_before limit (network_of limit f) (outside f limit inputs) n }
-    ensures whole { (names : List (List ℕ)) (f : FileTree) (inputs : List Input)
+    ensures whole { (f : FileTree) (inputs : List Input)
         (limit horizon : ℕ) (owner : ℕ → ℕ) (events : ℕ → List Event)
-        → AreOfOneText names f → refusal_of f ≡ None → ((k : ℕ) → owner k ≡ 0)
+        → IsWritable f → refusal_of f ≡ None → ((k : ℕ) → owner k ≡ 0)
         → part_by (share_of (job_of limit horizon f inputs 1 owner) 0) events
         (end_of limit horizon) ≡ trace_of f inputs horizon limit }
 {
@@ -109,10 +108,9 @@ pub fn one_process_commits_the_trace_of_the_text()
 /// text just before the process's clock, and it has committed exactly their part of the trace of
 /// the text before its clock.
 pub fn processes_commit_their_parts_of_the_text()
-    ensures components { (names : List (List ℕ)) (f : FileTree) (inputs : List Input)
-        (limit horizon processes capacity : ℕ)
+    ensures components { (f : FileTree) (inputs : List Input) (limit horizon processes capacity : ℕ)
         (owner : ℕ → ℕ) (steps : List (Step × Reply)) (w : World) (p : ℕ)
-        → AreOfOneText names f → refusal_of f ≡ None → AllInputNumbers inputs
+        → IsWritable f → refusal_of f ≡ None → AllInputNumbers inputs
         → ((k : ℕ) → owner k < processes)
         → let job = job_of limit horizon f inputs processes owner in
         IsRun job steps (new_world capacity) w
@@ -120,10 +118,9 @@ pub fn processes_commit_their_parts_of_the_text()
         ≡ kept (owned job p) (range_with_len 0 (length (instances f)))
         (components_at limit (network_of limit f) (outside f limit inputs)
         (rank limit (w.clock p))) }
-    ensures part { (names : List (List ℕ)) (f : FileTree) (inputs : List Input)
-        (limit horizon processes capacity : ℕ)
+    ensures part { (f : FileTree) (inputs : List Input) (limit horizon processes capacity : ℕ)
         (owner : ℕ → ℕ) (steps : List (Step × Reply)) (w : World) (p : ℕ)
-        → AreOfOneText names f → refusal_of f ≡ None → AllInputNumbers inputs
+        → IsWritable f → refusal_of f ≡ None → AllInputNumbers inputs
         → ((k : ℕ) → owner k < processes)
         → let job = job_of limit horizon f inputs processes owner in
         IsRun job steps (new_world capacity) w
@@ -140,10 +137,9 @@ pub fn processes_commit_their_parts_of_the_text()
 /// trace of the text, and what leaves all processes, united by time and port, is what leaves the
 /// text.
 pub fn a_whole_run_has_the_trace_of_the_text()
-    ensures entries { (names : List (List ℕ)) (f : FileTree) (inputs : List Input)
-        (limit horizon processes capacity : ℕ)
+    ensures entries { (f : FileTree) (inputs : List Input) (limit horizon processes capacity : ℕ)
         (owner : ℕ → ℕ) (steps : List (Step × Reply)) (w : World) (p : ℕ)
-        → AreOfOneText names f → refusal_of f ≡ None → AllInputNumbers inputs
+        → IsWritable f → refusal_of f ≡ None → AllInputNumbers inputs
         → ((k : ℕ) → owner k < processes)
         → let job = job_of limit horizon f inputs processes owner in
         IsRun job steps (new_world capacity) w
@@ -151,10 +147,9 @@ pub fn a_whole_run_has_the_trace_of_the_text()
         → (part_by (share_of job p) (events_by (received_in w)) (end_of limit horizon)).entries
         ≡ filter (λ (e : Entry). nat_eq (owner e.component) p)
         (trace_of f inputs horizon limit).entries }
-    ensures outer { (names : List (List ℕ)) (f : FileTree) (inputs : List Input)
-        (limit horizon processes capacity : ℕ)
+    ensures outer { (f : FileTree) (inputs : List Input) (limit horizon processes capacity : ℕ)
         (owner : ℕ → ℕ) (steps : List (Step × Reply)) (w : World)
-        → AreOfOneText names f → refusal_of f ≡ None → AllInputNumbers inputs
+        → IsWritable f → refusal_of f ≡ None → AllInputNumbers inputs
         → ((k : ℕ) → owner k < processes)
         → let job = job_of limit horizon f inputs processes owner in
         IsRun job steps (new_world capacity) w
@@ -175,10 +170,9 @@ pub fn a_whole_run_has_the_trace_of_the_text()
 /// One more round than there are ranks before the end gives the trace of the text, if there is
 /// memory.
 pub fn rounds_give_the_trace_of_the_text()
-    ensures { (names : List (List ℕ)) (f : FileTree) (inputs : List Input)
-        (limit horizon processes capacity k : ℕ)
+    ensures { (f : FileTree) (inputs : List Input) (limit horizon processes capacity k : ℕ)
         (owner : ℕ → ℕ) (w : World)
-        → AreOfOneText names f → refusal_of f ≡ None → AllInputNumbers inputs
+        → IsWritable f → refusal_of f ≡ None → AllInputNumbers inputs
         → ((k : ℕ) → owner k < processes) → 0 < capacity
         → let job = job_of limit horizon f inputs processes owner in
         AreRounds job k (new_world capacity) w → end_of limit horizon + 1 ≤ k

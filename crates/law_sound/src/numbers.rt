@@ -6,13 +6,13 @@ ghost use Rattle.dv_bag.specs.Arrivals.{Arrivals};
 ghost use Rattle.dv_bag.specs.declared.inputs.Input.{Input};
 ghost use Rattle.dv_bag.specs.declared.state.State.{State};
 ghost use Rattle.dv_bag.specs.declared.state.Effect.{Effect};
-ghost use Rattle.dv_check.specs.Refusals.{AreOfOneText};
+ghost use Rattle.dv_check.specs.Writable.{IsWritable};
 ghost use Rattle.dv_conservative.specs.Sound.{are_of_numbers};
 ghost use Rattle.dv_devs.specs.Behaviour.{are_few};
 ghost use Rattle.dv_eval.specs.Meaning.{effect_of};
 ghost use Rattle.dv_eval.specs.Scope.{Scope};
 ghost use Rattle.dv_inputs.specs.Reading.{reading_of};
-ghost use Rattle.dv_syntax.specs.Trees.{AtomicTree, FileTree, Statements};
+ghost use Rattle.dv_syntax.specs.Trees.{FileTree, Statements};
 ghost use Rattle.law_sound.specs.Jobs.{AllInputNumbers, IsModelOfNumbers};
 ghost use Rattle.law_sound.specs.Kept.{are_kept, name_numbers};
 
@@ -32,11 +32,10 @@ pub fn rules_keep_numbers()
         → IfOk (effect_of scope body arrivals s) (λ (e : Effect). IsTrue (are_of_numbers e.sent)) }
 {}
 
-/// Each number of a file is that of a token of its text, and those are at most 2^63 - 1; so the
-/// rules of its models name only numbers of the language, and their start states hold such numbers.
+/// The numbers of a file that could be written down are at most 2^63 - 1; so the rules of its
+/// models name only numbers of the language, and their start states hold such numbers.
 pub fn files_are_of_numbers()
-    ensures { (names : List (List ℕ)) (f : FileTree) → AreOfOneText names f
-        → AllByRecursion IsModelOfNumbers f.models }
+    ensures { (f : FileTree) → IsWritable f → AllByRecursion IsModelOfNumbers f.models }
 {}
 
 /// The values of inputs that were read are numbers of the language.

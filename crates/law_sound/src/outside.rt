@@ -3,7 +3,8 @@
 ghost use Rattle.std.specs.Prelude.{◌≡◌, ℕ, List, [], None, length, replicate};
 ghost use Rattle.dv_bag.specs.Bag.{Counts};
 ghost use Rattle.dv_bag.specs.declared.inputs.Input.{Input};
-ghost use Rattle.dv_check.specs.Refusals.{AreOfOneText, refusal_of};
+ghost use Rattle.dv_check.specs.Refusals.{refusal_of};
+ghost use Rattle.dv_check.specs.Writable.{IsWritable};
 ghost use Rattle.dv_conservative.specs.Flat.{whole};
 ghost use Rattle.dv_devs.specs.Cuts.{RiseFrom};
 ghost use Rattle.dv_devs.specs.Idle.{BringsNothing, LeavesOnlyWhatIsSent};
@@ -43,8 +44,8 @@ pub fn what_leaves_a_flat_model_is_linear()
     ensures outputs { (limit : ℕ) (f : FileTree)
         → LeavesOnlyWhatIsSent (whole (flat_of limit f)) }
     ensures linear { (limit : ℕ) (f : FileTree) → LeavesLinearly (whole (flat_of limit f)) }
-    ensures bags { (names : List (List ℕ)) (f : FileTree) (inputs : List Input) (limit n : ℕ)
-        → AreOfOneText names f → refusal_of f ≡ None
+    ensures bags { (f : FileTree) (inputs : List Input) (limit n : ℕ)
+        → IsWritable f → refusal_of f ≡ None
         → SendsBags limit (whole (flat_of limit f)) (outside f limit inputs) n }
 {
     what_leaves_a_text_is_linear();

@@ -3,7 +3,8 @@
 ghost use Rattle.std.specs.Prelude.{◌≡◌, ◌<◌, ℕ, List, None, Some, length, nat_eq, slice_get};
 ghost use Rattle.dv_bag.specs.Part.{PartOf};
 ghost use Rattle.dv_bag.specs.declared.inputs.Input.{Input};
-ghost use Rattle.dv_check.specs.Refusals.{AreOfOneText, refusal_of};
+ghost use Rattle.dv_check.specs.Refusals.{refusal_of};
+ghost use Rattle.dv_check.specs.Writable.{IsWritable};
 ghost use Rattle.dv_conservative.specs.Flat.{whole};
 ghost use Rattle.dv_devs.specs.Parts.{part_before};
 ghost use Rattle.dv_merge.specs.Whole.{AreCommitted};
@@ -20,9 +21,9 @@ use dv_plain::laws::networks_of_texts;
 /// commit of the run of the text itself; so, merged, they are the trace of the text before that
 /// rank.
 pub fn processes_commit_the_run_of_the_text()
-    ensures { (names : List (List ℕ)) (f : FileTree) (inputs : List Input) (limit n : ℕ)
+    ensures { (f : FileTree) (inputs : List Input) (limit n : ℕ)
         (owner : ℕ → ℕ) (parts : List PartOf)
-        → AreOfOneText names f → refusal_of f ≡ None → ((k : ℕ) → owner k < length parts)
+        → IsWritable f → refusal_of f ≡ None → ((k : ℕ) → owner k < length parts)
         → ((p : ℕ) (x : PartOf) → slice_get parts p ≡ Some x
         → x ≡ part_before (λ k. nat_eq (owner k) p) limit (whole (flat_of limit f))
         (outside f limit inputs) n)

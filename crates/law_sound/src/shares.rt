@@ -3,7 +3,8 @@
 ghost use Rattle.std.specs.Prelude.{◌≡◌, ◌<◌, ℕ, List, [], None, map};
 ghost use Rattle.dv_bag.specs.Part.{nothing};
 ghost use Rattle.dv_bag.specs.declared.inputs.Input.{Input};
-ghost use Rattle.dv_check.specs.Refusals.{AreOfOneText, refusal_of};
+ghost use Rattle.dv_check.specs.Refusals.{refusal_of};
+ghost use Rattle.dv_check.specs.Writable.{IsWritable};
 ghost use Rattle.dv_conservative.specs.Flat.{network};
 ghost use Rattle.dv_conservative.specs.Process.{Outgoing};
 ghost use Rattle.dv_conservative.specs.Sound.{IsSoundShare};
@@ -24,9 +25,9 @@ use dv_devs::laws::runs::holds_end_later;
 /// committed or received, the process has begun correctly, since no hold of a start state ends at
 /// 0.0. The links to a process have different numbers, and so have those from it.
 pub fn processes_of_texts_start_sound()
-    ensures sound { (names : List (List ℕ)) (f : FileTree) (inputs : List Input)
+    ensures sound { (f : FileTree) (inputs : List Input)
         (limit horizon processes p : ℕ) (owner : ℕ → ℕ)
-        → AreOfOneText names f → refusal_of f ≡ None → AllInputNumbers inputs
+        → IsWritable f → refusal_of f ≡ None → AllInputNumbers inputs
         → ((k : ℕ) → owner k < processes)
         → IsSoundShare (fits_number (instances f))
         (share_of (job_of limit horizon f inputs processes owner) p) }

@@ -3,7 +3,8 @@
 ghost use Rattle.std.specs.Prelude.{◌≡◌, ℕ, ◌≤◌, List, None, length};
 ghost use Rattle.dv_bag.specs.Bag.{Counts};
 ghost use Rattle.dv_bag.specs.declared.inputs.Input.{Input};
-ghost use Rattle.dv_check.specs.Refusals.{AreOfOneText, refusal_of};
+ghost use Rattle.dv_check.specs.Refusals.{refusal_of};
+ghost use Rattle.dv_check.specs.Writable.{IsWritable};
 ghost use Rattle.dv_conservative.specs.Flat.{IsNumberedFrom, whole};
 ghost use Rattle.dv_conservative.specs.Sound.{AllLead};
 ghost use Rattle.dv_devs.specs.Network.{trace_before};
@@ -31,8 +32,8 @@ pub fn flat_models_route_by_links()
 
 /// The flat model of an accepted text has the trace of the text.
 pub fn the_flat_model_is_the_model()
-    ensures { (names : List (List ℕ)) (f : FileTree) (inputs : List Input) (horizon limit : ℕ)
-        → AreOfOneText names f → refusal_of f ≡ None
+    ensures { (f : FileTree) (inputs : List Input) (horizon limit : ℕ)
+        → IsWritable f → refusal_of f ≡ None
         → trace_before limit (whole (flat_of limit f)) (outside f limit inputs)
         (end_of limit horizon)
         ≡ trace_of f inputs horizon limit }

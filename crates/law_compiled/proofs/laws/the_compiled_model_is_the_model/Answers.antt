@@ -13,10 +13,10 @@ use Rattle.law_compiled.proofs.Models.{models_of_components}
 use Rattle.law_compiled.proofs.laws.the_compiled_model_is_the_model.Goals as goal
 
 pub returns : goal.returns
-returns c = λ names f inputs horizon limit text fine.
+returns c = λ f inputs horizon limit writable fine.
     let net = network_of limit f in
     let comes = outside f limit inputs in
-    let models = recursion_from_All IsCompilableModel f.models (c.texts_are_compilable.ensures names f text fine) in
+    let models = recursion_from_All IsCompilableModel f.models (c.accepted_files_are_compilable.ensures f writable fine) in
     let faithful = all_faithful
     (λ m can. record {
       keeps = c.programs_behave_as_rules.ensures.keeps m anything can;

@@ -1,7 +1,8 @@
-use Rattle.std.proofs.Common.{◌≡◌, ℕ, List, None}
+use Rattle.std.proofs.Common.{◌≡◌, ℕ, None}
 use Rattle.std.proofs.lemmas.List.Elements.{recursion_from_All}
 use Rattle.dv_syntax.specs.Trees.{FileTree}
-use Rattle.dv_check.specs.Refusals.{AreOfOneText, refusal_of}
+use Rattle.dv_check.specs.Refusals.{refusal_of}
+use Rattle.dv_check.specs.Writable.{IsWritable}
 use Rattle.dv_conservative.specs.World.{new_world}
 use Rattle.dv_gen.specs.ModelCode.{IsCompilableModel}
 use Rattle.dv_tree.specs.Instances.{instances}
@@ -16,10 +17,10 @@ use Rattle.law_rules.proofs.laws.runs_by_programs_are_runs_by_rules.Goals as goa
 
 pub returns : goal.returns
 returns c =
-    let pairs : (names : List (List ℕ)) (f : FileTree) (limit : ℕ) → AreOfOneText names f → refusal_of f ≡ None
+    let pairs : (f : FileTree) (limit : ℕ) → IsWritable f → refusal_of f ≡ None
     → AllPairs (members_by_rules limit 0 (instances f)) (members_from limit 0 (instances f)) =
-    λ names f limit text fine.
-    let models = recursion_from_All IsCompilableModel f.models (c.texts_are_compilable.ensures names f text fine) in
+    λ f limit writable fine.
+    let models = recursion_from_All IsCompilableModel f.models (c.accepted_files_are_compilable.ensures f writable fine) in
     pairs_from limit 0 (instances f)
     (all_faithful
     (λ m can. record {
@@ -28,10 +29,10 @@ returns c =
       start = c.start_states_fit.ensures m can.accepted;
     }) (instances f) (models_of_components IsCompilableModel f models)) in
     record {
-      rounds = λ names f inputs limit horizon processes capacity rounds owner ended w text fine h.
-          ends (job_by_rules limit horizon f inputs processes owner) (members_from limit 0 (instances f)) (pairs names f limit text fine)
+      rounds = λ f inputs limit horizon processes capacity rounds owner ended w writable fine h.
+          ends (job_by_rules limit horizon f inputs processes owner) (members_from limit 0 (instances f)) (pairs f limit writable fine)
           rounds ended (new_world capacity) w h;
-      steps = λ names f inputs limit horizon processes capacity owner steps w text fine h.
-          runs (job_by_rules limit horizon f inputs processes owner) (members_from limit 0 (instances f)) (pairs names f limit text fine)
+      steps = λ f inputs limit horizon processes capacity owner steps w writable fine h.
+          runs (job_by_rules limit horizon f inputs processes owner) (members_from limit 0 (instances f)) (pairs f limit writable fine)
           steps (new_world capacity) w h;
     }

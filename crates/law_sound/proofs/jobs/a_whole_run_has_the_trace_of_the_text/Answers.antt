@@ -19,23 +19,23 @@ same_lines one other (suc n) h =
     ∙ ap (union_of_lines (united other n)) (h n (omega arith))
 
 pub returns-clause-entries : goal.returns-clause-entries
-returns-clause-entries c names f inputs limit horizon processes capacity owner steps w p text fine given within run at =
+returns-clause-entries c f inputs limit horizon processes capacity owner steps w p writable fine given within run at =
     let job = job_of limit horizon f inputs processes owner in
-    let good = c.texts_are_jobs.ensures names f inputs limit horizon processes owner text fine given within in
+    let good = c.texts_are_jobs.ensures f inputs limit horizon processes owner writable fine given within in
     ap (λ (part : PartOf). part.entries)
     (c.a_whole_run_is_the_trace.ensures (fits_number (instances f)) job capacity steps w p good run at
-    ∙ c.parts_of_the_flat_model_are_those_of_the_text.ensures.part names f inputs limit (end_of limit horizon) (owned job p) text fine)
+    ∙ c.parts_of_the_flat_model_are_those_of_the_text.ensures.part f inputs limit (end_of limit horizon) (owned job p) writable fine)
     ∙ c.parts_of_processes_are_the_trace.ensures.entries limit (network_of limit f) (outside f limit inputs) owner (end_of limit horizon) p
 
 pub returns-clause-outer : goal.returns-clause-outer
-returns-clause-outer c names f inputs limit horizon processes capacity owner steps w text fine given within run at =
+returns-clause-outer c f inputs limit horizon processes capacity owner steps w writable fine given within run at =
     let job = job_of limit horizon f inputs processes owner in
-    let good = c.texts_are_jobs.ensures names f inputs limit horizon processes owner text fine given within in
+    let good = c.texts_are_jobs.ensures f inputs limit horizon processes owner writable fine given within in
     same_lines (λ p. (part_by (share_of job p) (events_by (received_in w)) (end_of limit horizon)).outer)
     (λ p. (part_before (owned job p) limit (network_of limit f) (outside f limit inputs) (end_of limit horizon)).outer) processes
     (λ p lt. ap (λ (part : PartOf). part.outer)
     (c.a_whole_run_is_the_trace.ensures (fits_number (instances f)) job capacity steps w p good run (at p lt)
-    ∙ c.parts_of_the_flat_model_are_those_of_the_text.ensures.part names f inputs limit (end_of limit horizon) (owned job p) text fine))
+    ∙ c.parts_of_the_flat_model_are_those_of_the_text.ensures.part f inputs limit (end_of limit horizon) (owned job p) writable fine))
     ∙ c.parts_of_processes_are_the_trace.ensures.outer limit (network_of limit f) (outside f limit inputs) owner
     (end_of limit horizon) processes
     (c.networks_of_texts.ensures.ready limit f) (c.networks_of_texts.ensures.outputs limit f)

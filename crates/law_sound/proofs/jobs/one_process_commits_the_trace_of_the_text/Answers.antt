@@ -16,7 +16,7 @@ pub returns-clause-outgoing : goal.returns-clause-outgoing
 returns-clause-outgoing c f inputs limit horizon owner = refl
 
 pub returns-clause-before : goal.returns-clause-before
-returns-clause-before c names f inputs limit horizon n owner events text fine all =
+returns-clause-before c f inputs limit horizon n owner events writable fine all =
     let comes : ℕ → List Counts = outside f limit inputs in
     let net : Network (List Counts) = whole (flat_of limit f) in
     let ready = c.networks_of_texts.ensures.ready limit f in
@@ -25,9 +25,9 @@ returns-clause-before c names f inputs limit horizon n owner events text fine al
     ∙ sym (length-map (flat_of limit f).members (λ (m : Member). m.behaviour)) in
     c.one_process_commits_the_trace.ensures (job_of limit horizon f inputs 1 owner) 0 n events all refl
     ∙ sym (c.parts_are_of_the_trace.ensures.all limit net comes n numbered)
-    ∙ c.parts_of_the_flat_model_are_those_of_the_text.ensures.part names f inputs limit n (λ k. true) text fine
+    ∙ c.parts_of_the_flat_model_are_those_of_the_text.ensures.part f inputs limit n (λ k. true) writable fine
     ∙ c.parts_are_of_the_trace.ensures.all limit (network_of limit f) comes n ready.numbered
 
 pub returns-clause-whole : goal.returns-clause-whole
-returns-clause-whole c names f inputs limit horizon owner events text fine all =
-    returns-clause-before c names f inputs limit horizon (end_of limit horizon) owner events text fine all
+returns-clause-whole c f inputs limit horizon owner events writable fine all =
+    returns-clause-before c f inputs limit horizon (end_of limit horizon) owner events writable fine all

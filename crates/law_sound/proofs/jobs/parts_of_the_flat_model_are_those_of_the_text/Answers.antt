@@ -3,7 +3,8 @@ use Rattle.std.proofs.lemmas.List.Elements.{recursion_from_All}
 use Rattle.dv_syntax.specs.Trees.{FileTree}
 use Rattle.dv_bag.specs.BagLists.{AllAreBags}
 use Rattle.dv_bag.specs.declared.inputs.Input.{Input}
-use Rattle.dv_check.specs.Refusals.{AreOfOneText, refusal_of}
+use Rattle.dv_check.specs.Refusals.{refusal_of}
+use Rattle.dv_check.specs.Writable.{IsWritable}
 use Rattle.dv_devs.specs.Fits.{AreAlike}
 use Rattle.dv_devs.specs.Network.{emissions_at}
 use Rattle.dv_devs.specs.Parts.{sent_among}
@@ -22,10 +23,10 @@ returns c =
     let bags : (f : FileTree) (inputs : List Input) (limit n : ℕ) →
     AllAreBags (emissions_at limit (network_of limit f) (outside f limit inputs) n) =
     λ f inputs limit. components_send_bags c.rules_send_bags.ensures limit f (outside f limit inputs) in
-    let alike : (names : List (List ℕ)) (f : FileTree) (inputs : List Input) (limit : ℕ) → AreOfOneText names f → refusal_of f ≡ None →
+    let alike : (f : FileTree) (inputs : List Input) (limit : ℕ) → IsWritable f → refusal_of f ≡ None →
     AreAlike (fits_at (instances f)) anything limit (network_of limit f) (compiled_network limit f) (outside f limit inputs) =
-    λ names f inputs limit text fine.
-    let models = recursion_from_All IsCompilableModel f.models (c.texts_are_compilable.ensures names f text fine) in
+    λ f inputs limit writable fine.
+    let models = recursion_from_All IsCompilableModel f.models (c.accepted_files_are_compilable.ensures f writable fine) in
     let faithful = all_faithful
     (λ m can. record {
       keeps = c.programs_behave_as_rules.ensures.keeps m anything can;
@@ -39,22 +40,22 @@ returns c =
     (λ n. c.links_route_as_the_tree.ensures.all_leave f (emissions_at limit (network_of limit f) (outside f limit inputs) n)
     (bags f inputs limit n)) in
     record {
-      components = λ names f inputs limit n text fine.
+      components = λ f inputs limit n writable fine.
           let comes = outside f limit inputs in
           components_same limit f comes n
           ∙ sym (c.alike_networks_run_alike.ensures.components (fits_at (instances f)) anything limit (network_of limit f)
-          (compiled_network limit f) comes n (alike names f inputs limit text fine) (anything_comes limit (network_of limit f) comes n));
-      emissions = λ names f inputs limit n text fine.
+          (compiled_network limit f) comes n (alike f inputs limit writable fine) (anything_comes limit (network_of limit f) comes n));
+      emissions = λ f inputs limit n writable fine.
           let comes = outside f limit inputs in
           emissions_same limit f comes n
           ∙ sym (c.alike_networks_run_alike.ensures.emissions (fits_at (instances f)) anything limit (network_of limit f)
-          (compiled_network limit f) comes n (alike names f inputs limit text fine) (anything_comes limit (network_of limit f) comes n));
-      part = λ names f inputs limit n who text fine.
+          (compiled_network limit f) comes n (alike f inputs limit writable fine) (anything_comes limit (network_of limit f) comes n));
+      part = λ f inputs limit n who writable fine.
           let net = network_of limit f in
           let comes = outside f limit inputs in
           parts_same limit f comes who n
           ∙ sym (c.alike_networks_run_alike.ensures.part (fits_at (instances f)) anything limit net (compiled_network limit f) comes who n
-          (alike names f inputs limit text fine) (anything_comes limit net comes n)
+          (alike f inputs limit writable fine) (anything_comes limit net comes n)
           (λ k lt. sym (c.links_route_as_the_tree.ensures.all_leave f (sent_among who net.numbers (emissions_at limit net comes k))
           (bags_among who net.numbers (emissions_at limit net comes k) (bags f inputs limit k)))));
     }

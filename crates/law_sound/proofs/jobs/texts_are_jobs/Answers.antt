@@ -8,13 +8,13 @@ use Rattle.law_sound.proofs.Jobbing.{all_sound, numbers_outside}
 use Rattle.law_sound.proofs.jobs.texts_are_jobs.Goals as goal
 
 pub returns : goal.returns
-returns c names f inputs limit horizon processes owner text fine given within =
-    let models = recursion_from_All IsCompilableModel f.models (c.texts_are_compilable.ensures names f text fine) in
+returns c f inputs limit horizon processes owner writable fine given within =
+    let models = recursion_from_All IsCompilableModel f.models (c.accepted_files_are_compilable.ensures f writable fine) in
     let job = job_of limit horizon f inputs processes owner in
     record {
       numbered = numbered limit f;
       sound = all_sound limit owner f c.components_are_sound.ensures (models_of_components IsCompilableModel f models)
-          (models_of_components IsModelOfNumbers f (c.files_are_of_numbers.ensures names f text));
+          (models_of_components IsModelOfNumbers f (c.files_are_of_numbers.ensures f writable));
       outside = numbers_outside limit f inputs given;
       lead = all_lead limit f;
       apart = λ q. c.channels_are_where_links_cross.ensures.apart job refl q;

@@ -2,4 +2,4 @@ use Rattle.law_sound.proofs.Spelled.{file_of_numbers}
 use Rattle.law_sound.proofs.numbers.files_are_of_numbers.Goals as goal
 
 pub returns : goal.returns
-returns c names f text = file_of_numbers text.text names text.tokens f text.lexed text.parsed
+returns c = file_of_numbers

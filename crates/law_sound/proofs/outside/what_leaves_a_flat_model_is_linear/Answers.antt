@@ -19,6 +19,6 @@ returns-clause-linear c limit f =
     flat_leaves_linearly limit f (c.what_leaves_a_text_is_linear.ensures.linear limit f) (c.links_route_as_the_tree.ensures.all_leave f)
 
 pub returns-clause-bags : goal.returns-clause-bags
-returns-clause-bags c names f inputs limit n text fine k lt =
-    subst AllBags (sym (c.parts_of_the_flat_model_are_those_of_the_text.ensures.emissions names f inputs limit k text fine))
+returns-clause-bags c f inputs limit n writable fine k lt =
+    subst AllBags (sym (c.parts_of_the_flat_model_are_those_of_the_text.ensures.emissions f inputs limit k writable fine))
     (c.what_leaves_a_text_is_linear.ensures.bags limit f (outside f limit inputs) n k lt)

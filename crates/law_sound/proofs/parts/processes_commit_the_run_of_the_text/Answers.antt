@@ -4,7 +4,7 @@ use Rattle.dv_plain.specs.Source.{outside}
 use Rattle.law_sound.proofs.parts.processes_commit_the_run_of_the_text.Goals as goal
 
 pub returns : goal.returns
-returns c names f inputs limit n owner parts text fine within each = record {
+returns c f inputs limit n owner parts writable fine within each = record {
   ready = c.networks_of_texts.ensures.ready limit f;
   rise = c.counted_numbers_rise.ensures (length (instances f));
   outputs = c.networks_of_texts.ensures.outputs limit f;
@@ -13,5 +13,5 @@ returns c names f inputs limit n owner parts text fine within each = record {
   owned = within;
   each = λ p x at.
       each p x at
-      ∙ c.parts_of_the_flat_model_are_those_of_the_text.ensures.part names f inputs limit n (λ k. nat_eq (owner k) p) text fine;
+      ∙ c.parts_of_the_flat_model_are_those_of_the_text.ensures.part f inputs limit n (λ k. nat_eq (owner k) p) writable fine;
 }

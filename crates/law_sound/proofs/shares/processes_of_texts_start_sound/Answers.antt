@@ -10,9 +10,9 @@ use Rattle.law_sound.proofs.Starting.{members_later, rising_apart}
 use Rattle.law_sound.proofs.shares.processes_of_texts_start_sound.Goals as goal
 
 pub returns-clause-sound : goal.returns-clause-sound
-returns-clause-sound c names f inputs limit horizon processes p owner text fine given within =
+returns-clause-sound c f inputs limit horizon processes p owner writable fine given within =
     c.processes_start_sound.ensures.sound (fits_number (instances f)) (job_of limit horizon f inputs processes owner) p
-    (c.texts_are_jobs.ensures names f inputs limit horizon processes owner text fine given within)
+    (c.texts_are_jobs.ensures f inputs limit horizon processes owner writable fine given within)
 
 pub returns-clause-begun : goal.returns-clause-begun
 returns-clause-begun c f inputs limit horizon processes p owner v share components committed held =
