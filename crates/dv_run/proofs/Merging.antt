@@ -2,7 +2,8 @@
 use Rattle.std.proofs.Common.{◌≡◌, ℕ, ◌<◌, List, None}
 use Rattle.dv_bag.specs.declared.inputs.Input.{Input}
 use Rattle.dv_board.specs.Jobs.{IsMergeable}
-use Rattle.dv_check.specs.Refusals.{AreOfOneText, refusal_of}
+use Rattle.dv_check.specs.Refusals.{refusal_of}
+use Rattle.dv_check.specs.Writable.{IsWritable}
 use Rattle.dv_conservative.specs.Flat.{whole}
 use Rattle.dv_devs.specs.Cuts.{RiseFrom}
 use Rattle.dv_devs.specs.Idle.{LeavesOnlyWhatIsSent}
@@ -21,17 +22,17 @@ pub record Leaves (f : FileTree) (limit : ℕ) : Type 0 where
   pub rise : RiseFrom 0 (whole (flat_of limit f)).numbers
   pub outputs : LeavesOnlyWhatIsSent (whole (flat_of limit f))
   pub linear : LeavesLinearly (whole (flat_of limit f))
-  pub bags : (names : List (List ℕ)) (inputs : List Input) (n : ℕ) → AreOfOneText names f → refusal_of f ≡ None
+  pub bags : (inputs : List Input) (n : ℕ) → IsWritable f → refusal_of f ≡ None
       → SendsBags limit (whole (flat_of limit f)) (outside f limit inputs) n
 
-pub merges : (j : TextJob) → AreOfOneText j.tree.now.names (file_of j.tree.now.file) → refusal_of (file_of j.tree.now.file) ≡ None
+pub merges : (j : TextJob) → IsWritable (file_of j.tree.now.file) → refusal_of (file_of j.tree.now.file) ≡ None
     → Leaves (file_of j.tree.now.file) j.limit → ((k : ℕ) → owner_of j.groups.now k < j.groups.now.processes)
     → IsMergeable (text_job j)
-merges j text accepted leaves owned = record {
+merges j writable accepted leaves owned = record {
   ready = leaves.ready;
   rise = leaves.rise;
   outputs = leaves.outputs;
   linear = leaves.linear;
-  bags = λ n. leaves.bags j.tree.now.names j.inputs.now n text accepted;
+  bags = λ n. leaves.bags j.inputs.now n writable accepted;
   owned = owned;
 }

@@ -3,7 +3,8 @@ use Rattle.std.proofs.Common.{◌≡◌, ℕ, ◌<◌, List, [], None, map, refl
 use Rattle.std.specs.List.{AllByRecursion}
 use Rattle.dv_bag.specs.Part.{nothing}
 use Rattle.dv_bag.specs.declared.inputs.Input.{Input}
-use Rattle.dv_check.specs.Refusals.{AreOfOneText, refusal_of}
+use Rattle.dv_check.specs.Refusals.{refusal_of}
+use Rattle.dv_check.specs.Writable.{IsWritable}
 use Rattle.dv_syntax.specs.Trees.{FileTree}
 use Rattle.dv_tree.specs.Instances.{instances}
 use Rattle.dv_conservative.specs.Alike.{with_outside}
@@ -34,8 +35,8 @@ use Rattle.dv_run.proofs.Numbered.{holds_at, holds_of_all}
 
 abbrev pub StartsSound : Type 0
 StartsSound =
-    (names : List (List ℕ)) (f : FileTree) (inputs : List Input) (limit horizon processes p : ℕ) (owner : ℕ → ℕ)
-    → AreOfOneText names f → refusal_of f ≡ None → AllInputNumbers inputs → ((k : ℕ) → owner k < processes)
+    (f : FileTree) (inputs : List Input) (limit horizon processes p : ℕ) (owner : ℕ → ℕ)
+    → IsWritable f → refusal_of f ≡ None → AllInputNumbers inputs → ((k : ℕ) → owner k < processes)
     → IsSoundShare (fits_number (instances f)) (share_of (job_of limit horizon f inputs processes owner) p)
 
 abbrev pub Begins : Type 0
@@ -51,8 +52,8 @@ ApartIn = (job : Job) (p : ℕ) → AreApart (share_of job p).incoming
 abbrev pub ApartOut : Type 0
 ApartOut = (job : Job) (p : ℕ) → AreApart (map (λ (o : Outgoing). o.number) (share_of job p).outgoing)
 
-module _ (names : List (List ℕ)) (f : FileTree) (inputs : List Input) (horizon limit processes : ℕ) (owner : ℕ → ℕ)
-    (text : AreOfOneText names f) (accepted : refusal_of f ≡ None) (numbers : AllInputNumbers inputs)
+module _ (f : FileTree) (inputs : List Input) (horizon limit processes : ℕ) (owner : ℕ → ℕ)
+    (writable : IsWritable f) (accepted : refusal_of f ≡ None) (numbers : AllInputNumbers inputs)
     (within : (k : ℕ) → owner k < processes)
     (sound : StartsSound) (begins : Begins) (apart_in : ApartIn) (apart_out : ApartOut) where
   abbrev job : Job
@@ -70,7 +71,7 @@ module _ (names : List (List ℕ)) (f : FileTree) (inputs : List Input) (horizon
 
     is_sound : IsSoundShare (fits_number (instances f)) here
     is_sound =
-        let h = sound names f inputs limit horizon processes p owner text accepted numbers within in
+        let h = sound f inputs limit horizon processes p owner writable accepted numbers within in
         let made : IsSoundShare (fits_number (instances f)) (with_outside here.outside there) = record {
           sound = h.sound;
           outside = λ n. numbers_at s.tables.limit s.ports s.inputs own n;

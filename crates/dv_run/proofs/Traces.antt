@@ -9,7 +9,8 @@ use Rattle.std.specs.Io.KnownBytes.{Appends}
 use Rattle.dv_time.specs.Time.{IsOfRun, end_of, rank}
 use Rattle.dv_time.specs.declared.time.Time.{Time}
 use Rattle.dv_bag.specs.declared.inputs.Input.{Input}
-use Rattle.dv_check.specs.Refusals.{AreOfOneText, refusal_of}
+use Rattle.dv_check.specs.Refusals.{refusal_of}
+use Rattle.dv_check.specs.Writable.{IsWritable}
 use Rattle.dv_syntax.specs.Trees.{FileTree, file_of}
 use Rattle.dv_devs.specs.Clocks.{least_rank}
 use Rattle.dv_devs.specs.Network.{trace_before}
@@ -51,13 +52,13 @@ use Rattle.dv_run.specs.Traces.{PartsOfTheText, TraceLaws}
 
 -- ---- The flat model of a text has the text's lines
 
-module _ (names : List (List ℕ)) (f : FileTree) (played : List Input) (limit : ℕ) (text : AreOfOneText names f)
+module _ (names : List (List ℕ)) (f : FileTree) (played : List Input) (limit : ℕ) (writable : IsWritable f)
     (accepted : refusal_of f ≡ None) (laws : TraceLaws f limit) where
   pub same_trace : (n : ℕ) → trace_before limit (whole (flat_of limit f)) (outside f limit played) n
       ≡ trace_before limit (network_of limit f) (outside f limit played) n
   same_trace n =
       sym (laws.all limit (whole (flat_of limit f)) (outside f limit played) n laws.flat.numbered)
-      ∙ laws.parts names f played limit n (λ k. true) text accepted
+      ∙ laws.parts f played limit n (λ k. true) writable accepted
       ∙ laws.all limit (network_of limit f) (outside f limit played) n laws.ready.numbered
 
   pub same_lines : (n : ℕ)
@@ -91,8 +92,7 @@ cut_before_end job clocks some within not_all = elim (cases_lt (least_rank job.l
 
 -- ---- What ran, printed
 
-module _ (j : TextJob) (text : AreOfOneText j.tree.now.names (file_of j.tree.now.file)) (accepted : refusal_of (file_of j.tree.now.file)
-    ≡ None)
+module _ (j : TextJob) (writable : IsWritable (file_of j.tree.now.file)) (accepted : refusal_of (file_of j.tree.now.file) ≡ None)
     (laws : TraceLaws (file_of j.tree.now.file) j.limit) {old new : Option (List ℕ)} where
   -- up to the least of the clocks that were reached
   pub is_printed : (r : Ran) → IsWrittenTo (text_job j) j.tree.now old new r.written
@@ -104,11 +104,11 @@ module _ (j : TextJob) (text : AreOfOneText j.tree.now.names (file_of j.tree.now
   is_printed r written mark some count within whole = record {
     lines =
         subst (λ (n : ℕ). Appends old new (lines_before j.tree.now.names (file_of j.tree.now.file) j.inputs.now j.limit n)) mark
-        (subst (Appends old new) (same_lines j.tree.now.names (file_of j.tree.now.file) j.inputs.now j.limit text accepted laws
+        (subst (Appends old new) (same_lines j.tree.now.names (file_of j.tree.now.file) j.inputs.now j.limit writable accepted laws
         (rank j.limit r.written.mark)) written.text);
     faults =
         written.faults
-        ∙ ap has_fault (same_trace j.tree.now.names (file_of j.tree.now.file) j.inputs.now j.limit text accepted laws
+        ∙ ap has_fault (same_trace j.tree.now.names (file_of j.tree.now.file) j.inputs.now j.limit writable accepted laws
         (rank j.limit r.written.mark))
         ∙ ap (λ (n : ℕ). has_fault (trace_before j.limit (network_of j.limit (file_of j.tree.now.file))
         (outside (file_of j.tree.now.file) j.limit j.inputs.now) n)) mark;
@@ -127,7 +127,7 @@ module _ (j : TextJob) (text : AreOfOneText j.tree.now.names (file_of j.tree.now
     upto = begun.upto;
     within = begun.within;
     lines =
-        subst (AppendsBeginning old new) (same_lines j.tree.now.names (file_of j.tree.now.file) j.inputs.now j.limit text accepted laws
+        subst (AppendsBeginning old new) (same_lines j.tree.now.names (file_of j.tree.now.file) j.inputs.now j.limit writable accepted laws
         begun.upto) begun.text;
   }
 
@@ -206,11 +206,11 @@ StepByRules j capacity =
     (steps : List (Does × Reply)) (w : World) → IsRunWithProgress (text_job j) steps (new_world capacity) w
     → IsRunWithProgress (job_of_rules j) steps (new_world capacity) w
 
-pub is_stepped : (names : List (List ℕ)) (j : TextJob) → AreOfOneText names (file_of j.tree.now.file)
+pub is_stepped : (j : TextJob) → IsWritable (file_of j.tree.now.file)
     → refusal_of (file_of j.tree.now.file) ≡ None → PartsOfTheText → (capacity : ℕ) (steps : List Step) (s : Stepped)
     → StepByRules j capacity → HasStepped (text_job j) capacity steps s
     → IsStepped (file_of j.tree.now.file) j.inputs.now j.groups.now j.horizon j.limit capacity steps s
-is_stepped names j text accepted parts capacity steps s by_rules h = record {
+is_stepped j writable accepted parts capacity steps s by_rules h = record {
   world = h.world;
   run = by_rules (with_replies steps s.replies.items) h.world h.run;
   each = h.each;
@@ -218,7 +218,7 @@ is_stepped names j text accepted parts capacity steps s by_rules h = record {
   count = (h.handed.count, h.handed.long);
   parts = λ p x t there at.
       h.handed.parts p x t there at
-      ∙ parts names (file_of j.tree.now.file) j.inputs.now j.limit (rank j.limit t) (λ k. nat_eq (owner_of j.groups.now k) p) text accepted;
+      ∙ parts (file_of j.tree.now.file) j.inputs.now j.limit (rank j.limit t) (λ k. nat_eq (owner_of j.groups.now k) p) writable accepted;
 }
 
 -- ---- What failed

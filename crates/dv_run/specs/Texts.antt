@@ -5,7 +5,8 @@ use Rattle.dv_bag.specs.declared.response.Response.{Response}
 use Rattle.dv_bag.specs.Responses.{ticks_of}
 use Rattle.dv_bound.specs.Response.{response_of}
 use Rattle.dv_bound.specs.Short.{IsShort}
-use Rattle.dv_check.specs.Refusals.{AreOfOneText, refusal_of}
+use Rattle.dv_check.specs.Refusals.{refusal_of}
+use Rattle.dv_check.specs.Writable.{IsWritable}
 use Rattle.dv_coded.specs.Components.{StandsAmong}
 use Rattle.dv_coded.specs.Models.{behaviour_of}
 use Rattle.dv_coded.specs.declared.programs.Programs.{Programs}
@@ -41,9 +42,10 @@ pub record AreLinksOf (f : FileTree) (links : LinkLists) : Type 0 where
   pub entries : links.entries.items ≡ entry_links f
   pub exits : links.exits.items ≡ exit_links f
 
--- A text is ready to be run with these links: it is accepted, the values of its inputs are numbers, and the links are those of its file.
+-- A text is ready to be run with these links: its file is accepted and could be written down, the values of its inputs are numbers, and
+-- the links are those of its file.
 pub record IsReady (j : TextJob) (given : LinkLists) : Type 0 where
-  pub text : AreOfOneText j.tree.now.names (file_of j.tree.now.file)
+  pub writable : IsWritable (file_of j.tree.now.file)
   pub accepted : refusal_of (file_of j.tree.now.file) ≡ None
   pub numbers : AllInputNumbers j.inputs.now
   pub links : AreLinksOf (file_of j.tree.now.file) given

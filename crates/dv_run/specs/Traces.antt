@@ -2,7 +2,8 @@
 use Rattle.std.specs.Prelude.{◌≡◌, ℕ, Bool, true, List, None, length}
 use Rattle.dv_bag.specs.Bag.{Counts}
 use Rattle.dv_bag.specs.declared.inputs.Input.{Input}
-use Rattle.dv_check.specs.Refusals.{AreOfOneText, refusal_of}
+use Rattle.dv_check.specs.Refusals.{refusal_of}
+use Rattle.dv_check.specs.Writable.{IsWritable}
 use Rattle.dv_syntax.specs.Trees.{FileTree}
 use Rattle.dv_devs.specs.Network.{Network, trace_before}
 use Rattle.dv_devs.specs.NextTimes.{IsReady}
@@ -14,8 +15,8 @@ use Rattle.law_sound.specs.Members.{flat_of}
 
 abbrev pub PartsOfTheText : Type 0
 PartsOfTheText =
-    (names : List (List ℕ)) (f : FileTree) (inputs : List Input) (limit n : ℕ) (who : ℕ → Bool)
-    → AreOfOneText names f → refusal_of f ≡ None
+    (f : FileTree) (inputs : List Input) (limit n : ℕ) (who : ℕ → Bool)
+    → IsWritable f → refusal_of f ≡ None
     → part_before who limit (whole (flat_of limit f)) (outside f limit inputs) n
     ≡ part_before who limit (network_of limit f) (outside f limit inputs) n
 

@@ -17,7 +17,7 @@ use crate::text_job::TextJob;
 use crate::text_traces::traces_of;
 use dv_coded::{Bench, Components, components_of};
 use dv_flat::LinkLists;
-use dv_gen::laws::texts_are_compilable;
+use dv_gen::laws::accepted_files_are_compilable;
 use dv_stream::{Bounds, Ran, stream_plan};
 use dv_text::WriteError;
 use law_rules::laws::runs_by_programs_are_runs_by_rules;
@@ -49,7 +49,7 @@ pub fn compiled_run<W: Write>(
 {
     // For the prover alone: the atomic models of an accepted text have programs, its flat model has
     // its trace, and what its processes do by programs they may do by rules.
-    texts_are_compilable();
+    accepted_files_are_compilable();
     traces_of(job, links);
     runs_by_programs_are_runs_by_rules();
     let mut bench = Bench::new(alloc);

@@ -3,7 +3,8 @@
 ghost use Rattle.std.specs.List.{All, range_with_len};
 ghost use Rattle.std.specs.Prelude.{◌≡◌, None, map, IfOk};
 ghost use Rattle.dv_bag.specs.Responses.{ticks_of};
-ghost use Rattle.dv_check.specs.Refusals.{AreOfOneText, refusal_of};
+ghost use Rattle.dv_check.specs.Refusals.{refusal_of};
+ghost use Rattle.dv_check.specs.Writable.{IsWritable};
 ghost use Rattle.dv_conservative.specs.Responses.{least_response};
 ghost use Rattle.dv_gen.specs.ModelCode.{IsCompilableModel};
 ghost use Rattle.dv_partition.specs.Groups.{owner_of};
@@ -15,7 +16,7 @@ use crate::components::lone_components;
 use dv_bag::Response;
 use dv_check::laws::checked_files;
 use dv_coded::Components;
-use dv_gen::laws::texts_are_compilable;
+use dv_gen::laws::accepted_files_are_compilable;
 use dv_partition::Groups;
 use dv_plan::responses::responses;
 use dv_tree::Tree;
@@ -35,7 +36,7 @@ pub fn least_responses(
     tree: &Tree,
     groups: &Groups,
 ) -> Result<Vec<Response>, AllocError>
-    requires text { AreOfOneText tree.now.names (file_of tree.now.file) }
+    requires writable { IsWritable (file_of tree.now.file) }
     requires accepted { refusal_of (file_of tree.now.file) ≡ None }
     ensures { IfOk result (λ least. map ticks_of least.items
         ≡ map (λ p. least_response (owner_of groups.now) p 0
@@ -45,7 +46,7 @@ pub fn least_responses(
     // For the prover alone: an accepted text has few components, and its atomic models have
     // programs.
     checked_files();
-    texts_are_compilable();
+    accepted_files_are_compilable();
     let each = responses_of(alloc, tree)?;
     responses(alloc, groups, &each)
 }

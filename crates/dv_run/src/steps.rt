@@ -11,7 +11,7 @@ use crate::text_job::TextJob;
 use dv_coded::{Bench, Components, components_of};
 use dv_core::Step;
 use dv_flat::LinkLists;
-use dv_gen::laws::texts_are_compilable;
+use dv_gen::laws::accepted_files_are_compilable;
 use dv_plan::{Stepped, step_plan};
 use law_rules::laws::runs_by_programs_are_runs_by_rules;
 use law_sound::jobs::parts_of_the_flat_model_are_those_of_the_text;
@@ -39,7 +39,7 @@ pub fn compiled_steps(
 {
     // For the prover alone: the atomic models of an accepted text have programs, the parts of its
     // flat model are those of the text, and what processes do by programs they may do by rules.
-    texts_are_compilable();
+    accepted_files_are_compilable();
     parts_of_the_flat_model_are_those_of_the_text();
     runs_by_programs_are_runs_by_rules();
     let mut bench = Bench::new(alloc);

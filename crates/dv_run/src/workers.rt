@@ -16,7 +16,7 @@ use crate::text_job::TextJob;
 use crate::text_traces::traces_of;
 use dv_coded::{Bench, Components};
 use dv_flat::LinkLists;
-use dv_gen::laws::texts_are_compilable;
+use dv_gen::laws::accepted_files_are_compilable;
 use dv_stream::{RanByWorkers, Watch, Workers, stream_plan_by_workers};
 use dv_text::WriteError;
 use std::alloc::{AllocError, Global};
@@ -71,7 +71,7 @@ pub fn compiled_workers<R: Threads + Wait + Sync, G: Watch, W: Write>(
 {
     // For the prover alone: the atomic models of an accepted text have programs, and its flat model
     // has its trace.
-    texts_are_compilable();
+    accepted_files_are_compilable();
     traces_of(job, links);
     let components = lone_components(alloc, job.tree, job.limit)?;
     let works = benches_of(alloc, bounds.workers)?;

@@ -7,7 +7,8 @@ use Rattle.dv_syntax.specs.Trees.{FileTree, ModelTree, atomic_of, file_of, model
 use Rattle.dv_syntax.specs.declared.tree.File.{File}
 use Rattle.dv_lex.specs.declared.error.LoadError.{LoadError}
 use Rattle.dv_check.specs.declared.checked.Checked.{Checked}
-use Rattle.dv_check.specs.Refusals.{AreOfOneText, refusal_of}
+use Rattle.dv_check.specs.Refusals.{refusal_of}
+use Rattle.dv_check.specs.Writable.{IsWritable}
 use Rattle.dv_syntax.specs.declared.tree.Atomic.{Atomic as DeclaredAtomic}
 use Rattle.dv_syntax.specs.declared.tree.Model.{Model}
 use Rattle.dv_syntax.specs.declared.tree.Model.TheVariants as model
@@ -26,11 +27,11 @@ pub compilable_at : (models : List Model) (index : ℕ) (m : DeclaredAtomic) →
     → slice_get models index ≡ Some (model.Atomic m) → IsCompilable (atomic_of m)
 compilable_at models index m all is = model_at models all index (model.Atomic m) is
 
-pub all_compilable : (names : List (List ℕ)) (f : File) (found : Result Checked LoadError)
-    → ((texts : List (List ℕ)) (tree : FileTree) → AreOfOneText texts tree → refusal_of tree ≡ None
+pub all_compilable : (f : File) (found : Result Checked LoadError)
+    → ((tree : FileTree) → IsWritable tree → refusal_of tree ≡ None
     → All (λ (m : ModelTree). IsCompilableModel m) tree.models)
-    → AreOfOneText names (file_of f) → IfOk found (λ c. c.file ≡ f) → OnOk found (refusal_of (file_of f) ≡ None)
+    → IsWritable (file_of f) → IfOk found (λ c. c.file ≡ f) → OnOk found (refusal_of (file_of f) ≡ None)
     → IfOk found (λ c. All (λ (m : ModelTree). IsCompilableModel m) (file_of c.file).models)
-all_compilable names f (Ok c) law one same accepted =
-    subst (λ g. All (λ (m : ModelTree). IsCompilableModel m) (file_of g).models) (sym same) (law names (file_of f) one accepted)
-all_compilable names f (Err e) law one same accepted = tt
+all_compilable f (Ok c) law one same accepted =
+    subst (λ g. All (λ (m : ModelTree). IsCompilableModel m) (file_of g).models) (sym same) (law (file_of f) one accepted)
+all_compilable f (Err e) law one same accepted = tt

@@ -7,10 +7,11 @@ ghost use Rattle.dv_gen.specs.ModelCode.{IsCompilable, IsCompilableModel};
 ghost use Rattle.dv_syntax.specs.Trees.{ModelTree, atomic_of, file_of};
 
 use dv_bag::State;
+use dv_check::laws::files_of_texts_are_writable;
 use dv_check::{Checked, check};
 use dv_code::Valid;
 use dv_eval::{Scope, phase_ticks, rule_body, rule_of, start_state};
-use dv_gen::laws::texts_are_compilable;
+use dv_gen::laws::accepted_files_are_compilable;
 use dv_gen::{ModelCode, PhaseCode, generate};
 use dv_lex::{LoadError, tokens};
 use dv_parser::parse;
@@ -26,7 +27,8 @@ pub fn checked(alloc: Global, text: &str) -> Result<Checked, LoadError>
     ensures { IfOk result
         (λ c. All (λ (m : ModelTree). IsCompilableModel m) (file_of c.file).models) }
 {
-    texts_are_compilable();
+    files_of_texts_are_writable();
+    accepted_files_are_compilable();
     let found = tokens(alloc, text.as_bytes())?;
     let file = parse(alloc, &found.tokens, text.len() as u32)?;
     check(alloc, file, found.names)

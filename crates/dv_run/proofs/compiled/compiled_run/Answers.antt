@@ -14,7 +14,7 @@ use Rattle.dv_run.proofs.compiled.compiled_run.Goals as goal
 pub components_of-requires : goal.components_of-requires
 components_of-requires g c = record {
   compilable =
-      c.texts_are_compilable.ensures c.args.job.now.tree.now.names (file_of c.args.job.now.tree.now.file) c.requires.text
+      c.accepted_files_are_compilable.ensures (file_of c.args.job.now.tree.now.file) c.requires.writable
       c.requires.accepted;
 }
 
@@ -36,8 +36,8 @@ returns-in_err-components-clause-err g c =
 pub returns-in_err-ran-clause-err : goal.returns-in_err-ran-clause-err
 returns-in_err-ran-clause-err g c =
     let j = c.args.job.now in
-    OnErr-always _ (is_cut_short j c.requires.text c.requires.accepted c.traces_of.ensures.laws {old = g.W.Write.contents c.args.writer.now}
-    {new = g.W.Write.contents c.run_components.new.writer} c.in_err-ran.ensures.err)
+    OnErr-always _ (is_cut_short j c.requires.writable c.requires.accepted c.traces_of.ensures.laws
+    {old = g.W.Write.contents c.args.writer.now} {new = g.W.Write.contents c.run_components.new.writer} c.in_err-ran.ensures.err)
 
 pub returns-clause-run : goal.returns-clause-run
 returns-clause-run g c =
@@ -56,9 +56,9 @@ returns-clause-run g c =
     ∙ ap (λ ts. least_rank j.limit ts.items) (sym so.clocks) in
     is_run j capacity rounds done so.run {old = g.W.Write.contents c.args.writer.now}
     {new = g.W.Write.contents c.run_components.new.writer} r so.clocks so.ended
-    (is_printed j c.requires.text c.requires.accepted c.traces_of.ensures.laws r is.written mark
+    (is_printed j c.requires.writable c.requires.accepted c.traces_of.ensures.laws r is.written mark
     (subst (λ ts. 0 < length ts.items) (sym so.clocks) some) (each_clock j capacity rounds done so.run r so.clocks)
     (subst (λ ts. AreWithin j.horizon j.limit ts.items) (sym so.clocks) (ran_within j capacity rounds done so.run)) so.whole)
     is.enough
-    (λ ended w. c.runs_by_programs_are_runs_by_rules.ensures.rounds j.tree.now.names f j.inputs.now j.limit j.horizon
-    j.groups.now.processes capacity rounds (owner_of j.groups.now) ended w c.requires.text c.requires.accepted)
+    (λ ended w. c.runs_by_programs_are_runs_by_rules.ensures.rounds f j.inputs.now j.limit j.horizon
+    j.groups.now.processes capacity rounds (owner_of j.groups.now) ended w c.requires.writable c.requires.accepted)

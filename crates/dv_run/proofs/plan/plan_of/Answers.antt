@@ -31,14 +31,14 @@ returns-clause-run c =
     record {
       planned = planned;
       begin =
-          all_can_begin j.tree.now.names f j.inputs.now j.horizon j.limit j.groups.now.processes (owner_of j.groups.now)
-          c.requires.ready.text c.requires.ready.accepted c.requires.ready.numbers owned laws.sound laws.begun laws.apart_in laws.apart_out
-          plan planned (subst (AllByRecursion (λ (s : Share Lent). AllInputNumbers s.inputs)) c.deref.ensures.value
+          all_can_begin f j.inputs.now j.horizon j.limit j.groups.now.processes (owner_of j.groups.now)
+          c.requires.ready.writable c.requires.ready.accepted c.requires.ready.numbers owned laws.sound laws.begun laws.apart_in
+          laws.apart_out plan planned (subst (AllByRecursion (λ (s : Share Lent). AllInputNumbers s.inputs)) c.deref.ensures.value
           c.shares_have_numbers.ensures);
       sound = (
         fits_number (instances f),
-        c.texts_are_jobs.ensures j.tree.now.names f j.inputs.now j.limit j.horizon j.groups.now.processes (owner_of j.groups.now)
-            c.requires.ready.text c.requires.ready.accepted c.requires.ready.numbers owned,
+        c.texts_are_jobs.ensures f j.inputs.now j.limit j.horizon j.groups.now.processes (owner_of j.groups.now)
+            c.requires.ready.writable c.requires.ready.accepted c.requires.ready.numbers owned,
       );
       ends = λ l d e. c.channels_are_where_links_cross.ensures.ends job l d refl e;
       few = (omega (arith, shares, count, few), omega (arith, links, channels));

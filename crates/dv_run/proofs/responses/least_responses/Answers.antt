@@ -1,8 +1,5 @@
-use Rattle.std.proofs.Common.{◌∙◌, ap, sym, length, map, arith, Option, List, ℕ}
-use Rattle.std.specs.List.{range_with_len}
+use Rattle.std.proofs.Common.{◌∙◌, ap, sym, length, arith}
 use Rattle.std.proofs.lemmas.List.{length-map}
-use Rattle.dv_conservative.specs.Responses.{least_response}
-use Rattle.dv_partition.specs.Groups.{owner_of}
 use Rattle.dv_bag.specs.Responses.{ticks_of}
 use Rattle.dv_bound.specs.Response.{response_of}
 use Rattle.dv_syntax.specs.Trees.{file_of}
@@ -12,7 +9,7 @@ use Rattle.dv_run.proofs.responses.least_responses.Goals as goal
 
 pub responses_of-requires : goal.responses_of-requires
 responses_of-requires c = record {
-  compilable = c.texts_are_compilable.ensures c.args.tree.now.names (file_of c.args.tree.now.file) c.requires.text c.requires.accepted;
+  compilable = c.accepted_files_are_compilable.ensures (file_of c.args.tree.now.file) c.requires.writable c.requires.accepted;
 }
 
 pub responses-requires : goal.responses-requires

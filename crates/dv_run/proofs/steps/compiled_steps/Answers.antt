@@ -6,7 +6,7 @@ use Rattle.dv_run.proofs.steps.compiled_steps.Goals as goal
 pub components_of-requires : goal.components_of-requires
 components_of-requires c = record {
   compilable =
-      c.texts_are_compilable.ensures c.args.job.now.tree.now.names (file_of c.args.job.now.tree.now.file) c.requires.text
+      c.accepted_files_are_compilable.ensures (file_of c.args.job.now.tree.now.file) c.requires.writable
       c.requires.accepted;
 }
 
@@ -22,8 +22,8 @@ step_components-requires-clause-components c = record {
 pub returns : goal.returns
 returns c =
     let j = c.args.job.now in
-    is_stepped j.tree.now.names j c.requires.text c.requires.accepted
+    is_stepped j c.requires.writable c.requires.accepted
     c.parts_of_the_flat_model_are_those_of_the_text.ensures.part c.args.capacity c.args.steps.now c.in_ok-step_components.field-0
-    (λ steps w. c.runs_by_programs_are_runs_by_rules.ensures.steps j.tree.now.names (file_of j.tree.now.file) j.inputs.now j.limit
-    j.horizon j.groups.now.processes c.args.capacity (owner_of j.groups.now) steps w c.requires.text c.requires.accepted)
+    (λ steps w. c.runs_by_programs_are_runs_by_rules.ensures.steps (file_of j.tree.now.file) j.inputs.now j.limit
+    j.horizon j.groups.now.processes c.args.capacity (owner_of j.groups.now) steps w c.requires.writable c.requires.accepted)
     c.in_ok-step_components.ensures

@@ -25,8 +25,8 @@ returns-clause-merges c =
       rise = c.what_leaves_a_flat_model_is_linear.ensures.numbers j.limit f;
       outputs = c.what_leaves_a_flat_model_is_linear.ensures.outputs j.limit f;
       linear = c.what_leaves_a_flat_model_is_linear.ensures.linear j.limit f;
-      bags = λ names inputs n. c.what_leaves_a_flat_model_is_linear.ensures.bags names f inputs j.limit n;
+      bags = λ inputs n. c.what_leaves_a_flat_model_is_linear.ensures.bags f inputs j.limit n;
     } in
     let owned : (k : ℕ) → owner_of j.groups.now k < j.groups.now.processes =
     λ k. subst (λ (n : ℕ). owner_of j.groups.now k < n) c.processes-processes.ensures.exact (c.processes-processes.ensures.owned k) in
-    merges j c.requires.text c.requires.accepted leaves owned
+    merges j c.requires.writable c.requires.accepted leaves owned

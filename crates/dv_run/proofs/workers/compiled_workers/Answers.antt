@@ -7,7 +7,7 @@ use Rattle.dv_run.proofs.workers.compiled_workers.Goals as goal
 pub lone_components-requires : goal.lone_components-requires
 lone_components-requires g c = record {
   compilable =
-      c.texts_are_compilable.ensures c.args.job.now.tree.now.names (file_of c.args.job.now.tree.now.file) c.requires.ready.text
+      c.accepted_files_are_compilable.ensures (file_of c.args.job.now.tree.now.file) c.requires.ready.writable
       c.requires.ready.accepted;
 }
 
@@ -29,7 +29,7 @@ returns-in_err-works-clause-err g c =
 pub returns-in_err-worked-clause-err : goal.returns-in_err-worked-clause-err
 returns-in_err-worked-clause-err g c =
     let j = c.args.job.now in
-    OnErr-always _ (is_cut_short j c.requires.ready.text c.requires.ready.accepted c.traces_of.ensures.laws
+    OnErr-always _ (is_cut_short j c.requires.ready.writable c.requires.ready.accepted c.traces_of.ensures.laws
     {old = g.W.Write.contents c.args.writer.now} {new = g.W.Write.contents c.work_components.new.writer} c.in_err-worked.ensures.err)
 
 pub returns-clause-printed : goal.returns-clause-printed
@@ -37,7 +37,7 @@ returns-clause-printed g c =
     let j = c.args.job.now in
     let r = c.in_ok-worked.worked.ran in
     let is = c.in_ok-worked.ensures in
-    is_printed j c.requires.ready.text c.requires.ready.accepted c.traces_of.ensures.laws {old = g.W.Write.contents c.args.writer.now}
+    is_printed j c.requires.ready.writable c.requires.ready.accepted c.traces_of.ensures.laws {old = g.W.Write.contents c.args.writer.now}
     {new = g.W.Write.contents c.work_components.new.writer} r is.written is.run.least is.run.some_clocks is.run.count is.run.within
     is.run.whole
 
