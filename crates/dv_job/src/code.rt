@@ -7,7 +7,8 @@ ghost use Rattle.dv_job.specs.Listed.{LeftByListing, ListsCode};
 
 use crate::ended::JobError;
 use crate::load::{accept, load};
-use dv_gen::laws::texts_are_compilable;
+use dv_check::laws::files_of_texts_are_writable;
+use dv_gen::laws::accepted_files_are_compilable;
 use dv_listing::write_listing;
 use dv_tree::Tree;
 use std::alloc::Global;
@@ -44,8 +45,10 @@ fn list_tree<W: Write>(
     ensures error { IfErr result (λ e. LeftByListing e model.now (W.contents writer.old)
         (W.contents writer.new)) }
 {
-    // For the prover alone: the atomic models of an accepted text have programs.
-    texts_are_compilable();
+    // For the prover alone: the file of a text could be written down, so its atomic models have
+    // programs if it is accepted.
+    files_of_texts_are_writable();
+    accepted_files_are_compilable();
     write_listing(alloc, tree, writer)?;
     Ok(())
 }

@@ -14,7 +14,7 @@ ghost use Rattle.dv_job.specs.Loading.{IsUnloaded, tree_inputs};
 
 use crate::ended::JobError;
 use dv_bag::Inputs;
-use dv_check::laws::checked_files;
+use dv_check::laws::{checked_files, files_of_texts_are_writable};
 use dv_check::{Checked, check};
 use dv_flat::{count_links, paths_of};
 use dv_inputs::{InputRefusal, InputsError, read_inputs};
@@ -45,8 +45,10 @@ fn read(alloc: Global, text: &[u8]) -> Result<Checked, LoadError>
     ensures checked { IfOk result (λ c. IsCheckedFileOf text.now c.names (file_of c.file)) }
     ensures refused { IfErr result (λ e. IsUnloaded e text.now) }
 {
-    // For the prover alone: no file continues the tokens of a refusal.
+    // For the prover alone: no file continues the tokens of a refusal, and the file of a text could
+    // be written down.
     refusals_are_dead_ends();
+    files_of_texts_are_writable();
     let lexed = tokens(alloc, text)?;
     let file = parse(alloc, &lexed.tokens, text.len() as u32)?;
     // A text may have millions of tokens, and nothing needs them from here on.

@@ -8,6 +8,7 @@ ghost use Rattle.dv_job.specs.Planned.{AnswersPlan, HasPlan};
 use crate::ended::JobError;
 use crate::load::{accept, load, load_groups};
 use crate::names::TreeNames;
+use dv_check::laws::files_of_texts_are_writable;
 use dv_flat::flatten;
 use dv_partition::Partition;
 use dv_plan::plan_json;
@@ -44,6 +45,8 @@ fn plan_tree(
         (λ text. HasPlan model.now groups.entry (string_bytes text)) }
     ensures error { IfErr result (AnswersPlan model.now groups.entry) }
 {
+    // For the prover alone.
+    files_of_texts_are_writable();
     let flat = flatten(alloc, tree)?;
     let groups = load_groups(alloc, tree, groups)?;
     let links = links_of(alloc, &flat)?;

@@ -1,7 +1,8 @@
 //! Reads the partition and the inputs of a run.
 
-ghost use Rattle.std.specs.Prelude.{◌≡◌, IfOk, IfErr, None};
-ghost use Rattle.dv_check.specs.Refusals.{AreOfOneText, refusal_of};
+ghost use Rattle.std.specs.Prelude.{◌≡◌, IfOk, IfErr, None, OnOk};
+ghost use Rattle.dv_check.specs.Refusals.{refusal_of};
+ghost use Rattle.dv_check.specs.Writable.{IsWritable};
 ghost use Rattle.dv_run.specs.Texts.{AreLinksOf, IsReady};
 ghost use Rattle.dv_syntax.specs.Trees.{file_of};
 ghost use Rattle.law_sound.specs.Jobs.{AllInputNumbers};
@@ -14,6 +15,7 @@ use crate::ended::JobError;
 use crate::load::{load_groups, load_inputs};
 use crate::options::Options;
 use dv_bag::Inputs;
+use dv_check::laws::files_of_texts_are_writable;
 use dv_flat::{LinkLists, flatten};
 use dv_partition::{Groups, Partition};
 use dv_run::TextJob;
@@ -35,7 +37,7 @@ pub struct Setup {
 impl Setup {
     /// The job of an accepted text, with the horizon and the microstep limit of options.
     pub fn job<'s, 'c>(&'s self, tree: &'s Tree<'c>, options: &Options) -> TextJob<'s, 'c>
-        requires text { AreOfOneText tree.now.names (file_of tree.now.file) }
+        requires writable { IsWritable (file_of tree.now.file) }
         requires accepted { refusal_of (file_of tree.now.file) ≡ None }
         requires numbers { AllInputNumbers self.now.inputs }
         requires links { AreLinksOf (file_of tree.now.file) self.now.links }
@@ -77,12 +79,15 @@ pub fn set_up(
     requires accepted { IsModelOf model.now tree.now.names (file_of tree.now.file) }
     ensures planned { IfOk result (λ s. IsPlanned model.now inputs.now groups.entry limit
         tree.now.names (file_of tree.now.file) s.groups s.inputs) }
+    ensures writable { OnOk result (IsWritable (file_of tree.now.file)) }
     ensures numbers { IfOk result (λ s. AllInputNumbers s.inputs) }
     ensures links { IfOk result (λ s. AreLinksOf (file_of tree.now.file) s.links) }
     ensures error { IfErr result (AnswersSteps model.now inputs.now groups.entry limit) }
 {
     let _ = model;
-    // For the prover alone: the values of inputs that were read are numbers of the language.
+    // For the prover alone: the file of a text could be written down, and the values of inputs that
+    // were read are numbers of the language.
+    files_of_texts_are_writable();
     inputs_are_of_numbers();
     let links = flatten(alloc, tree)?;
     let groups = load_groups(alloc, tree, groups)?;

@@ -2,7 +2,8 @@
 
 ghost use Rattle.std.specs.Prelude.{◌≡◌, ◌-◌, ◌<◌, ℕ, [], None, Some, IfOk, IfSome, length, slice_get};
 ghost use Rattle.std.specs.List.{AllByRecursion};
-ghost use Rattle.dv_check.specs.Refusals.{AreOfOneText, refusal_of};
+ghost use Rattle.dv_check.specs.Refusals.{refusal_of};
+ghost use Rattle.dv_check.specs.Writable.{IsWritable};
 ghost use Rattle.dv_coded.specs.declared.lent.Lent.{Lent};
 ghost use Rattle.dv_coded.specs.Lent.{behaviour_of_lent, lent_takes};
 ghost use Rattle.dv_core.specs.Conservative.{IsConservative};
@@ -17,10 +18,11 @@ ghost use Rattle.dv_syntax.specs.Trees.{file_of};
 use crate::cases;
 use crate::cases::Case;
 use dv_bag::Inputs;
+use dv_check::laws::files_of_texts_are_writable;
 use dv_check::{Checked, check};
 use dv_coded::{Bench, Components, Lent, components_of};
 use dv_flat::{LinkLists, count_links, flatten};
-use dv_gen::laws::texts_are_compilable;
+use dv_gen::laws::accepted_files_are_compilable;
 use dv_lex::{LoadError, tokens};
 use dv_local::{LocalRun, begin};
 use dv_parser::parse;
@@ -52,7 +54,7 @@ pub fn does_hold(alloc: Global, text: &str, case: &Case) -> Result<bool, AllocEr
 
 // Whether that process of a checked text does as a case says.
 fn does_hold_of_checked(alloc: Global, checked: &Checked, case: &Case) -> Result<bool, AllocError>
-    requires text { AreOfOneText checked.now.names (file_of checked.now.file) }
+    requires writable { IsWritable (file_of checked.now.file) }
     requires accepted { refusal_of (file_of checked.now.file) ≡ None }
 {
     let tree = Tree::of(alloc, checked)?;
@@ -64,9 +66,11 @@ fn does_hold_of_checked(alloc: Global, checked: &Checked, case: &Case) -> Result
 
 // The checked file of a text.
 fn checked(alloc: Global, text: &str) -> Result<Checked, LoadError>
-    ensures text { IfOk result (λ c. AreOfOneText c.names (file_of c.file)) }
+    ensures writable { IfOk result (λ c. IsWritable (file_of c.file)) }
     ensures accepted { IfOk result (λ c. refusal_of (file_of c.file) ≡ None) }
 {
+    // The file of a text could be written down.
+    files_of_texts_are_writable();
     let found = tokens(alloc, text.as_bytes())?;
     let file = parse(alloc, &found.tokens, text.len() as u32)?;
     check(alloc, file, found.names)
@@ -75,7 +79,7 @@ fn checked(alloc: Global, text: &str) -> Result<Checked, LoadError>
 // Whether that process of an accepted text does as a case says. The first component has a process,
 // and all others have another.
 fn does_hold_of_tree(alloc: Global, tree: &Tree, case: &Case) -> Result<bool, AllocError>
-    requires text { AreOfOneText tree.now.names (file_of tree.now.file) }
+    requires writable { IsWritable (file_of tree.now.file) }
     requires accepted { refusal_of (file_of tree.now.file) ≡ None }
     requires few { link_refusal (file_of tree.now.file) ≡ None }
 {
@@ -112,13 +116,13 @@ fn does_hold_of_job(
     links: &LinkLists,
     case: &Case,
 ) -> Result<bool, AllocError>
-    requires text { AreOfOneText job.now.tree.now.names (file_of job.now.tree.now.file) }
+    requires writable { IsWritable (file_of job.now.tree.now.file) }
     requires accepted { refusal_of (file_of job.now.tree.now.file) ≡ None }
     requires inputs { job.now.inputs.now ≡ [] }
     requires links { AreLinksOf (file_of job.now.tree.now.file) links.now }
 {
     // The atomic models of an accepted text have programs, and its processes start sound.
-    texts_are_compilable();
+    accepted_files_are_compilable();
     processes_of_texts_start_sound();
     // Each component is in a process.
     let _processes = job.groups.processes();

@@ -1,10 +1,21 @@
 use Rattle.std.proofs.Common.{ap, ◌∙◌, map}
 use Rattle.std.proofs.lemmas.Result.{err_from_is_err_and}
+use Rattle.dv_syntax.specs.Trees.{file_of}
 use Rattle.law_sound.specs.Members.{direct_of, entry_of, exit_of}
 use Rattle.dv_plan.specs.Texts.{plan_links}
 use Rattle.dv_job.proofs.Plans.{planned}
 use Rattle.dv_job.proofs.Ran.{unplanned}
 use Rattle.dv_job.proofs.planned.plan_tree.Goals as goal
+
+pub least_responses-requires : goal.least_responses-requires
+least_responses-requires c =
+    let accepted = c.requires.accepted in
+    record {
+      writable =
+          c.files_of_texts_are_writable.ensures c.args.model.now c.args.tree.now.names accepted.tokens (file_of c.args.tree.now.file)
+          accepted.lexed accepted.parsed;
+      accepted = accepted.checked;
+    }
 
 pub returns-in_err-groups-clause-error : goal.returns-in_err-groups-clause-error
 returns-in_err-groups-clause-error c =

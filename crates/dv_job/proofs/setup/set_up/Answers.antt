@@ -1,4 +1,5 @@
 use Rattle.std.proofs.lemmas.Result.{err_from_is_err_and}
+use Rattle.dv_syntax.specs.Trees.{file_of}
 use Rattle.dv_job.proofs.Ran.{planned_tree, unstepped_groups, unstepped_inputs}
 use Rattle.dv_job.proofs.setup.set_up.Goals as goal
 
@@ -18,6 +19,12 @@ returns-in_err-inputs-clause-error c =
 pub returns-clause-planned : goal.returns-clause-planned
 returns-clause-planned c =
     planned_tree _ _ _ _ c.args.tree.now _ _ c.requires.accepted c.in_ok-groups.ensures c.in_ok-inputs.ensures.inputs
+
+pub returns-clause-writable : goal.returns-clause-writable
+returns-clause-writable c =
+    let accepted = c.requires.accepted in
+    c.files_of_texts_are_writable.ensures c.args.model.now c.args.tree.now.names accepted.tokens (file_of c.args.tree.now.file)
+    accepted.lexed accepted.parsed
 
 pub returns-clause-links : goal.returns-clause-links
 returns-clause-links c = record {

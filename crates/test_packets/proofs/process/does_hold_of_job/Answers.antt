@@ -1,4 +1,4 @@
-use Rattle.std.proofs.Common.{◌≡◌, ◌<◌, ℕ, subst, sym}
+use Rattle.std.proofs.Common.{◌<◌, ℕ, subst, sym}
 use Rattle.dv_partition.specs.Groups.{owner_of}
 use Rattle.dv_run.proofs.Shares.{can_begin}
 use Rattle.law_sound.specs.Jobs.{AllInputNumbers}
@@ -8,7 +8,7 @@ use Rattle.test_packets.proofs.process.does_hold_of_job.Goals as goal
 pub components_of-requires : goal.components_of-requires
 components_of-requires c = record {
   compilable =
-      c.texts_are_compilable.ensures c.args.job.now.tree.now.names (file_of c.args.job.now.tree.now.file) c.requires.text
+      c.accepted_files_are_compilable.ensures (file_of c.args.job.now.tree.now.file) c.requires.writable
       c.requires.accepted;
 }
 
@@ -21,7 +21,7 @@ last_process-requires c =
     let none = subst AllInputNumbers (sym c.requires.inputs) tt in
     record {
       begin = λ p s at empty.
-          can_begin j.tree.now.names (file_of j.tree.now.file) j.inputs.now j.horizon j.limit j.groups.now.processes (owner_of j.groups.now)
-          c.requires.text c.requires.accepted none owned laws.sound laws.begun laws.apart_in laws.apart_out
+          can_begin (file_of j.tree.now.file) j.inputs.now j.horizon j.limit j.groups.now.processes (owner_of j.groups.now)
+          c.requires.writable c.requires.accepted none owned laws.sound laws.begun laws.apart_in laws.apart_out
           p s (c.in_ok-plan.ensures.shares p s at) (subst AllInputNumbers (sym empty) tt);
     }
