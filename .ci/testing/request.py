@@ -7,7 +7,8 @@ import re
 from dataclasses import dataclass
 
 PARTITION = r"(?: by (?P<file>\S+)| in (?P<processes>\d+))?"
-CHOICE = r"(?: from (?P<from>\d+))?(?: to (?P<to>\d+))?(?: only (?P<only>\S+))?(?P<quantiles> with quantiles)?"
+EXCERPT = r"(?: from (?P<from>\d+))?(?: to (?P<to>\d+))?(?: only (?P<only>\S+))?"
+CHOICE = rf"{EXCERPT}(?: through (?P<flow>\S+)(?P<value> by value)?)?(?P<quantiles> with quantiles)?"
 TRACE = r"(?P<trace>\S+) of (?P<model>\S+)(?P<partial> in part)?"
 INPUTS = r"(?: with (?P<inputs>(?!quantiles|progress)\S+))?"
 FORMS = {
@@ -15,10 +16,10 @@ FORMS = {
     "code": r"code (?P<model>\S+)",
     "plan": rf"plan (?P<model>\S+){PARTITION}",
     "graph": rf"graph (?P<model>\S+)(?: to depth (?P<depth>\d+)| of (?P<phased>\S+))?{PARTITION}",
-    "vcd": rf"vcd {TRACE}{INPUTS}(?P<hold> held)?(?: at (?P<timescale>\S+))?",
+    "vcd": rf"vcd {TRACE}{INPUTS}{EXCERPT}(?P<hold> held)?(?: at (?P<timescale>\S+))?",
     "plot": rf"plot {TRACE}(?: from (?P<from>\d+))?(?: to (?P<to>\d+))?: (?P<names>.+)",
-    "stats": rf"stats(?P<csv> in csv)? {TRACE}{CHOICE}",
-    "table": rf"table(?P<json> in json)? {TRACE}{INPUTS}",
+    "stats": rf"stats(?P<csv> in csv)? {TRACE}{INPUTS}{CHOICE}",
+    "table": rf"table(?P<json> in json)? {TRACE}{INPUTS}{EXCERPT}",
     "run": rf"(?P<model>\S+) (?P<horizon>\d+) (?P<microsteps>\d+){PARTITION}(?: for (?P<rounds>\d+))?(?: on (?P<workers>\d+))?"
     rf"{INPUTS}(?P<stats> counted(?P<csv> in csv)?{CHOICE})?(?P<progress> with progress)?",
 }
@@ -35,6 +36,8 @@ OPTIONS = {
     "from": "--from",
     "to": "--to",
     "only": "--only",
+    "flow": "--flow",
+    "value": "--by-value",
     "quantiles": "--quantiles",
     "csv": "--csv",
     "json": "--json",
@@ -47,9 +50,9 @@ OPTIONS = {
     "partial": "--partial",
     "explained": "--explain",
 }
-FLAGS = {"stats", "quantiles", "csv", "json", "progress", "warn", "hold", "partial", "explained"}
+FLAGS = {"stats", "value", "quantiles", "csv", "json", "progress", "warn", "hold", "partial", "explained"}
 # The options that go with the numbers of a run.
-COUNTED = ("stats", "from", "to", "only", "quantiles", "csv")
+COUNTED = ("stats", "from", "to", "only", "flow", "value", "quantiles", "csv")
 # So many rounds end before the horizon, and so many processes are refused.
 FEW_ROUNDS = 10
 MOST_PROCESSES = 256
@@ -84,6 +87,8 @@ class Request:
                 yield name, self.other(microsteps=str(int(self.options[name]) + (-1 if int(self.options[name]) > 1 else 1)))
             elif name == "stats":
                 yield name, self.without(*COUNTED)
+            elif name == "flow":
+                yield name, self.without("flow", "value")
             else:
                 yield name, self.without(name)
 

@@ -28,7 +28,7 @@ TABLE = ("table", "model.pd", "trace.txt")
 # Of the inputs where the folder has some.
 INPUTS = "INPUTS"
 # The lines of files that say what is asked for.
-LINES = {"ONLY": "only.txt", "PHASED": "phases.txt"}
+LINES = {"ONLY": "only.txt", "PHASED": "phases.txt", "FLOW": "flow.txt"}
 
 VIEWS = (
     View("graph.dot", GRAPH),
@@ -43,14 +43,19 @@ VIEWS = (
     View("held.vcd", (*DUMP, "--hold-ports", INPUTS), True),
     View("inputs.vcd", (*DUMP, "--timescale", "1ns", INPUTS), True),
     View("partial.vcd", (*DUMP, "--partial"), True),
+    View("span.vcd", (*DUMP, "--from", "5", "--to", "11", INPUTS), True),
+    View("only.vcd", (*DUMP, "--only", "ONLY", INPUTS), True),
     View("stats.txt", NUMBERS, True),
     View("stats.csv", (*NUMBERS, "--csv"), True),
     View("quantiles.csv", (*NUMBERS, "--csv", "--quantiles"), True),
     View("span.csv", (*NUMBERS, "--csv", "--from", "5", "--to", "11"), True),
     View("only.csv", (*NUMBERS, "--csv", "--only", "ONLY"), True),
     View("partial.csv", (*NUMBERS, "--csv", "--partial"), True),
+    View("flow.csv", (*NUMBERS, "--csv", "--flow", "FLOW", INPUTS), True),
+    View("by_value.csv", (*NUMBERS, "--csv", "--flow", "FLOW", "--by-value", INPUTS), True),
     View("table.csv", (*TABLE, INPUTS)),
     View("partial_table.csv", (*TABLE, "--partial", INPUTS)),
+    View("only_table.csv", (*TABLE, "--only", "ONLY", INPUTS)),
     View("table.json", (*TABLE, "--json", INPUTS)),
 )
 # What lies in a folder beside its views.

@@ -18,6 +18,8 @@ use Rattle.dv_command.specs.Words.{Said, Ready, at_most_one, given, said_by, val
 use Rattle.dv_command.specs.declared.request.RequestError.{RequestError}
 use Rattle.dv_command.specs.declared.request.RequestError.TheVariants.{Memory, Usage}
 use Rattle.dv_command.specs.declared.request.Check.{Check as CheckRequest}
+use Rattle.dv_command.specs.declared.request.Excerpt.{Excerpt}
+use Rattle.dv_command.specs.declared.request.Flow.{Flow}
 use Rattle.dv_command.specs.declared.request.Graph.{Graph as GraphRequest}
 use Rattle.dv_command.specs.declared.request.GraphChoice.{GraphChoice}
 use Rattle.dv_command.specs.declared.request.GraphChoice.TheVariants.{All, Depth, Phases}
@@ -179,10 +181,30 @@ pub record AsksWindow (said : List Said) (first last : Option ℕ) : Type 0 wher
   pub last_given : count_in 0 greatest_tick (codes "--to") said ≡ Some last
   pub in_order : are_in_order first last ≡ true
 
--- `[--from T] [--to T] [--only PATH] [--quantiles] [--csv]`
+-- `[--from T] [--to T] [--only PATH]`
+pub record AsksExcerpt (said : List Said) (excerpt : Excerpt) : Type 0 where
+  pub window : AsksWindow said excerpt.from excerpt.to
+  pub only : AsksText (codes "--only") said excerpt.only
+
+-- the ports between which times are taken, if they are given
+abbrev pub ports_of : Option Flow → Option (List ℕ)
+ports_of None = None
+ports_of (Some flow) = Some (string_bytes flow.ports)
+
+-- whether values that are the same are paired
+abbrev pub pairs_values : Option Flow → Bool
+pairs_values None = false
+pairs_values (Some flow) = flow.by_value
+
+-- `[--flow FROM:TO [--by-value]]`
+pub record AsksFlow (said : List Said) (flow : Option Flow) : Type 0 where
+  pub ports : text_in (codes "--flow") said ≡ Some (ports_of flow)
+  pub by_value : flag_in (codes "--by-value") said ≡ Some (pairs_values flow)
+
+-- `[--from T] [--to T] [--only PATH] [--flow FROM:TO [--by-value]] [--quantiles] [--csv]`
 pub record AsksStatsChoice (said : List Said) (choice : StatsChoice) : Type 0 where
-  pub window : AsksWindow said choice.from choice.to
-  pub only : AsksText (codes "--only") said choice.only
+  pub excerpt : AsksExcerpt said choice.excerpt
+  pub flow : AsksFlow said choice.flow
   pub quantiles : flag_in (codes "--quantiles") said ≡ Some choice.quantiles
   pub csv : flag_in (codes "--csv") said ≡ Some choice.csv
 
@@ -190,6 +212,7 @@ pub record AsksStatsChoice (said : List Said) (choice : StatsChoice) : Type 0 wh
 abbrev pub has_no_stats_choice : List Said → Bool
 has_no_stats_choice said =
     is_left_out (codes "--from") said && is_left_out (codes "--to") said && is_left_out (codes "--only") said
+    && is_left_out (codes "--flow") said && is_left_out (codes "--by-value") said
     && is_left_out (codes "--quantiles") said && is_left_out (codes "--csv") said
 
 -- `--stats`, with what numbers are wanted; or none of these words
@@ -215,21 +238,24 @@ pub record AsksTrace (said : List Said) (files : TraceFiles) : Type 0 where
   pub partial : flag_in (codes "--partial") said ≡ Some files.partial
   pub explained : flag_in (codes "--explain") said ≡ Some files.explained
 
--- `MODEL TRACE [--inputs F] [--hold-ports] [--timescale T] [--partial] [--explain]`
+-- `MODEL TRACE [--inputs F] [--from T] [--to T] [--only PATH] [--hold-ports] [--timescale T] [--partial] [--explain]`
 pub record AsksWaves (said : List Said) (waves : Waves) : Type 0 where
   pub files : AsksTrace said waves.files
+  pub excerpt : AsksExcerpt said waves.excerpt
   pub inputs : AsksText (codes "--inputs") said waves.inputs
   pub holds_ports : flag_in (codes "--hold-ports") said ≡ Some waves.holds_ports
   pub timescale : AsksText (codes "--timescale") said waves.timescale
 
--- `MODEL TRACE [--from T] [--to T] [--only PATH] [--quantiles] [--csv] [--partial] [--explain]`
+-- `MODEL TRACE [--inputs F]`, what is counted, `[--partial] [--explain]`
 pub record AsksStats (said : List Said) (stats : StatsRequest) : Type 0 where
   pub files : AsksTrace said stats.files
+  pub inputs : AsksText (codes "--inputs") said stats.inputs
   pub choice : AsksStatsChoice said stats.choice
 
--- `MODEL TRACE [--inputs F] [--json] [--partial] [--explain]`
+-- `MODEL TRACE [--inputs F] [--from T] [--to T] [--only PATH] [--json] [--partial] [--explain]`
 pub record AsksTable (said : List Said) (table : TableRequest) : Type 0 where
   pub files : AsksTrace said table.files
+  pub excerpt : AsksExcerpt said table.excerpt
   pub inputs : AsksText (codes "--inputs") said table.inputs
   pub json : flag_in (codes "--json") said ≡ Some table.json
 

@@ -30,9 +30,13 @@ graph_takes_value name = plan_takes_value name || bytes_eq name (codes "--depth"
 abbrev pub plot_takes_value : List ℕ → Bool
 plot_takes_value name = bytes_eq name (codes "--from") || bytes_eq name (codes "--to")
 
--- the options of numbers: which ticks count, and which components
+-- the options of an excerpt: which ticks are asked for, and which components
+abbrev pub excerpt_takes_value : List ℕ → Bool
+excerpt_takes_value name = bytes_eq name (codes "--from") || bytes_eq name (codes "--only") || bytes_eq name (codes "--to")
+
+-- the options of numbers: what of the trace counts, and between which ports times are taken
 abbrev pub stats_takes_value : List ℕ → Bool
-stats_takes_value name = bytes_eq name (codes "--from") || bytes_eq name (codes "--only") || bytes_eq name (codes "--to")
+stats_takes_value name = excerpt_takes_value name || bytes_eq name (codes "--flow")
 
 -- the options of a run that take a value: its own, those by which its model is divided, and those of its numbers
 abbrev pub run_takes_value : List ℕ → Bool
@@ -42,7 +46,7 @@ run_takes_value name =
 
 -- the options of a value change dump
 abbrev pub vcd_takes_value : List ℕ → Bool
-vcd_takes_value name = bytes_eq name (codes "--inputs") || bytes_eq name (codes "--timescale")
+vcd_takes_value name = bytes_eq name (codes "--inputs") || bytes_eq name (codes "--timescale") || excerpt_takes_value name
 
 -- whether a subcommand has an option of this name that takes a value
 abbrev pub takes_value : Subcommand → List ℕ → Bool
@@ -53,14 +57,14 @@ takes_value Plot name = plot_takes_value name
 takes_value Check name = false
 takes_value Code name = false
 takes_value Explain name = false
-takes_value Stats name = stats_takes_value name
-takes_value Table name = bytes_eq name (codes "--inputs")
+takes_value Stats name = stats_takes_value name || bytes_eq name (codes "--inputs")
+takes_value Table name = excerpt_takes_value name || bytes_eq name (codes "--inputs")
 takes_value Vcd name = vcd_takes_value name
 
 -- the flags of a run
 abbrev pub run_has_flag : List ℕ → Bool
 run_has_flag name =
-    bytes_eq name (codes "--csv") || bytes_eq name (codes "--explain") || bytes_eq name (codes "--progress")
+    bytes_eq name (codes "--by-value") || bytes_eq name (codes "--csv") || bytes_eq name (codes "--explain") || bytes_eq name (codes "--progress")
     || bytes_eq name (codes "--quantiles") || bytes_eq name (codes "--stats")
 
 -- the flags of curves
@@ -70,7 +74,7 @@ plot_has_flag name = bytes_eq name (codes "--explain") || bytes_eq name (codes "
 -- the flags of numbers
 abbrev pub stats_has_flag : List ℕ → Bool
 stats_has_flag name =
-    bytes_eq name (codes "--csv") || bytes_eq name (codes "--explain") || bytes_eq name (codes "--partial")
+    bytes_eq name (codes "--by-value") || bytes_eq name (codes "--csv") || bytes_eq name (codes "--explain") || bytes_eq name (codes "--partial")
     || bytes_eq name (codes "--quantiles")
 
 -- the flags of a table

@@ -183,6 +183,26 @@ const ONLY: WordHelp = WordHelp {
     help: "the path of what counts: a component, or a part with all that is in it (all)",
 };
 
+const FLOW: WordHelp = WordHelp {
+    name: "flow",
+    form: Form::Option(
+        "FROM:TO",
+        Value {
+            words: "two ports, as source.box:done",
+            numbers: None,
+        },
+    ),
+    is_required: false,
+    help: "prints how long values take from one port to another one, first in, first out",
+};
+
+const BY_VALUE: WordHelp = WordHelp {
+    name: "by-value",
+    form: Form::Flag,
+    is_required: false,
+    help: "with --flow, pairs a value that goes with the first one inside that is the same",
+};
+
 const QUANTILES: WordHelp = WordHelp {
     name: "quantiles",
     form: Form::Flag,
@@ -194,7 +214,7 @@ const STATS: WordHelp = WordHelp {
     name: "stats",
     form: Form::Flag,
     is_required: false,
-    help: "prints the numbers of the trace in its place; --from, --to, --only, --quantiles and --csv go with it",
+    help: "prints the numbers of the trace in its place; --from, --to, --only, --flow, --by-value, --quantiles and --csv go with it",
 };
 
 const PROGRESS: WordHelp = WordHelp {
@@ -331,7 +351,7 @@ const SUBCOMMANDS: &[SubcommandHelp] = &[
         about: "Runs a model and prints its trace, or the numbers of it",
         words: &[
             MODEL, HORIZON, PARTITION, PROCESSES, INPUTS, MICROSTEPS, ROUNDS, WORKERS, STATS, FROM,
-            TO, ONLY, QUANTILES, CSV, PROGRESS, EXPLAIN,
+            TO, ONLY, FLOW, BY_VALUE, QUANTILES, CSV, PROGRESS, EXPLAIN,
         ],
     },
     SubcommandHelp {
@@ -353,7 +373,7 @@ const SUBCOMMANDS: &[SubcommandHelp] = &[
         name: "vcd",
         about: "Prints a trace as a value change dump, for wave viewers",
         words: &[
-            MODEL, TRACE, INPUTS, HOLD_PORTS, TIMESCALE, PARTIAL, EXPLAIN,
+            MODEL, TRACE, INPUTS, FROM, TO, ONLY, HOLD_PORTS, TIMESCALE, PARTIAL, EXPLAIN,
         ],
     },
     SubcommandHelp {
@@ -365,13 +385,13 @@ const SUBCOMMANDS: &[SubcommandHelp] = &[
         name: "stats",
         about: "Prints what a trace says of each component, in numbers",
         words: &[
-            MODEL, TRACE, FROM, TO, ONLY, QUANTILES, CSV, PARTIAL, EXPLAIN,
+            MODEL, TRACE, INPUTS, FROM, TO, ONLY, FLOW, BY_VALUE, QUANTILES, CSV, PARTIAL, EXPLAIN,
         ],
     },
     SubcommandHelp {
         name: "table",
         about: "Prints a trace as a table: transitions, values that were sent and values that came",
-        words: &[MODEL, TRACE, INPUTS, JSON, PARTIAL, EXPLAIN],
+        words: &[MODEL, TRACE, INPUTS, FROM, TO, ONLY, JSON, PARTIAL, EXPLAIN],
     },
     SubcommandHelp {
         name: "explain",

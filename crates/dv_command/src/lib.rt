@@ -42,6 +42,6 @@ mod viewed;
 
 pub use command_line::request_of;
 pub use request::{
-    Check, Graph, GraphChoice, ModelFile, PartitionChoice, Plan, Plot, Request, RequestError, Run,
-    Stats, StatsChoice, Table, TraceFiles, Usage, Waves,
+    Check, Excerpt, Flow, Graph, GraphChoice, ModelFile, PartitionChoice, Plan, Plot, Request,
+    RequestError, Run, Stats, StatsChoice, Table, TraceFiles, Usage, Waves,
 };

@@ -68,11 +68,24 @@ pub struct TraceFiles {
     pub explained: bool,
 }
 
+/// The part of a trace that is asked for. The last tick is not before the first one.
+#[derive(Drop)]
+pub struct Excerpt {
+    /// The first tick, 0 to 10^15, if it is given.
+    pub from: Option<u64>,
+    /// The last tick, 0 to 10^15, if it is given.
+    pub to: Option<u64>,
+    /// The path of the component, or of the coupled model, that alone is asked for, if it is given.
+    pub only: Option<String>,
+}
+
 /// A trace to print as a value change dump.
 #[derive(Drop)]
 pub struct Waves {
     /// The model and the trace.
     pub files: TraceFiles,
+    /// What of the trace is shown.
+    pub excerpt: Excerpt,
     /// The file of the inputs of the run, if it is given.
     pub inputs: Option<String>,
     /// Whether a port shows its last value until the next one.
@@ -99,23 +112,32 @@ pub struct Plot {
 pub struct Stats {
     /// The model and the trace.
     pub files: TraceFiles,
+    /// The file of the inputs of the run, if it is given.
+    pub inputs: Option<String>,
     /// What is counted, and how it is printed.
     pub choice: StatsChoice,
 }
 
-/// What of a trace is counted, and how it is printed. The last tick is not before the first one.
+/// What of a trace is counted, and how it is printed.
 #[derive(Drop)]
 pub struct StatsChoice {
-    /// The first tick that counts, 0 to 10^15, if it is given.
-    pub from: Option<u64>,
-    /// The last tick that counts, 0 to 10^15, if it is given.
-    pub to: Option<u64>,
-    /// The path of the component, or of the coupled model, that alone is counted, if it is given.
-    pub only: Option<String>,
+    /// The ticks and the components that count.
+    pub excerpt: Excerpt,
+    /// The ports between which times are taken, if they are given.
+    pub flow: Option<Flow>,
     /// Whether quantiles are printed.
     pub quantiles: bool,
     /// Whether the numbers are printed as comma-separated values.
     pub csv: bool,
+}
+
+/// Two ports between which times are taken.
+#[derive(Drop)]
+pub struct Flow {
+    /// Their names with a colon between them. It may be another text.
+    pub ports: String,
+    /// Whether a value that goes is paired with one that is the same.
+    pub by_value: bool,
 }
 
 /// A trace to print as a table.
@@ -123,6 +145,8 @@ pub struct StatsChoice {
 pub struct Table {
     /// The model and the trace.
     pub files: TraceFiles,
+    /// The ticks and the components of which rows are printed.
+    pub excerpt: Excerpt,
     /// The file of the inputs of the run, if it is given.
     pub inputs: Option<String>,
     /// Whether rows are printed as JSON lines, instead of comma-separated values.

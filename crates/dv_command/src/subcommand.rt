@@ -1,7 +1,7 @@
 //! The subcommands, their names and their options.
 
 ghost use Rattle.std.specs.Prelude.{◌≡◌};
-ghost use Rattle.dv_command.specs.Subcommands.{graph_takes_value, is_flag, plan_takes_value, plot_has_flag, plot_takes_value};
+ghost use Rattle.dv_command.specs.Subcommands.{excerpt_takes_value, graph_takes_value, is_flag, plan_takes_value, plot_has_flag, plot_takes_value};
 ghost use Rattle.dv_command.specs.Subcommands.{run_has_flag, run_takes_value};
 ghost use Rattle.dv_command.specs.Subcommands.{stats_has_flag, stats_takes_value, subcommand_named, table_has_flag, takes_value};
 ghost use Rattle.dv_command.specs.Subcommands.{vcd_has_flag, vcd_takes_value};
@@ -68,10 +68,16 @@ fn plot_takes_value(name: &str) -> bool
     name == "--from" || name == "--to"
 }
 
+fn excerpt_takes_value(name: &str) -> bool
+    ensures { result ≡ excerpt_takes_value name.now }
+{
+    name == "--from" || name == "--only" || name == "--to"
+}
+
 fn stats_takes_value(name: &str) -> bool
     ensures { result ≡ stats_takes_value name.now }
 {
-    name == "--from" || name == "--only" || name == "--to"
+    excerpt_takes_value(name) || name == "--flow"
 }
 
 fn run_takes_value(name: &str) -> bool
@@ -89,7 +95,7 @@ fn run_takes_value(name: &str) -> bool
 fn vcd_takes_value(name: &str) -> bool
     ensures { result ≡ vcd_takes_value name.now }
 {
-    name == "--inputs" || name == "--timescale"
+    name == "--inputs" || name == "--timescale" || excerpt_takes_value(name)
 }
 
 /// Whether the subcommand has an option of this name that takes a value. The name begins with `--`.
@@ -104,8 +110,8 @@ pub(crate) fn takes_value(subcommand: Subcommand, name: &str) -> bool
         Subcommand::Check => false,
         Subcommand::Code => false,
         Subcommand::Explain => false,
-        Subcommand::Stats => stats_takes_value(name),
-        Subcommand::Table => name == "--inputs",
+        Subcommand::Stats => stats_takes_value(name) || name == "--inputs",
+        Subcommand::Table => excerpt_takes_value(name) || name == "--inputs",
         Subcommand::Vcd => vcd_takes_value(name),
     }
 }
@@ -113,7 +119,8 @@ pub(crate) fn takes_value(subcommand: Subcommand, name: &str) -> bool
 fn run_has_flag(name: &str) -> bool
     ensures { result ≡ run_has_flag name.now }
 {
-    name == "--csv"
+    name == "--by-value"
+        || name == "--csv"
         || name == "--explain"
         || name == "--progress"
         || name == "--quantiles"
@@ -129,7 +136,11 @@ fn plot_has_flag(name: &str) -> bool
 fn stats_has_flag(name: &str) -> bool
     ensures { result ≡ stats_has_flag name.now }
 {
-    name == "--csv" || name == "--explain" || name == "--partial" || name == "--quantiles"
+    name == "--by-value"
+        || name == "--csv"
+        || name == "--explain"
+        || name == "--partial"
+        || name == "--quantiles"
 }
 
 fn table_has_flag(name: &str) -> bool

@@ -66,7 +66,12 @@ fn reason(subcommand: &str, matches: &ArgMatches) -> &'static str {
     } else if has("rounds") && has("workers") {
         "rounds are not counted where there are workers"
     } else if subcommand == "run" && !matches.get_flag("stats") && has_stats_choice(matches) {
-        "--from, --to, --only, --quantiles and --csv go with --stats"
+        "--from, --to, --only, --flow, --by-value, --quantiles and --csv go with --stats"
+    } else if (subcommand == "run" || subcommand == "stats")
+        && matches.get_flag("by-value")
+        && !has("flow")
+    {
+        "values are paired by --by-value only where --flow names two ports"
     } else if has("from") && has("to") {
         "the last tick that counts, --to, is before the first one, --from"
     } else {
@@ -80,6 +85,8 @@ fn has_stats_choice(matches: &ArgMatches) -> bool {
     has("from")
         || has("to")
         || has("only")
+        || has("flow")
+        || matches.get_flag("by-value")
         || matches.get_flag("quantiles")
         || matches.get_flag("csv")
 }

@@ -1,13 +1,13 @@
 //! From parts to requests for views of a trace.
 
 ghost use Rattle.std.specs.Prelude.{◌≡◌, IfOk, map, string_bytes};
-ghost use Rattle.dv_command.specs.Asked.{AsksPlot, AsksRunStats, AsksStats, AsksStatsChoice, AsksTable, AsksTrace, AsksWaves};
-ghost use Rattle.dv_command.specs.Asked.{AsksWindow, IfAnswered, IsFitting, are_in_order, has_no_stats_choice};
+ghost use Rattle.dv_command.specs.Asked.{AsksExcerpt, AsksFlow, AsksPlot, AsksRunStats, AsksStats, AsksStatsChoice, AsksTable};
+ghost use Rattle.dv_command.specs.Asked.{AsksTrace, AsksWaves, AsksWindow, IfAnswered, IsFitting, are_in_order, has_no_stats_choice};
 ghost use Rattle.dv_command.specs.Steps.{said_in};
 
-use crate::given::{count_in, flag_in, is_left_out, owned_text_in, values};
+use crate::given::{count_in, flag_in, is_left_out, owned_text_in, text_in, values};
 use crate::part::Part;
-use crate::request::{Plot, Stats, StatsChoice, Table, TraceFiles, Waves};
+use crate::request::{Excerpt, Flow, Plot, Stats, StatsChoice, Table, TraceFiles, Waves};
 use crate::unasked::Unasked;
 use dv_time::GREATEST_TICK;
 use std::alloc::{AllocError, Global};
@@ -33,12 +33,25 @@ fn trace_in(alloc: Global, parts: &[Part<'_>]) -> Result<TraceFiles, Unasked>
     }
 }
 
+/// The part of a trace that is asked for.
+fn excerpt_in(alloc: Global, parts: &[Part<'_>]) -> Result<Excerpt, Unasked>
+    ensures { IfAnswered result (IsFitting (AsksExcerpt (map said_in parts.now))) }
+{
+    let (from, to) = window_in(alloc, parts)?;
+    Ok(Excerpt {
+        from,
+        to,
+        only: owned_text_in(alloc, "--only", parts)?,
+    })
+}
+
 /// The request for a value change dump.
 pub(crate) fn waves_in(alloc: Global, parts: &[Part<'_>]) -> Result<Waves, Unasked>
     ensures { IfAnswered result (IsFitting (AsksWaves (map said_in parts.now))) }
 {
     Ok(Waves {
         files: trace_in(alloc, parts)?,
+        excerpt: excerpt_in(alloc, parts)?,
         inputs: owned_text_in(alloc, "--inputs", parts)?,
         holds_ports: flag_in(alloc, "--hold-ports", parts)?,
         timescale: owned_text_in(alloc, "--timescale", parts)?,
@@ -104,15 +117,29 @@ pub(crate) fn plot_in(alloc: Global, parts: &[Part<'_>]) -> Result<Plot, Unasked
     }
 }
 
+/// The ports between which times are taken, if they are given.
+fn flow_in(alloc: Global, parts: &[Part<'_>]) -> Result<Option<Flow>, Unasked>
+    ensures { IfAnswered result (IsFitting (AsksFlow (map said_in parts.now))) }
+{
+    let ports = text_in(alloc, "--flow", parts)?;
+    let by_value = flag_in(alloc, "--by-value", parts)?;
+    match (ports, by_value) {
+        (None, false) => Ok(None),
+        (Some(text), by_value) => {
+            let ports = String::from_str(alloc, text)?;
+            Ok(Some(Flow { ports, by_value }))
+        }
+        (None, true) => Err(Unasked::Nothing),
+    }
+}
+
 /// The options that say what is counted of a trace, and how it is printed.
 fn stats_choice_in(alloc: Global, parts: &[Part<'_>]) -> Result<StatsChoice, Unasked>
     ensures { IfAnswered result (IsFitting (AsksStatsChoice (map said_in parts.now))) }
 {
-    let (from, to) = window_in(alloc, parts)?;
     Ok(StatsChoice {
-        from,
-        to,
-        only: owned_text_in(alloc, "--only", parts)?,
+        excerpt: excerpt_in(alloc, parts)?,
+        flow: flow_in(alloc, parts)?,
         quantiles: flag_in(alloc, "--quantiles", parts)?,
         csv: flag_in(alloc, "--csv", parts)?,
     })
@@ -124,6 +151,7 @@ pub(crate) fn stats_in(alloc: Global, parts: &[Part<'_>]) -> Result<Stats, Unask
 {
     Ok(Stats {
         files: trace_in(alloc, parts)?,
+        inputs: owned_text_in(alloc, "--inputs", parts)?,
         choice: stats_choice_in(alloc, parts)?,
     })
 }
@@ -136,6 +164,8 @@ fn has_no_stats_choice(alloc: Global, parts: &[Part<'_>]) -> Result<bool, AllocE
         is_left_out(alloc, "--from", parts)?
             && is_left_out(alloc, "--to", parts)?
             && is_left_out(alloc, "--only", parts)?
+            && is_left_out(alloc, "--flow", parts)?
+            && is_left_out(alloc, "--by-value", parts)?
             && is_left_out(alloc, "--quantiles", parts)?
             && is_left_out(alloc, "--csv", parts)?,
     )
@@ -163,6 +193,7 @@ pub(crate) fn table_in(alloc: Global, parts: &[Part<'_>]) -> Result<Table, Unask
 {
     Ok(Table {
         files: trace_in(alloc, parts)?,
+        excerpt: excerpt_in(alloc, parts)?,
         inputs: owned_text_in(alloc, "--inputs", parts)?,
         json: flag_in(alloc, "--json", parts)?,
     })

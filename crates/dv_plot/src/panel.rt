@@ -6,7 +6,7 @@ use crate::lanes::{LANES, Lanes};
 use crate::marks::Marks;
 use crate::scale::{Area, Extent, LEFT, WIDTH};
 use crate::subject::{Subject, What};
-use dv_eval::Scope;
+use dv_trace::model::phase_name;
 use dv_trace::{Datum, Event, Sending};
 use dv_tree::Tree;
 use std::alloc::{AllocError, Global};
@@ -48,9 +48,7 @@ impl Panel {
     pub(crate) fn of(alloc: Global, subject: Subject) -> Result<Self, AllocError> {
         let shown = match subject.what {
             What::Phases(phase) => Shown::Lanes(Lanes::new(alloc, phase)?),
-            What::Number(_, start) => Shown::Curve(Curve::new(alloc, start)?),
-            What::Flag(_, start) => Shown::Curve(Curve::new(alloc, i64::from(start))?),
-            What::Size(_) => Shown::Curve(Curve::new(alloc, 0)?),
+            What::Value { start, .. } => Shown::Curve(Curve::new(alloc, start)?),
             What::Port(_) => Shown::Marks(Marks::new(alloc)?),
         };
         Ok(Panel { subject, shown })
@@ -154,8 +152,10 @@ impl Panel {
     fn push_value(&self, text: &mut String, value: i64, extent: Extent) -> Result<(), AllocError> {
         let depth = extent.depth_of(value, CURVE).saturating_add(40);
         match self.subject.what {
-            What::Flag(_, _) => push_beside(text, depth, if value == 0 { "false" } else { "true" }),
-            What::Phases(_) | What::Number(_, _) | What::Size(_) | What::Port(_) => {
+            What::Value { is_flag: true, .. } => {
+                push_beside(text, depth, if value == 0 { "false" } else { "true" })
+            }
+            What::Phases(_) | What::Value { .. } | What::Port(_) => {
                 writeln!(text, "<text x=\"{BESIDE}\" y=\"{depth}\">{value}</text>")
             }
         }
@@ -202,13 +202,6 @@ impl Panel {
     }
 }
 
-fn phase_name<'t>(tree: &'t Tree<'_>, scope: &Scope, phase: u32) -> &'t str {
-    match scope.phase_name(phase) {
-        Some(name) => tree.name(name),
-        None => "",
-    }
-}
-
 // The number of bands.
 fn lanes_of(lanes: &Lanes) -> u64 {
     let visited = (0..LANES).filter(|lane| lanes.is_visited(*lane)).count();
@@ -234,13 +227,8 @@ fn push_beside(text: &mut String, depth: u64, words: &str) -> Result<(), AllocEr
 
 // The value that a curve shows of a state.
 fn value_in(what: What, state: &[Datum<'_>]) -> Option<i64> {
-    let index = match what {
-        What::Number(index, _) | What::Flag(index, _) | What::Size(index) => index,
-        What::Phases(_) | What::Port(_) => return None,
-    };
-    match state.get(index)? {
-        Datum::Number(number) => Some(*number),
-        Datum::Flag(flag) => Some(i64::from(*flag)),
-        Datum::Held(values) => Some(values.count.cast_signed()),
+    match what {
+        What::Value { index, .. } => Some(state.get(index)?.number()),
+        What::Phases(_) | What::Port(_) => None,
     }
 }

@@ -1,7 +1,9 @@
 //! What names stand for.
 
 use dv_eval::{Domain, Scope};
-use dv_syntax::Atomic;
+use dv_trace::model::{
+    component_in, index_of, output_named, push_members, push_outputs, start_number, start_phase,
+};
 use dv_tree::Tree;
 use std::alloc::{AllocError, Global};
 
@@ -10,12 +12,13 @@ use std::alloc::{AllocError, Global};
 pub(crate) enum What {
     /// The phases of a component, which starts in this one.
     Phases(u32),
-    /// The variable at an index, which starts with this number.
-    Number(usize, i64),
-    /// The flag at an index, which starts with this truth value.
-    Flag(usize, bool),
-    /// The size of the bag or the queue at an index.
-    Size(usize),
+    /// The variable, the flag, the bag or the queue at an index, as a number, which is this one at
+    /// the start.
+    Value {
+        index: usize,
+        start: i64,
+        is_flag: bool,
+    },
     /// The values that pass by the output port at an index.
     Port(usize),
 }
@@ -71,24 +74,8 @@ pub fn all_names(alloc: Global, tree: &Tree<'_>) -> Result<Vec<String>, AllocErr
         push_members(alloc, tree, &mut names, path.as_str(), scope.outputs())?;
         names.push(path)?;
     }
-    for port in 0..tree.output_count() {
-        names.push(String::from_str(alloc, tree.output_name(port))?)?;
-    }
+    push_outputs(alloc, tree, &mut names)?;
     Ok(names)
-}
-
-// Adds the names of variables or ports of the component with a path.
-fn push_members(
-    alloc: Global,
-    tree: &Tree<'_>,
-    names: &mut Vec<String>,
-    path: &str,
-    members: &[u32],
-) -> Result<(), AllocError> {
-    for member in members {
-        names.push(format!(in alloc; "{path}.{}", tree.name(*member))?)?;
-    }
-    Ok(())
 }
 
 // The component that a name is of, and what of it.
@@ -97,64 +84,32 @@ fn component_named(
     tree: &Tree<'_>,
     name: &str,
 ) -> Result<Option<(u32, What)>, AllocError> {
-    for component in 0..tree.component_count() {
-        let path = tree.path_text(alloc, component)?;
-        let scope = tree.scope(component);
-        let what = match name.strip_prefix(path.as_str()) {
-            Some("") => Some(What::Phases(start_phase(scope, tree.atomic(component)))),
-            Some(rest) => match rest.strip_prefix(".") {
-                Some(member) => member_named(tree, scope, member),
-                None => None,
-            },
-            None => None,
-        };
-        if let Some(what) = what {
-            return Ok(Some((component as u32, what)));
-        }
+    let Some((component, member)) = component_in(alloc, tree, name)? else {
+        return Ok(None);
+    };
+    if component >= tree.component_count() {
+        return Ok(None);
     }
-    Ok(None)
-}
-
-// The phase in which a component starts.
-fn start_phase(scope: &Scope, model: &Atomic) -> u32 {
-    match model.starts.first() {
-        Some(start) => scope.phase(start.phase.number).unwrap_or(0),
-        None => 0,
+    let what = match member {
+        None => Some(What::Phases(start_phase(tree, component))),
+        Some(member) => member_named(tree, tree.scope(component), member),
+    };
+    match what {
+        Some(what) => Ok(Some((component as u32, what))),
+        None => Ok(None),
     }
 }
 
 // The variable, flag, bag, queue or output port of a component that has this name.
 fn member_named(tree: &Tree<'_>, scope: &Scope, name: &str) -> Option<What> {
-    for (index, domain) in scope.domains().iter().enumerate() {
-        if is_named(tree, scope.variables(), index, name) {
-            return Some(match domain {
-                Domain::Number(range) => What::Number(index, range.start),
-                Domain::Flag { start } => What::Flag(index, *start),
-                Domain::Held { .. } => What::Size(index),
-            });
-        }
+    if let Some(index) = index_of(tree, scope.variables(), name)
+        && let Some(domain) = scope.domains().get(index)
+    {
+        return Some(What::Value {
+            index,
+            start: start_number(*domain),
+            is_flag: matches!(domain, Domain::Flag { .. }),
+        });
     }
-    for index in 0..scope.output_count() {
-        if is_named(tree, scope.outputs(), index, name) {
-            return Some(What::Port(index));
-        }
-    }
-    None
-}
-
-fn is_named(tree: &Tree<'_>, names: &[u32], index: usize, name: &str) -> bool {
-    match names.get(index) {
-        Some(number) => tree.name(*number) == name,
-        None => false,
-    }
-}
-
-// The output port of the root that has this name.
-fn output_named(tree: &Tree<'_>, name: &str) -> Option<usize> {
-    for port in 0..tree.output_count() {
-        if tree.output_name(port) == name {
-            return Some(port);
-        }
-    }
-    None
+    Some(What::Port(index_of(tree, scope.outputs(), name)?))
 }

@@ -1,5 +1,6 @@
 //! The values of a row.
 
+use crate::spread::Spread;
 use dv_bag::Fault;
 use dv_time::Time;
 use std::fmt;
@@ -46,6 +47,19 @@ impl Cell {
         match sum {
             Some(sum) => Cell::Number(sum),
             None => Cell::Overflow,
+        }
+    }
+
+    /// How far numbers are spread.
+    pub(crate) fn spread(spread: Spread) -> Cell {
+        match spread {
+            Spread::Nothing => Cell::Nothing,
+            Spread::Thousandths(number) => Cell::Ratio {
+                sign: "",
+                whole: number / 1000,
+                thousandths: number % 1000,
+            },
+            Spread::Overflow => Cell::Overflow,
         }
     }
 

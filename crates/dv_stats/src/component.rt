@@ -4,13 +4,13 @@ ghost use Rattle.std.specs.Prelude.{◌≡◌};
 ghost use Rattle.dv_stats.specs.Counting.{with_kind};
 
 use crate::port::PortCount;
-use crate::span::{Side, Span};
-use crate::tally::{PortTallies, tallies_of};
+use crate::tally::{PortTallies, Tally, tallies_of};
 use crate::variable::VariableCount;
 use dv_bag::{Fault, Kind};
 use dv_eval::{Domain, Scope};
 use dv_time::Time;
-use dv_trace::{Datum, EntryHead, Event, LineLists, Sending};
+use dv_trace::model::start_number;
+use dv_trace::{Datum, EntryHead, Event, LineLists, Sending, Side, Span};
 use std::alloc::{AllocError, Global};
 
 /// The numbers of transitions of each kind.
@@ -95,7 +95,7 @@ impl ComponentCount {
             fault: None,
             phases: vec![in alloc; PhaseCount::NOTHING; scope.phases().len()]?,
             faulted: 0,
-            variables: variables_of(alloc, scope.domains(), span.from)?,
+            variables: variables_of(alloc, scope.domains(), span.from, has_tallies)?,
             ports: vec![in alloc; PortCount::NOTHING; scope.output_count()]?,
             tallies: tallies_of(alloc, scope.output_count(), has_tallies)?,
             phase: phase as usize,
@@ -107,11 +107,12 @@ impl ComponentCount {
 
     /// Counts up to the end of the trace, which is before a tick. After a fault the ticks count for
     /// no phase and no variable.
-    pub(crate) fn finish(&mut self, tick: u64) {
+    pub(crate) fn finish(&mut self, tick: u64) -> Result<(), AllocError> {
         self.pass(tick);
         if self.fault.is_none() {
-            pass_all(&mut self.variables, tick);
+            pass_all(&mut self.variables, tick)?;
         }
+        Ok(())
     }
 
     // Counts the ticks from the last transition up to a tick.
@@ -167,12 +168,12 @@ impl ComponentCount {
                 self.transitions.add(kind);
                 self.enter(phase as usize);
                 if self.fault.is_none() {
-                    hold_all(&mut self.variables, &lists.state, tick);
+                    hold_all(&mut self.variables, &lists.state, tick)?;
                 }
             }
             Event::Fault(fault) => {
                 if self.fault.is_none() {
-                    pass_all(&mut self.variables, tick);
+                    pass_all(&mut self.variables, tick)?;
                 }
                 self.fault = Some((fault, entry.time));
             }
@@ -206,11 +207,18 @@ fn variables_of(
     alloc: Global,
     domains: &[Domain],
     from: u64,
+    has_tallies: bool,
 ) -> Result<Vec<VariableCount>, AllocError> {
-    domains
-        .iter()
-        .map(|domain| VariableCount::new(*domain, from))
-        .collect(alloc)
+    let mut variables = Vec::with_capacity(alloc, domains.len())?;
+    for domain in domains {
+        let values = if has_tallies {
+            Some(Tally::new(alloc))
+        } else {
+            None
+        };
+        variables.push(VariableCount::new(start_number(*domain), from, values))?;
+    }
+    Ok(variables)
 }
 
 fn restart_all(variables: &mut [VariableCount], state: &[Datum<'_>], from: u64) {
@@ -225,16 +233,22 @@ fn cease_all(variables: &mut [VariableCount]) {
     }
 }
 
-fn pass_all(variables: &mut [VariableCount], tick: u64) {
+fn pass_all(variables: &mut [VariableCount], tick: u64) -> Result<(), AllocError> {
     for variable in variables {
-        variable.pass(tick);
+        variable.pass(tick)?;
     }
+    Ok(())
 }
 
-fn hold_all(variables: &mut [VariableCount], state: &[Datum<'_>], tick: u64) {
+fn hold_all(
+    variables: &mut [VariableCount],
+    state: &[Datum<'_>],
+    tick: u64,
+) -> Result<(), AllocError> {
     for (variable, datum) in variables.iter_mut().zip(state) {
-        variable.hold(*datum, tick);
+        variable.hold(*datum, tick)?;
     }
+    Ok(())
 }
 
 fn send_all(ports: &mut [PortCount], sent: &[Sending<'_>]) {

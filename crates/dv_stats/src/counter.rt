@@ -2,6 +2,7 @@
 
 use crate::counts::Counts;
 use crate::error::StatsError;
+use crate::flow::Flow;
 use crate::listing::write_counts;
 use crate::options::Counted;
 use dv_trace::{LineLists, Reach, TakeLine, TraceReader};
@@ -12,20 +13,16 @@ use std::io::Write;
 #[derive(Drop)]
 pub(crate) struct Counter<'t> {
     reader: TraceReader<'t>,
-    counts: Counts,
+    counts: Counts<'t>,
 }
 
 impl<'t> Counter<'t> {
-    /// A counter at the first line of a trace. `None` if no component has the path in
-    /// `options.only`.
-    pub(crate) fn new(counted: Counted<'t>) -> Result<Option<Self>, AllocError> {
-        let Some(counts) = Counts::new(counted.alloc, counted.tree, &counted.options)? else {
-            return Ok(None);
-        };
-        Ok(Some(Counter {
-            counts,
+    /// A counter at the first line of a trace.
+    pub(crate) fn new(counted: Counted<'t>, flow: Option<Flow<'t>>) -> Result<Self, AllocError> {
+        Ok(Counter {
+            counts: Counts::new(counted, flow)?,
             reader: TraceReader::new(counted.alloc, counted.tree)?,
-        }))
+        })
     }
 
     /// Ends the trace, writes what was counted, and returns how far the trace reaches.
@@ -35,7 +32,7 @@ impl<'t> Counter<'t> {
         writer: &mut W,
     ) -> Result<Reach, StatsError> {
         let reach = self.reader.end(counted.options.end)?;
-        self.counts.finish();
+        self.counts.finish()?;
         write_counts(counted, &self.counts, writer)?;
         Ok(reach)
     }

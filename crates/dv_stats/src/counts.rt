@@ -1,23 +1,25 @@
 //! The counts of a trace.
 
 use crate::component::{ComponentCount, tally_all};
-use crate::options::StatsOptions;
+use crate::flow::Flow;
+use crate::options::Counted;
 use crate::output::OutputCount;
-use crate::span::{Side, Span};
 use crate::tally::{PortTallies, tallies_of};
-use dv_trace::{EntryHead, LineHead, LineLists, Sending};
-use dv_tree::Tree;
-use std::alloc::{AllocError, Global};
+use dv_trace::model::start_phase;
+use dv_trace::{EntryHead, LineHead, LineLists, Sending, Side, Span};
+use std::alloc::AllocError;
 
 /// The counts of a trace so far.
 #[derive(Drop)]
-pub(crate) struct Counts {
+pub(crate) struct Counts<'t> {
     /// By the number of the component; `None` for those that are not asked for.
     pub(crate) components: Vec<Option<ComponentCount>>,
     /// By the index of the root's output port; empty if only some components are asked for.
     pub(crate) outputs: Vec<OutputCount>,
     /// By the index of the root's output port; empty without quantiles.
     pub(crate) tallies: Vec<PortTallies>,
+    /// The times between two ports, if they are asked for.
+    pub(crate) flow: Option<Flow<'t>>,
     /// The ticks that count. `finish` cuts it at the end of the trace.
     pub(crate) span: Span,
     // The number of ticks in the trace if its end was read, otherwise the tick of the last line.
@@ -26,32 +28,31 @@ pub(crate) struct Counts {
     clock: Option<u64>,
 }
 
-impl Counts {
-    /// The counts before the first line. `None` if no component has the path in `options.only`.
-    pub(crate) fn new(
-        alloc: Global,
-        tree: &Tree<'_>,
-        options: &StatsOptions<'_>,
-    ) -> Result<Option<Self>, AllocError> {
-        let outputs = match options.only {
-            Some(_) => 0,
-            None => tree.output_count(),
+impl<'t> Counts<'t> {
+    /// The counts before the first line.
+    pub(crate) fn new(counted: Counted<'t>, flow: Option<Flow<'t>>) -> Result<Self, AllocError> {
+        let alloc = counted.alloc;
+        let outputs = if counted.chosen.has_root() {
+            counted.tree.output_count()
+        } else {
+            0
         };
-        let Some(components) = components_of(alloc, tree, options)? else {
-            return Ok(None);
-        };
-        Ok(Some(Counts {
-            components,
+        Ok(Counts {
+            components: components_of(counted)?,
             outputs: vec![in alloc; OutputCount::NOTHING; outputs]?,
-            tallies: tallies_of(alloc, outputs, options.quantiles)?,
-            span: Span::of(options.from, options.to),
+            tallies: tallies_of(alloc, outputs, counted.options.quantiles)?,
+            flow,
+            span: counted.options.excerpt.span(),
             ticks: 0,
             clock: None,
-        }))
+        })
     }
 
     /// Counts a line.
     pub(crate) fn add(&mut self, head: LineHead, lists: &LineLists<'_>) -> Result<(), AllocError> {
+        if let Some(flow) = &mut self.flow {
+            flow.follow(head, lists)?;
+        }
         match head {
             LineHead::Empty => Ok(()),
             LineHead::Entry(entry) => self.add_entry(entry, lists),
@@ -103,70 +104,39 @@ impl Counts {
     }
 
     /// Counts up to the end of the trace, after its last line.
-    pub(crate) fn finish(&mut self) {
+    pub(crate) fn finish(&mut self) -> Result<(), AllocError> {
         self.span = self.span.cut(self.ticks);
+        if let Some(flow) = &mut self.flow {
+            flow.finish(self.span.before)?;
+        }
         for component in &mut self.components {
             if let Some(component) = component {
-                component.finish(self.span.before);
+                component.finish(self.span.before)?;
             }
         }
+        Ok(())
     }
 }
 
-// The counts of the components that are asked for. `None` if there are none.
-fn components_of(
-    alloc: Global,
-    tree: &Tree<'_>,
-    options: &StatsOptions<'_>,
-) -> Result<Option<Vec<Option<ComponentCount>>>, AllocError> {
-    let span = Span::of(options.from, options.to);
+// The counts of the components that are asked for.
+fn components_of(counted: Counted<'_>) -> Result<Vec<Option<ComponentCount>>, AllocError> {
+    let Counted {
+        alloc,
+        tree,
+        chosen,
+        options,
+    } = counted;
+    let span = options.excerpt.span();
     let mut components = Vec::with_capacity(alloc, tree.component_count())?;
-    let mut has_some = false;
     for component in 0..tree.component_count() {
-        if is_asked_for(alloc, tree, component, options.only)? {
+        let count = if chosen.has(component) {
             let phase = start_phase(tree, component);
             let scope = tree.scope(component);
-            let count = ComponentCount::new(alloc, scope, phase, span, options.quantiles)?;
-            components.push(Some(count))?;
-            has_some = true;
+            Some(ComponentCount::new(alloc, scope, phase, span, options.quantiles)?)
         } else {
-            components.push(None)?;
-        }
+            None
+        };
+        components.push(count)?;
     }
-    if has_some {
-        Ok(Some(components))
-    } else {
-        Ok(None)
-    }
-}
-
-// Whether the path of a component is `only`, or begins with it and a dot. Without `only` all
-// components are asked for.
-fn is_asked_for(
-    alloc: Global,
-    tree: &Tree<'_>,
-    component: usize,
-    only: Option<&str>,
-) -> Result<bool, AllocError> {
-    let Some(only) = only else {
-        return Ok(true);
-    };
-    if component >= tree.component_count() {
-        return Ok(false);
-    }
-    let path = tree.path_text(alloc, component)?;
-    Ok(match path.as_str().strip_prefix(only) {
-        Some(rest) => rest.is_empty() || rest.starts_with('.'),
-        None => false,
-    })
-}
-
-fn start_phase(tree: &Tree<'_>, component: usize) -> u32 {
-    if component >= tree.component_count() {
-        return 0;
-    }
-    match tree.atomic(component).starts.first() {
-        Some(start) => tree.scope(component).phase(start.phase.number).unwrap_or(0),
-        None => 0,
-    }
+    Ok(components)
 }

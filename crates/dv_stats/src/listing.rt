@@ -12,9 +12,9 @@ use std::fmt::Display;
 use std::io::Write;
 
 /// Writes what was counted.
-pub(crate) fn write_counts<W: Write>(
-    counted: Counted<'_>,
-    counts: &Counts,
+pub(crate) fn write_counts<'t, W: Write>(
+    counted: Counted<'t>,
+    counts: &Counts<'t>,
     writer: &mut W,
 ) -> Result<(), StatsError> {
     let mut text = String::new(counted.alloc);
@@ -23,7 +23,11 @@ pub(crate) fn write_counts<W: Write>(
     Ok(())
 }
 
-fn push_counts(counted: Counted<'_>, counts: &Counts, text: &mut String) -> Result<(), AllocError> {
+fn push_counts<'t>(
+    counted: Counted<'t>,
+    counts: &Counts<'t>,
+    text: &mut String,
+) -> Result<(), AllocError> {
     push_span(text, counts.span.ticks(), &counted.options)?;
     for kind in Kind::ALL {
         let section = section_of(counted.alloc, counted.tree, counts, kind)?;
@@ -43,14 +47,14 @@ fn push_span(text: &mut String, ticks: u64, options: &StatsOptions<'_>) -> Resul
     }
     for (name, tick) in [
         ("ticks", Some(ticks)),
-        ("from", options.from),
-        ("to", options.to),
+        ("from", options.excerpt.from),
+        ("to", options.excerpt.to),
     ] {
         if let Some(tick) = tick {
             push_fact(text, form, name, tick)?;
         }
     }
-    if let Some(only) = options.only {
+    if let Some(only) = options.excerpt.only {
         push_fact(text, form, "only", only)?;
     }
     Ok(())

@@ -1,6 +1,7 @@
 //! Options of the numbers, and the model that they are of.
 
-use dv_trace::End;
+use crate::flow::FlowOptions;
+use dv_trace::{Chosen, End, Excerpt};
 use dv_tree::Tree;
 use std::alloc::Global;
 
@@ -21,13 +22,10 @@ pub struct StatsOptions<'a> {
     pub end: End,
     /// How the numbers are written.
     pub form: Form,
-    /// The first tick that counts; without it, tick 0.
-    pub from: Option<u64>,
-    /// The last tick that counts; without it, the last one of the trace.
-    pub to: Option<u64>,
-    /// The path of a component, or of a coupled model, whose components alone count. The outputs of
-    /// the root do not count then.
-    pub only: Option<&'a str>,
+    /// The ticks and the components that count.
+    pub excerpt: Excerpt<'a>,
+    /// The ports between which times are taken, if they are given.
+    pub flow: Option<FlowOptions<'a>>,
     /// Whether quantiles and histograms are written, too. They take memory for each distinct value
     /// that a port sent.
     pub quantiles: bool,
@@ -38,5 +36,6 @@ pub struct StatsOptions<'a> {
 pub(crate) struct Counted<'t> {
     pub(crate) alloc: Global,
     pub(crate) tree: &'t Tree<'t>,
+    pub(crate) chosen: Chosen,
     pub(crate) options: StatsOptions<'t>,
 }

@@ -3,14 +3,16 @@
 use crate::cell::Cell;
 use crate::component::ComponentCount;
 use crate::counts::Counts;
+use crate::flow::Flow;
 use crate::histogram::bins_of;
-use crate::names::{name_at, output_name};
 use crate::output::{Instants, OutputCount};
 use crate::port::PortCount;
 use crate::section::{Kind, Named, Sample, Section};
+use crate::spread::deviation_of;
 use crate::summary::{Extremes, Summary};
-use crate::tally::{PortTallies, Tally};
+use crate::tally::Tally;
 use dv_eval::Scope;
+use dv_trace::model::{name_at, output_name};
 use dv_tree::Tree;
 use std::alloc::{AllocError, Global};
 
@@ -26,7 +28,7 @@ struct Subject<'t, 'c> {
 pub(crate) fn section_of<'t>(
     alloc: Global,
     tree: &'t Tree<'t>,
-    counts: &Counts,
+    counts: &Counts<'t>,
     kind: Kind,
 ) -> Result<Section<'t>, AllocError> {
     let mut section = Section {
@@ -43,7 +45,7 @@ pub(crate) fn section_of<'t>(
 }
 
 impl<'t> Section<'t> {
-    fn add_components(&mut self, counts: &Counts) -> Result<(), AllocError> {
+    fn add_components(&mut self, counts: &Counts<'t>) -> Result<(), AllocError> {
         let tree = self.tree;
         for (component, count) in counts.components.iter().enumerate() {
             if let Some(count) = count
@@ -65,7 +67,7 @@ impl<'t> Section<'t> {
             Kind::Component => self.push(of.path, "", &transition_cells(of.count)),
             Kind::Phase => self.add_phases(of, ticks),
             Kind::Variable => self.add_variables(of, ticks),
-            Kind::Port | Kind::Output => self.add_ports(of),
+            Kind::Port | Kind::Output | Kind::Flow => self.add_ports(of),
             Kind::Quantiles(sample) | Kind::Bins(sample) => self.add_tallies(of, sample),
         }
     }
@@ -103,18 +105,37 @@ impl<'t> Section<'t> {
     }
 
     fn add_tallies(&mut self, of: Subject<'t, '_>, sample: Sample) -> Result<(), AllocError> {
+        if let Sample::VariableValues = sample {
+            return self.add_values(of);
+        }
         for (index, tallies) in of.count.tallies.iter().enumerate() {
             let name = name_at(self.tree, of.scope.outputs(), index);
-            self.add_sample(of.path, name, sample, tallies)?;
+            self.add_sample(of.path, name, sample.tally_of(tallies))?;
         }
         Ok(())
     }
 
-    fn add_outputs(&mut self, counts: &Counts) -> Result<(), AllocError> {
+    fn add_values(&mut self, of: Subject<'t, '_>) -> Result<(), AllocError> {
+        for (index, variable) in of.count.variables.iter().enumerate() {
+            if let Some(values) = &variable.values {
+                let name = name_at(self.tree, of.scope.variables(), index);
+                self.add_sample(of.path, name, values)?;
+            }
+        }
+        Ok(())
+    }
+
+    fn add_outputs(&mut self, counts: &Counts<'t>) -> Result<(), AllocError> {
         match self.kind {
             Kind::Quantiles(sample) | Kind::Bins(sample) => {
                 for (port, tallies) in counts.tallies.iter().enumerate() {
-                    self.add_sample(&[], output_name(self.tree, port), sample, tallies)?;
+                    let tally = sample.tally_of(tallies);
+                    self.add_sample(&[], output_name(self.tree, port), tally)?;
+                }
+            }
+            Kind::Flow => {
+                if let Some(flow) = &counts.flow {
+                    self.push(&[], flow.name, &flow_cells(flow))?;
                 }
             }
             Kind::Component | Kind::Phase | Kind::Variable | Kind::Port | Kind::Output => {
@@ -127,15 +148,13 @@ impl<'t> Section<'t> {
         Ok(())
     }
 
-    // Adds the row of a port's quantiles, or a row for each bin.
+    // Adds the row of the quantiles of a sample, or a row for each bin.
     fn add_sample(
         &mut self,
         component: &'t [u32],
         name: &'t str,
-        sample: Sample,
-        tallies: &PortTallies,
+        tally: &Tally,
     ) -> Result<(), AllocError> {
-        let tally = sample.tally_of(tallies);
         if let Kind::Quantiles(_) = self.kind {
             return self.push(component, name, &quantile_cells(tally));
         }
@@ -239,8 +258,9 @@ fn gap_cells(instants: Option<Instants>, count: u64) -> [Cell; 3] {
     }
 }
 
-// The number of values, the least one, the quantiles, and the greatest one.
-fn quantile_cells(tally: &Tally) -> [Cell; 8] {
+// The number of values, the least one, the quantiles, the greatest one, the mean, the deviation,
+// and the margin of the mean.
+fn quantile_cells(tally: &Tally) -> [Cell; 11] {
     [
         Cell::count(tally.count),
         Cell::number(tally.least()),
@@ -250,5 +270,40 @@ fn quantile_cells(tally: &Tally) -> [Cell; 8] {
         Cell::number(tally.quantile(90)),
         Cell::number(tally.quantile(99)),
         Cell::number(tally.greatest()),
+        Cell::ratio(tally.sum(), tally.count),
+        Cell::spread(deviation_of(tally)),
+        Cell::spread(tally.batches.margin()),
+    ]
+}
+
+// The number of pairs, the times, and the numbers of values that are paired with none.
+fn flow_cells(flow: &Flow<'_>) -> [Cell; 13] {
+    let [
+        count,
+        least,
+        first,
+        half,
+        third,
+        tenth,
+        hundredth,
+        greatest,
+        mean,
+        deviation,
+        margin,
+    ] = quantile_cells(&flow.times);
+    [
+        count,
+        least,
+        mean,
+        deviation,
+        margin,
+        greatest,
+        first,
+        half,
+        third,
+        tenth,
+        hundredth,
+        Cell::count(flow.inside()),
+        Cell::count(flow.unmatched),
     ]
 }

@@ -13,14 +13,16 @@ pub(crate) enum Kind {
     Variable,
     Port,
     Output,
+    Flow,
     Quantiles(Sample),
     Bins(Sample),
 }
 
-/// The numbers of which there are quantiles and a histogram: values, or ticks from one instant to
-/// the next (gaps).
+/// The numbers of which there are quantiles and a histogram: values, those of a variable as often
+/// as there are ticks at which it holds them, or ticks from one instant to the next (gaps).
 #[derive(Clone, Copy)]
 pub(crate) enum Sample {
+    VariableValues,
     PortValues,
     PortGaps,
     OutputValues,
@@ -38,6 +40,7 @@ pub(crate) enum Named {
 impl Sample {
     fn word(self) -> &'static str {
         match self {
+            Sample::VariableValues => "variable values",
             Sample::PortValues => "port values",
             Sample::PortGaps => "port gaps",
             Sample::OutputValues => "output values",
@@ -47,15 +50,15 @@ impl Sample {
 
     fn named(self) -> Named {
         match self {
-            Sample::PortValues | Sample::PortGaps => Named::ByBoth,
+            Sample::VariableValues | Sample::PortValues | Sample::PortGaps => Named::ByBoth,
             Sample::OutputValues | Sample::OutputGaps => Named::ByName,
         }
     }
 
-    /// The one of a port's tallies that has this sample.
+    /// The one of a port's tallies that has this sample. A variable has no gaps.
     pub(crate) fn tally_of(self, tallies: &PortTallies) -> &Tally {
         match self {
-            Sample::PortValues | Sample::OutputValues => &tallies.values,
+            Sample::VariableValues | Sample::PortValues | Sample::OutputValues => &tallies.values,
             Sample::PortGaps | Sample::OutputGaps => &tallies.gaps,
         }
     }
@@ -63,12 +66,15 @@ impl Sample {
 
 impl Kind {
     /// All kinds, in the order of their sections.
-    pub(crate) const ALL: [Kind; 13] = [
+    pub(crate) const ALL: [Kind; 16] = [
         Kind::Component,
         Kind::Phase,
         Kind::Variable,
         Kind::Port,
         Kind::Output,
+        Kind::Flow,
+        Kind::Quantiles(Sample::VariableValues),
+        Kind::Bins(Sample::VariableValues),
         Kind::Quantiles(Sample::PortValues),
         Kind::Bins(Sample::PortValues),
         Kind::Quantiles(Sample::PortGaps),
@@ -87,6 +93,7 @@ impl Kind {
             Kind::Variable => "variable",
             Kind::Port => "port",
             Kind::Output => "output",
+            Kind::Flow => "flow",
             Kind::Quantiles(sample) | Kind::Bins(sample) => sample.word(),
         }
     }
@@ -95,7 +102,7 @@ impl Kind {
     pub(crate) fn named(self) -> Named {
         match self {
             Kind::Component => Named::ByComponent,
-            Kind::Output => Named::ByName,
+            Kind::Output | Kind::Flow => Named::ByName,
             Kind::Phase | Kind::Variable | Kind::Port => Named::ByBoth,
             Kind::Quantiles(sample) | Kind::Bins(sample) => sample.named(),
         }
@@ -109,6 +116,7 @@ impl Kind {
             Kind::Variable => &VARIABLE,
             Kind::Port => &PORT,
             Kind::Output => &OUTPUT,
+            Kind::Flow => &FLOW,
             Kind::Quantiles(_) => &QUANTILES,
             Kind::Bins(_) => &BINS,
         }
@@ -136,9 +144,35 @@ const OUTPUT: [&str; 10] = [
     "gap_greatest",
 ];
 
+const FLOW: [&str; 13] = [
+    "pairs",
+    "least",
+    "mean",
+    "deviation",
+    "margin",
+    "greatest",
+    "0.25",
+    "0.5",
+    "0.75",
+    "0.9",
+    "0.99",
+    "inside",
+    "unmatched",
+];
+
 // The quantiles are named by fractions of one.
-const QUANTILES: [&str; 8] = [
-    "count", "least", "0.25", "0.5", "0.75", "0.9", "0.99", "greatest",
+const QUANTILES: [&str; 11] = [
+    "count",
+    "least",
+    "0.25",
+    "0.5",
+    "0.75",
+    "0.9",
+    "0.99",
+    "greatest",
+    "mean",
+    "deviation",
+    "margin",
 ];
 
 const BINS: [&str; 3] = ["from", "to", "count"];

@@ -23,6 +23,13 @@ impl Summary {
         sum: Some(0),
     };
 
+    /// The extremes of one value, without a sum.
+    pub(crate) fn of(value: i64) -> Self {
+        let mut summary = Summary::NOTHING;
+        summary.meet(value);
+        summary
+    }
+
     /// Adds a value to the extremes alone.
     pub(crate) fn meet(&mut self, value: i64) {
         self.extremes = Some(match self.extremes {

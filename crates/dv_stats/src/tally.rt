@@ -1,5 +1,6 @@
 //! How often each value occurred.
 
+use crate::batches::Batches;
 use dv_trace::Values;
 use std::alloc::{AllocError, Global};
 use std::collections::BTreeMap;
@@ -8,6 +9,8 @@ use std::collections::BTreeMap;
 #[derive(Drop)]
 pub(crate) struct Tally {
     counts: BTreeMap<i64, u64>,
+    /// The values in the order in which they came.
+    pub(crate) batches: Batches,
     /// The number of values, with copies.
     pub(crate) count: u64,
 }
@@ -17,20 +20,36 @@ impl Tally {
     pub(crate) fn new(alloc: Global) -> Self {
         Tally {
             counts: BTreeMap::new(alloc),
+            batches: Batches::new(alloc),
             count: 0,
         }
     }
 
-    /// Adds a value. A count that has reached 2^64 - 1 stays there.
+    /// Adds a value.
     pub(crate) fn add(&mut self, value: i64) -> Result<(), AllocError> {
+        self.add_copies(value, 1)
+    }
+
+    /// Adds copies of a value. A count that has reached 2^64 - 1 stays there.
+    pub(crate) fn add_copies(&mut self, value: i64, copies: u64) -> Result<(), AllocError> {
         match self.counts.get_mut(&value) {
-            Some(count) => *count = count.saturating_add(1),
+            Some(count) => *count = count.saturating_add(copies),
             None => {
-                self.counts.insert(value, 1)?;
+                self.counts.insert(value, copies)?;
             }
         }
-        self.count = self.count.saturating_add(1);
-        Ok(())
+        self.count = self.count.saturating_add(copies);
+        self.batches.add(value, copies)
+    }
+
+    /// The sum of the values; `None` if it has more than 128 bits.
+    pub(crate) fn sum(&self) -> Option<i128> {
+        let mut sum: i128 = 0;
+        for (value, count) in self.counts.iter() {
+            let all = i128::from(*value).checked_mul(i128::from(*count))?;
+            sum = sum.checked_add(all)?;
+        }
+        Some(sum)
     }
 
     /// The values, ascending, each with the number of its copies.

@@ -1,11 +1,12 @@
 //! The values of a variable over time.
 
 use crate::summary::Summary;
-use dv_eval::Domain;
+use crate::tally::Tally;
 use dv_trace::Datum;
+use std::alloc::AllocError;
 
 /// What a variable held. A flag counts as 1 or 0, a bag or a queue as the number of its values.
-#[derive(Clone, Copy)]
+#[derive(Drop)]
 pub(crate) struct VariableCount {
     // The present value.
     now: i64,
@@ -13,33 +14,26 @@ pub(crate) struct VariableCount {
     since: u64,
     /// The least and the greatest value, and the sum of the values at all ticks.
     pub(crate) held: Summary,
+    /// How many ticks it held each value, if quantiles are wanted.
+    pub(crate) values: Option<Tally>,
 }
 
 impl VariableCount {
-    /// A variable at the start of the model. `from` is the first tick of the span.
-    pub(crate) fn new(domain: Domain, from: u64) -> Self {
-        let now = match domain {
-            Domain::Number(range) => range.start,
-            Domain::Flag { start } => i64::from(start),
-            Domain::Held { .. } => 0,
-        };
-        VariableCount::starting(now, from)
-    }
-
-    // A variable with this value at the first tick of the span.
-    fn starting(now: i64, from: u64) -> Self {
-        let mut held = Summary::NOTHING;
-        held.meet(now);
+    /// A variable with this number at the start of the model. `from` is the first tick of the span.
+    pub(crate) fn new(now: i64, from: u64, values: Option<Tally>) -> Self {
         VariableCount {
             now,
             since: from,
-            held,
+            held: Summary::of(now),
+            values,
         }
     }
 
     /// Sets the value before the span, whose first tick is `from`. Former values do not count.
     pub(crate) fn restart(&mut self, datum: Datum<'_>, from: u64) {
-        *self = VariableCount::starting(number_of(datum), from);
+        self.now = datum.number();
+        self.since = from;
+        self.held = Summary::of(self.now);
     }
 
     /// Notes a fault before the span: the variable holds nothing.
@@ -48,26 +42,24 @@ impl VariableCount {
     }
 
     /// Counts the present value up to a tick.
-    pub(crate) fn pass(&mut self, tick: u64) {
-        self.held.weigh(self.now, tick.saturating_sub(self.since));
+    pub(crate) fn pass(&mut self, tick: u64) -> Result<(), AllocError> {
+        let ticks = tick.saturating_sub(self.since);
         self.since = tick;
+        self.held.weigh(self.now, ticks);
+        match &mut self.values {
+            Some(values) if ticks > 0 => values.add_copies(self.now, ticks),
+            Some(_) | None => Ok(()),
+        }
     }
 
     /// Sets the value from a tick on.
-    pub(crate) fn hold(&mut self, datum: Datum<'_>, tick: u64) {
-        let number = number_of(datum);
+    pub(crate) fn hold(&mut self, datum: Datum<'_>, tick: u64) -> Result<(), AllocError> {
+        let number = datum.number();
         if number != self.now {
-            self.pass(tick);
+            self.pass(tick)?;
             self.now = number;
             self.held.meet(number);
         }
-    }
-}
-
-fn number_of(datum: Datum<'_>) -> i64 {
-    match datum {
-        Datum::Number(number) => number,
-        Datum::Flag(flag) => i64::from(flag),
-        Datum::Held(values) => i64::try_from(values.count).unwrap_or(i64::MAX),
+        Ok(())
     }
 }

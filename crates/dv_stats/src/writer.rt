@@ -2,16 +2,17 @@
 
 use crate::counter::Counter;
 use crate::error::StatsError;
+use crate::flow::Flow;
 use crate::options::{Counted, StatsOptions};
-use dv_trace::{LineCutter, Reach};
+use dv_trace::{Chosen, LineCutter, Reach};
 use dv_tree::Tree;
 use std::alloc::{AllocError, Global};
 use std::io;
 use std::io::Write;
 
 /// A writer that takes the bytes of a trace, in any pieces, and counts what their lines say. It
-/// keeps the line that has not ended yet, and none before it. Without quantiles, memory does not
-/// grow with the trace.
+/// keeps the line that has not ended yet, and none before it. Without quantiles and a flow, memory
+/// does not grow with the trace.
 ///
 /// A write fails if a line is refused or an allocation is; `finish` returns the cause.
 #[derive(Drop)]
@@ -21,8 +22,9 @@ pub struct StatsWriter<'t> {
 }
 
 impl<'t> StatsWriter<'t> {
-    /// A writer for a trace of the model of a tree, from its first byte on. `None` if no component
-    /// has the path in `options.only`.
+    /// A writer for a trace of the model of a tree, from its first byte on. Only the components
+    /// that are chosen count, and the outputs of the root if it is. `flow` is the one of
+    /// `options.flow`.
     ///
     /// # Errors
     ///
@@ -30,20 +32,20 @@ impl<'t> StatsWriter<'t> {
     pub fn new(
         alloc: Global,
         tree: &'t Tree<'t>,
+        chosen: Chosen,
+        flow: Option<Flow<'t>>,
         options: &StatsOptions<'t>,
-    ) -> Result<Option<Self>, AllocError> {
+    ) -> Result<Self, AllocError> {
         let counted = Counted {
             alloc,
             tree,
+            chosen,
             options: *options,
         };
-        let Some(counter) = Counter::new(counted)? else {
-            return Ok(None);
-        };
-        Ok(Some(StatsWriter {
+        Ok(StatsWriter {
             counted,
-            lines: LineCutter::new(alloc, counter),
-        }))
+            lines: LineCutter::new(alloc, Counter::new(counted, flow)?),
+        })
     }
 
     /// Ends the trace, writes its numbers to `writer`, and returns how far the trace reaches. Of

@@ -34,4 +34,4 @@ pub mod table;
 
 pub use arrivals::{Arrival, Routes, arrivals_to};
 pub use error::TableError;
-pub use table::{TableForm, TableOptions, write_table};
+pub use table::{TableForm, TableOptions, inputs_of, write_table};

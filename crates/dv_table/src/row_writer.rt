@@ -4,6 +4,7 @@ use crate::arrivals::{Arrival, push_values};
 use crate::error::TableError;
 use crate::row::{ARRIVED, Index, LEFT, Row, Rows, SENT, State};
 use dv_eval::Scope;
+use dv_trace::model::name_at;
 use dv_trace::{Entry, Happening, Outside, Sending};
 use dv_tree::Tree;
 use std::alloc::Global;
@@ -72,7 +73,7 @@ impl<'a, R: Rows> RowWriter<'a, R> {
         sent: &[Sending<'a>],
     ) -> Result<(), TableError> {
         for sending in sent {
-            let port = name_in(self.tree, scope.outputs(), sending.port);
+            let port = name_at(self.tree, scope.outputs(), sending.port);
             let row = Row::at_port(SENT, port, sending.values.text);
             self.rows.put(index, row)?;
         }
@@ -92,7 +93,7 @@ impl<'a, R: Rows> RowWriter<'a, R> {
             };
             self.values.clear();
             push_values(&mut self.values, group)?;
-            let port = name_in(self.tree, scope.inputs(), first.to.port as usize);
+            let port = name_at(self.tree, scope.inputs(), first.to.port as usize);
             let row = Row::at_port(ARRIVED, port, self.values.as_str());
             self.rows.put(index, row)?;
         }
@@ -107,7 +108,7 @@ impl<'a, R: Rows> RowWriter<'a, R> {
     ) -> Result<(), TableError> {
         match happening {
             Happening::Transition { kind, phase, state } => {
-                let phase = name_in(self.tree, scope.phases(), *phase as usize);
+                let phase = name_at(self.tree, scope.phases(), *phase as usize);
                 let names = scope.variables();
                 let state = State {
                     tree: self.tree,
@@ -147,14 +148,5 @@ impl<'a, R: Rows> RowWriter<'a, R> {
     /// `Write`: a write failed.
     pub(crate) fn finish(&mut self) -> Result<(), TableError> {
         self.rows.finish()
-    }
-}
-
-// The name at an index of a list of names, which are given by their numbers. An index that is too
-// great has an empty name.
-fn name_in<'a>(tree: &'a Tree<'a>, numbers: &[u32], index: usize) -> &'a str {
-    match numbers.get(index) {
-        Some(number) => tree.name(*number),
-        None => "",
     }
 }

@@ -11,7 +11,7 @@ use dv_bag::Inputs;
 use dv_flat::LinkLists;
 use dv_inputs::{InputsError, read_inputs};
 use dv_time::GREATEST_LIMIT;
-use dv_trace::{End, Reach, TraceReader, check_trace, read_part};
+use dv_trace::{Chosen, End, Excerpt, Reach, Span, TraceReader, check_trace, read_part};
 use dv_tree::Tree;
 use std::alloc::Global;
 use std::io::Write;
@@ -30,6 +30,8 @@ pub enum TableForm {
 pub struct TableOptions<'a> {
     /// Whether the trace has to have an end.
     pub end: End,
+    /// The ticks and the components of which rows are written.
+    pub excerpt: Excerpt<'a>,
     /// The form of the table.
     pub form: TableForm,
     /// The text of the inputs of the run, if it is given. Without it, no row says what arrived from
@@ -40,7 +42,9 @@ pub struct TableOptions<'a> {
 /// Writes a trace of the model of a tree as a table, and returns how far the trace reaches. Each
 /// line of a component has rows for what it sent, for what arrived there at that time, and for the
 /// transition with the state after it, or the fault. The lines of what left the model have a row
-/// for each port. `links` are the links of the same tree. The time is proportional to the trace and
+/// for each port. Only rows of the ticks of `options.excerpt` and of the components that are chosen
+/// are written; what left the model has rows if the root is chosen. `links` are the links of the
+/// same tree. The time is proportional to the trace and
 /// to what arrives; besides the trace, the memory holds what happens at one time.
 ///
 /// # Errors
@@ -53,6 +57,7 @@ pub fn write_table<W: Write>(
     alloc: Global,
     tree: &Tree<'_>,
     links: &LinkLists,
+    chosen: Chosen,
     trace: &[u8],
     options: &TableOptions<'_>,
     writer: &mut W,
@@ -63,6 +68,8 @@ pub fn write_table<W: Write>(
         tree: &*tree,
         trace,
         end: options.end,
+        span: options.excerpt.span(),
+        chosen,
         routes: Routes::new(links, inputs.as_slice()),
     };
     match options.form {
@@ -71,9 +78,17 @@ pub fn write_table<W: Write>(
     }
 }
 
-// The inputs of a run. The microstep limit of the run is not known here, so the greatest one is
-// used.
-fn inputs_of(alloc: Global, tree: &Tree<'_>, text: Option<&[u8]>) -> Result<Inputs, InputsError> {
+/// The inputs of a run, or none without their text. The microstep limit of the run is not known
+/// here, so the greatest one is used.
+///
+/// # Errors
+///
+/// `Refused`: the text is refused. `Memory`: an allocation was refused.
+pub fn inputs_of(
+    alloc: Global,
+    tree: &Tree<'_>,
+    text: Option<&[u8]>,
+) -> Result<Inputs, InputsError> {
     let Some(text) = text else {
         return Ok(Inputs::new(alloc));
     };
@@ -87,6 +102,8 @@ struct Source<'a> {
     tree: &'a Tree<'a>,
     trace: &'a [u8],
     end: End,
+    span: Span,
+    chosen: Chosen,
     routes: Routes<'a>,
 }
 
@@ -98,7 +115,13 @@ fn write_rows<R: Rows + Drop>(
 ) -> Result<Reach, TableError> {
     let mut reader = TraceReader::new(alloc, source.tree)?;
     let row_writer = RowWriter::new(alloc, source.tree, rows);
-    let mut instants = Instants::new(alloc, source.routes, row_writer);
+    let Source {
+        routes,
+        span,
+        chosen,
+        ..
+    } = source;
+    let mut instants = Instants::new(alloc, routes, span, chosen, row_writer);
     write_lines(source, &mut reader, &mut instants)
 }
 

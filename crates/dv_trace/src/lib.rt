@@ -12,15 +12,21 @@
 //! up in a table. The values of a line stay in its text.
 //!
 //! In memory are the names of the model, a number for each component, one piece of the trace, and
-//! the line that has not ended yet. `dv_vcd`, `dv_stats`, `dv_table` and `dv_fault` read traces
-//! with this crate. It is proved that numbers are read as they are spelled, within their ranges;
-//! nothing else is claimed.
+//! the line that has not ended yet.
+//!
+//! An `Excerpt` says which part of a trace is asked for: the ticks of a `Span`, and the components
+//! that are `Chosen`. `model` has what views ask a model for: names, and values at the start.
+//!
+//! `dv_vcd`, `dv_plot`, `dv_stats`, `dv_table` and `dv_fault` read traces with this crate. It is
+//! proved that numbers are read as they are spelled, within their ranges; nothing else is claimed.
 #![tactic(auto)]
 
 /// Cuts pieces of a trace into lines.
 pub mod cutter;
 /// What a line says.
 pub mod line;
+/// What a model says of its components.
+pub mod model;
 /// The names of a model, by their texts.
 mod names;
 /// Numbers and times.
@@ -37,6 +43,8 @@ mod recent;
 pub mod reader;
 /// Why a trace is refused.
 pub mod refusal;
+/// The part of a trace that is asked for.
+pub mod span;
 /// Values of variables and ports.
 mod values;
 
@@ -49,3 +57,4 @@ pub use piece_reader::PieceReader;
 pub use reach::{End, Reach, read_part};
 pub use reader::{TraceReader, check_trace};
 pub use refusal::{TraceError, TraceReason, TraceRefusal};
+pub use span::{Chosen, Excerpt, Side, Span};

@@ -25,6 +25,18 @@ pub enum Datum<'a> {
     Held(Values<'a>),
 }
 
+impl Datum<'_> {
+    /// The value as a number. A flag counts as 1 or 0, a bag or a queue as the number of its
+    /// values.
+    pub fn number(self) -> i64 {
+        match self {
+            Datum::Number(number) => number,
+            Datum::Flag(flag) => i64::from(flag),
+            Datum::Held(values) => i64::try_from(values.count).unwrap_or(i64::MAX),
+        }
+    }
+}
+
 /// What was sent by a port, or left the model there.
 #[derive(Clone, Copy, PartialEq, Eq)]
 pub struct Sending<'a> {

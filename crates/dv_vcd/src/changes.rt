@@ -2,17 +2,21 @@
 
 use crate::arrivals::{RootInputs, values_of};
 use crate::forms::Form;
+use crate::latest::Latest;
 use crate::marks::Marks;
+use crate::options::WaveOptions;
 use crate::ports::Ports;
 use crate::shown::{AllShown, Codes, Shown, ShownDatum, Status, all_shown, shown_by};
 use crate::survey::tick_behind;
 use crate::values::{push_held, push_nothing, push_number, push_status, push_string};
 use dv_bag::Input;
 use dv_text::{WriteError, hand_over, hand_over_if_long};
-use dv_trace::{Datum, EntryHead, Event, LineHead, LineLists, Reach, Sending};
+use dv_trace::model::phase_name;
+use dv_trace::{Chosen, Datum, EntryHead, Event, LineHead, LineLists, Reach, Sending, Side, Span};
 use dv_tree::Tree;
 use std::alloc::{AllocError, Global};
 use std::io::Write;
+use std::mem::swap;
 
 /// What is shown now, and the text of the changes that is not written yet.
 #[derive(Drop)]
@@ -23,10 +27,22 @@ pub(crate) struct Changes<'a> {
     pub(crate) shown: AllShown<'a>,
     pub(crate) ports: Ports,
     pub(crate) root: &'a RootInputs,
+    /// The components that are shown, and whether the root is.
+    pub(crate) chosen: Chosen,
+    // The ticks that are shown.
+    span: Span,
+    // Whether the values at the first of these ticks are in the text. Before that no text is kept.
+    is_begun: bool,
+    // The end of the declarations, until the values at the first of these ticks follow.
+    aside: String,
+    // What ports show at the first of these ticks, if they hold their values.
+    latest: Latest,
     // How many inputs have arrived.
     arrived: usize,
     // The tick of the last change in the text.
     tick: u64,
+    // The tick of the last line.
+    last: u64,
     // What passed in this tick by ports that are strings.
     marks: Marks,
 }
@@ -36,37 +52,68 @@ impl<'a> Changes<'a> {
     pub(crate) fn new(
         alloc: Global,
         tree: &'a Tree<'a>,
+        chosen: Chosen,
         root: &'a RootInputs,
-        holds_ports: bool,
+        options: &WaveOptions<'_>,
     ) -> Result<Box<Self>, AllocError> {
         let shown = all_shown(alloc, tree)?;
         let changes = Changes {
             text: String::new(alloc),
             alloc,
             tree,
-            ports: Ports::new(alloc, holds_ports, shown.behind)?,
+            ports: Ports::new(alloc, options.holds_ports, shown.behind)?,
             shown,
             root,
+            chosen,
+            span: options.excerpt.span(),
+            is_begun: false,
+            aside: String::new(alloc),
+            latest: Latest::new(alloc),
             arrived: 0,
             tick: 0,
+            last: 0,
             marks: Marks::new(alloc),
         };
         Ok(Box::new(alloc, changes)?)
     }
 
-    /// Adds the values of all variables at the start, and writes the text as it gets long.
-    pub(crate) fn start<W: Write>(&mut self, writer: &mut W) -> Result<(), WriteError> {
-        let text = &mut self.text;
-        text.push_str("#0\n$dumpvars\n")?;
-        push_ports(text, &self.ports, self.shown.inputs, self.root.ports.len())?;
-        let count = self.tree.output_count();
-        push_ports(text, &self.ports, self.shown.outputs, count)?;
-        for shown in &self.shown.components {
-            push_start(text, &self.ports, shown)?;
-            hand_over_if_long(text, writer)?;
+    /// Puts the text aside, and takes up the one that was put aside before.
+    pub(crate) fn set_aside(&mut self) {
+        swap(&mut self.text, &mut self.aside);
+    }
+
+    // Takes the inputs that arrive before the tick `behind`, and adds the values of all that is
+    // shown at the first of the ticks that are. Writes the text as it gets long.
+    fn begin<W: Write>(&mut self, behind: u64, writer: &mut W) -> Result<(), WriteError> {
+        if let Some(last) = behind.checked_sub(1) {
+            self.take_inputs(last)?;
         }
-        text.push_str("$end\n")?;
+        self.is_begun = true;
+        self.tick = self.span.from;
+        self.marks.clear();
+        self.set_aside();
+        let tick = self.tick;
+        writeln!(self.text, "#{tick}\n$dumpvars")?;
+        if self.chosen.has_root() {
+            self.push_root()?;
+        }
+        for (component, shown) in self.shown.components.iter().enumerate() {
+            if self.chosen.has(component) {
+                push_start(&mut self.text, &self.ports, &self.latest, shown)?;
+                hand_over_if_long(&mut self.text, writer)?;
+            }
+        }
+        self.text.push_str("$end\n")?;
         Ok(())
+    }
+
+    // Adds what the ports of the root show at the start.
+    fn push_root(&mut self) -> Result<(), AllocError> {
+        let text = &mut self.text;
+        let count = self.root.ports.len();
+        push_ports(text, &self.ports, &self.latest, self.shown.inputs, count)?;
+        let count = self.tree.output_count();
+        push_ports(text, &self.ports, &self.latest, self.shown.outputs, count)
     }
 
     // Moves to a tick. The inputs that arrive up to it are taken first.
@@ -75,14 +122,17 @@ impl<'a> Changes<'a> {
         self.go_to(tick)
     }
 
-    /// Moves behind the end of the trace, which reaches this far, takes the inputs that arrive
-    /// before it, and writes the rest of the text.
+    /// Moves behind the end of the trace, which reaches this far, or of the ticks that are shown,
+    /// takes the inputs that arrive before it, and writes the rest of the text.
     pub(crate) fn finish<W: Write>(
         &mut self,
         reach: Reach,
         writer: &mut W,
     ) -> Result<(), WriteError> {
-        let behind = tick_behind(reach, self.tick);
+        let behind = self.span.cut(tick_behind(reach, self.last)).before;
+        if !self.is_begun {
+            self.begin(behind.min(self.span.from), writer)?;
+        }
         self.take_inputs(behind.saturating_sub(1))?;
         self.go_to(behind)?;
         hand_over(writer, self.text.as_bytes())
@@ -113,8 +163,11 @@ impl<'a> Changes<'a> {
 
     // Shows inputs that arrive at one time at one port. `first` is the first of them.
     fn arrive(&mut self, first: Input, together: &[Input]) -> Result<(), AllocError> {
-        self.go_to(first.time.tick)?;
         self.arrived = self.arrived.saturating_add(together.len());
+        if !self.chosen.has_root() {
+            return Ok(());
+        }
+        self.go_to(first.time.tick)?;
         let code = self.shown.inputs.saturating_add(u64::from(first.port));
         let values = values_of(self.alloc, together)?;
         self.pass(code, values.as_str())
@@ -150,30 +203,53 @@ impl<'a> Changes<'a> {
         Ok(())
     }
 
-    /// Adds what a line changes, and writes the text once it is long.
+    /// Adds what a line changes, and writes the text once it is long. Of a line before the ticks
+    /// that are shown no text is kept, and a line behind them changes nothing.
     pub(crate) fn follow<W: Write>(
         &mut self,
         head: LineHead,
         lists: &LineLists<'_>,
         writer: &mut W,
     ) -> Result<(), WriteError> {
-        match head {
-            LineHead::Entry(entry) => self.entry(entry, lists)?,
-            LineHead::Outside(time) => self.outside(time.tick, &lists.sent)?,
-            LineHead::Empty | LineHead::Whole(_) | LineHead::Clock(_) | LineHead::Partial => {}
+        let Some(tick) = tick_of(head) else {
+            return Ok(());
+        };
+        self.last = tick;
+        let side = self.span.side_of(tick);
+        if side != Side::Before && !self.is_begun {
+            self.begin(self.span.from, writer)?;
         }
-        hand_over_if_long(&mut self.text, writer)
+        if side != Side::Behind {
+            self.change(head, lists)?;
+        }
+        if self.is_begun {
+            return hand_over_if_long(&mut self.text, writer);
+        }
+        self.text.clear();
+        Ok(())
+    }
+
+    // Adds what a line changes.
+    fn change(&mut self, head: LineHead, lists: &LineLists<'_>) -> Result<(), AllocError> {
+        match head {
+            LineHead::Entry(entry) => self.entry(entry, lists),
+            LineHead::Outside(time) => self.outside(time.tick, &lists.sent),
+            LineHead::Empty | LineHead::Whole(_) | LineHead::Clock(_) | LineHead::Partial => Ok(()),
+        }
     }
 
     // Adds what the line of a component changes. The line of a fault has no variables.
     fn entry(&mut self, entry: EntryHead, lists: &LineLists<'_>) -> Result<(), AllocError> {
+        if !self.chosen.has(entry.component as usize) {
+            return Ok(());
+        }
         self.advance(entry.time.tick)?;
         let Some(shown) = self.shown.components.get_mut(entry.component as usize) else {
             return Ok(());
         };
         let status = match entry.event {
             Event::Transition { kind: _, phase } => {
-                Status::Phase(phase_name(self.tree, shown, phase))
+                Status::Phase(phase_name(self.tree, shown.scope, phase))
             }
             Event::Fault(fault) => Status::Fault(fault),
         };
@@ -185,6 +261,9 @@ impl<'a> Changes<'a> {
 
     // Shows what leaves the model at a tick.
     fn outside(&mut self, tick: u64, sent: &[Sending<'_>]) -> Result<(), AllocError> {
+        if !self.chosen.has_root() {
+            return Ok(());
+        }
         self.advance(tick)?;
         self.sent(self.shown.outputs, sent)
     }
@@ -198,8 +277,22 @@ impl<'a> Changes<'a> {
         Ok(())
     }
 
-    // Shows the values that pass by a port at one time.
+    // Shows the values that pass by a port at one time. Before the ticks that are shown, the change
+    // is kept if it lasts.
     fn pass(&mut self, code: u64, values: &str) -> Result<(), AllocError> {
+        if self.is_begun {
+            return self.push_passed(code, values);
+        }
+        self.text.clear();
+        self.push_passed(code, values)?;
+        if self.ports.are_held() {
+            self.latest.keep(self.alloc, code, self.text.as_str())?;
+        }
+        Ok(())
+    }
+
+    // Adds the change of a port.
+    fn push_passed(&mut self, code: u64, values: &str) -> Result<(), AllocError> {
         let form = self.ports.form(code);
         match form {
             Form::Text => self.mark(code, values),
@@ -217,35 +310,53 @@ impl<'a> Changes<'a> {
     }
 }
 
-// Adds what `count` ports show at the start: nothing. `first` is the code of the first one.
+// The tick of the line of a component, or of what left the model.
+fn tick_of(head: LineHead) -> Option<u64> {
+    match head {
+        LineHead::Entry(entry) => Some(entry.time.tick),
+        LineHead::Outside(time) => Some(time.tick),
+        LineHead::Empty | LineHead::Whole(_) | LineHead::Clock(_) | LineHead::Partial => None,
+    }
+}
+
+// Adds what `count` ports show at the start: nothing, or their latest values. `first` is the code
+// of the first one.
 fn push_ports(
     text: &mut String,
     ports: &Ports,
+    latest: &Latest,
     first: u64,
     count: usize,
 ) -> Result<(), AllocError> {
     for port in 0..count {
         let code = first.saturating_add(port as u64);
-        push_nothing(text, ports.form(code), code)?;
+        match latest.line(code) {
+            Some(line) => text.push_str(line)?,
+            None => push_nothing(text, ports.form(code), code)?,
+        }
     }
     Ok(())
 }
 
 // Adds what a component shows at the start.
-fn push_start(text: &mut String, ports: &Ports, shown: &Shown<'_>) -> Result<(), AllocError> {
+fn push_start(
+    text: &mut String,
+    ports: &Ports,
+    latest: &Latest,
+    shown: &Shown<'_>,
+) -> Result<(), AllocError> {
     let codes = shown.codes;
     push_status(text, shown.status, codes.first)?;
     for (index, datum) in shown.state.iter().enumerate() {
         push_datum(text, datum, codes, index, true)?;
     }
-    push_ports(text, ports, codes.port(0), shown.scope.output_count())
-}
-
-fn phase_name<'t>(tree: &'t Tree<'t>, shown: &Shown<'_>, phase: u32) -> &'t str {
-    match shown.scope.phase_name(phase) {
-        Some(name) => tree.name(name),
-        None => "",
-    }
+    push_ports(
+        text,
+        ports,
+        latest,
+        codes.port(0),
+        shown.scope.output_count(),
+    )
 }
 
 // Adds the phase or the fault of a component, if it has changed.

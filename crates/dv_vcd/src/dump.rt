@@ -7,7 +7,7 @@ use crate::header::write_header;
 use crate::options::WaveOptions;
 use crate::reading::read_lines;
 use crate::survey::survey;
-use dv_trace::{End, LineLists, PieceReader, Reach, TakeLine, TraceReader};
+use dv_trace::{Chosen, End, LineLists, PieceReader, Reach, TakeLine, TraceReader};
 use dv_tree::Tree;
 use std::alloc::Global;
 use std::io::{Read, Seek, Write};
@@ -18,6 +18,10 @@ use std::io::{Read, Seek, Write};
 /// and the variables from 0 to 1 as wires, its bags and queues as strings, with their sizes as
 /// integers, and its output ports. The scope of the root has the output ports of the root and, if
 /// inputs are given, its input ports.
+///
+/// Only the ticks of `options.excerpt` are shown, and only the components that are chosen, with the
+/// ports of the root if it is chosen. The dump begins with the values that hold at the first of
+/// these ticks before anything happens there, and ends behind the last one.
 ///
 /// A port is a string: `-`, and in the tick in which values pass, these values, with a semicolon
 /// between those of different microsteps. With `holds_ports`, a port shows its last values until
@@ -39,23 +43,25 @@ use std::io::{Read, Seek, Write};
 pub fn write_vcd<T: Read + Seek, W: Write>(
     alloc: Global,
     tree: &Tree<'_>,
+    chosen: Chosen,
     trace: &mut T,
     options: &WaveOptions<'_>,
     writer: &mut W,
 ) -> Result<Reach, VcdError> {
     let root = RootInputs::of(alloc, tree, options.inputs)?;
-    write_with_inputs(alloc, &*tree, &root, trace, options, writer)
+    write_with_inputs(alloc, &*tree, chosen, &root, trace, options, writer)
 }
 
 fn write_with_inputs<'a, T: Read + Seek, W: Write>(
     alloc: Global,
     tree: &'a Tree<'a>,
+    chosen: Chosen,
     root: &'a RootInputs,
     trace: &mut T,
     options: &WaveOptions<'_>,
     writer: &mut W,
 ) -> Result<Reach, VcdError> {
-    let mut changes = Changes::new(alloc, tree, root, options.holds_ports)?;
+    let mut changes = Changes::new(alloc, tree, chosen, root, options)?;
     let mut pieces = PieceReader::begin(alloc, trace)?;
     write_dump(&mut changes, &mut pieces, options, writer)
 }
@@ -70,7 +76,7 @@ fn write_dump<T: Read + Seek, W: Write>(
     survey(changes, pieces, options.end)?;
     pieces.restart()?;
     write_header(changes, options.timescale, writer)?;
-    changes.start(writer)?;
+    changes.set_aside();
     write_changes(changes, pieces, options.end, writer)
 }
 

@@ -8,6 +8,7 @@ use crate::timescale::Timescale;
 use crate::values::{push_all, push_code};
 use dv_check::GREATEST_DEPTH;
 use dv_text::{WriteError, hand_over_if_long};
+use dv_trace::Chosen;
 use dv_tree::{Level, Tree, level_at};
 use std::alloc::AllocError;
 use std::io::Write;
@@ -20,6 +21,8 @@ struct Declared<'d> {
     ports: &'d Ports,
     /// The names of the root's input ports that are shown.
     inputs: &'d [String],
+    /// The components that are declared, and whether the root's ports are.
+    chosen: Chosen,
 }
 
 /// Adds the declarations to the text, and writes it as it gets long.
@@ -34,11 +37,14 @@ pub(crate) fn write_header<W: Write>(
         shown: &changes.shown,
         ports: &changes.ports,
         inputs: &changes.root.ports,
+        chosen: changes.chosen,
     };
     let text = &mut changes.text;
     writeln!(text, "$version pdevs vcd $end\n$timescale {timescale} $end")?;
     push_scope(text, tree.name(tree.file().root.number))?;
-    push_root(text, &declared)?;
+    if declared.chosen.has_root() {
+        push_root(text, &declared)?;
+    }
     if let Some(level) = tree.root_level() {
         write_parts(&declared, level, GREATEST_DEPTH, 0, text, writer)?;
     }
@@ -59,8 +65,8 @@ fn push_root(text: &mut String, declared: &Declared<'_>) -> Result<(), AllocErro
     Ok(())
 }
 
-// Declares a scope for each part of a coupled model, whose components have the numbers from `first`
-// on. Returns the number behind the last one. No tree is deeper than `depth`.
+// Declares a scope for each part of a coupled model in which a component is shown. The components
+// of the model have the numbers from `first` on. No tree is deeper than `depth`.
 fn write_parts<W: Write>(
     declared: &Declared<'_>,
     level: &Level,
@@ -68,26 +74,43 @@ fn write_parts<W: Write>(
     first: usize,
     text: &mut String,
     writer: &mut W,
-) -> Result<usize, WriteError> {
+) -> Result<(), WriteError> {
     if depth == 0 {
-        return Ok(first);
+        return Ok(());
     }
     let mut next = first;
     for part in level.parts() {
-        push_scope(text, declared.tree.name(part.name.number))?;
-        match level_at(declared.tree.levels(), part.model) {
-            Some(inside) => {
-                next = write_parts(declared, inside, depth - 1, next, text, writer)?;
+        let inside = level_at(declared.tree.levels(), part.model);
+        let behind = next.saturating_add(count_of(declared.tree, inside, depth - 1));
+        if declared.chosen.has_some(next, behind) {
+            push_scope(text, declared.tree.name(part.name.number))?;
+            match inside {
+                Some(inside) => write_parts(declared, inside, depth - 1, next, text, writer)?,
+                None => push_component(text, declared, next)?,
             }
-            None => {
-                push_component(text, declared, next)?;
-                next = next.saturating_add(1);
-            }
+            text.push_str("$upscope $end\n")?;
+            hand_over_if_long(text, writer)?;
         }
-        text.push_str("$upscope $end\n")?;
-        hand_over_if_long(text, writer)?;
+        next = behind;
     }
-    Ok(next)
+    Ok(())
+}
+
+// The number of components in a part, which has a level if its model is coupled. No tree is deeper
+// than `depth`.
+fn count_of(tree: &Tree<'_>, level: Option<&Level>, depth: usize) -> usize {
+    let Some(level) = level else {
+        return 1;
+    };
+    if depth == 0 {
+        return 0;
+    }
+    let mut count: usize = 0;
+    for part in level.parts() {
+        let inside = level_at(tree.levels(), part.model);
+        count = count.saturating_add(count_of(tree, inside, depth - 1));
+    }
+    count
 }
 
 // Declares the variables of a component.

@@ -8,6 +8,10 @@
 //! first one, because a file may grow meanwhile, and tests each line again, because it may be
 //! changed.
 //!
+//! If only a part of the trace is asked for, the lines before it are followed in silence, so that
+//! the values at the start are those that hold where it begins. The form of a port is that of the
+//! whole trace, whatever part is shown.
+//!
 //! Memory does not grow with the trace. It holds what each component shows now, what passed by
 //! ports in this tick, the inputs, one piece of the trace, and output of up to 64 KiB. The texts
 //! that are shown reuse their memory.
@@ -29,6 +33,8 @@ pub mod error;
 mod forms;
 /// The declarations: a scope for each model, a variable for each value that is shown.
 mod header;
+/// What ports show at the beginning of the part that is asked for.
+mod latest;
 /// What passed in this tick by ports that are strings.
 mod marks;
 /// Options of a dump.

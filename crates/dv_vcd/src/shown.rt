@@ -4,6 +4,7 @@ use crate::forms::Form;
 use dv_bag::Fault;
 use dv_eval::{Domain, Scope};
 use dv_trace::Datum;
+use dv_trace::model::{phase_name, start_number, start_phase};
 use dv_tree::Tree;
 use std::alloc::{AllocError, Global};
 
@@ -29,11 +30,7 @@ impl ShownDatum {
     fn at_start(alloc: Global, domain: Domain) -> Self {
         ShownDatum {
             form: Form::of(domain),
-            number: match domain {
-                Domain::Number(range) => range.start,
-                Domain::Flag { start } => i64::from(start),
-                Domain::Held { .. } => 0,
-            },
+            number: start_number(domain),
             values: String::new(alloc),
         }
     }
@@ -42,9 +39,8 @@ impl ShownDatum {
 /// The number and the values that are shown of a datum.
 pub(crate) fn shown_by(datum: Datum<'_>) -> (i64, &str) {
     match datum {
-        Datum::Number(number) => (number, ""),
-        Datum::Flag(flag) => (i64::from(flag), ""),
-        Datum::Held(values) => (values.count.cast_signed(), values.text),
+        Datum::Number(_) | Datum::Flag(_) => (datum.number(), ""),
+        Datum::Held(values) => (datum.number(), values.text),
     }
 }
 
@@ -111,7 +107,7 @@ pub(crate) fn all_shown<'a>(alloc: Global, tree: &'a Tree<'a>) -> Result<AllShow
         components.push(Shown {
             scope,
             codes,
-            status: Status::Phase(start_phase(tree, component)),
+            status: Status::Phase(phase_name(tree, scope, start_phase(tree, component))),
             state: start_state(alloc, scope.domains())?,
         })?;
         outputs = codes.port(scope.output_count());
@@ -123,16 +119,6 @@ pub(crate) fn all_shown<'a>(alloc: Global, tree: &'a Tree<'a>) -> Result<AllShow
         inputs,
         behind: inputs.saturating_add(tree.input_count() as u64),
     })
-}
-
-fn start_phase<'t>(tree: &'t Tree<'t>, component: usize) -> &'t str {
-    if component >= tree.component_count() {
-        return "";
-    }
-    match tree.atomic(component).starts.first() {
-        Some(start) => tree.name(start.phase.number),
-        None => "",
-    }
 }
 
 fn start_state(alloc: Global, domains: &[Domain]) -> Result<Vec<ShownDatum>, AllocError> {

@@ -25,8 +25,8 @@ pub enum ViewError {
     /// The trace is refused; nothing was written. If it was changed before a second reading, a
     /// beginning of the view was written.
     Trace(TraceRefusal),
-    /// No component has the path whose numbers are asked for, or nothing has the name whose curve
-    /// is; nothing was written. The text says which one, and similar ones.
+    /// No component has the path that is asked for, or nothing has the name whose curve is, or no
+    /// port one of a flow; nothing was written. The text says which one, and similar ones.
     NoPath(String),
     /// No atomic model has the name whose phases are asked for; nothing was written. The text says
     /// which name, and similar ones.

@@ -12,6 +12,8 @@
 //! without a fault of the program.
 #![tactic(auto)]
 
+/// What names stand for.
+mod chosen;
 /// Why a view is not complete.
 pub mod error;
 /// Where the faults of a run came from.
@@ -31,8 +33,9 @@ pub mod warnings;
 
 pub use dv_fault::FileText;
 pub use dv_plot::PlotOptions;
-pub use dv_stats::{Form, StatsOptions, StatsWriter};
+pub use dv_stats::{FlowOptions, Form, StatsOptions, StatsWriter};
 pub use dv_table::{TableForm, TableOptions};
+pub use dv_trace::Excerpt;
 pub use dv_tree::Tree;
 pub use dv_vcd::{NoTimescale, TimeUnit, Timescale, UnitCount, WaveOptions};
 pub use error::ViewError;

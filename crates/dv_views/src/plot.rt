@@ -1,7 +1,7 @@
 //! Curves of a trace.
 
+use crate::chosen::no_name;
 use crate::error::ViewError;
-use dv_hints::unknown_name;
 use dv_job::load::{accept, load};
 use dv_plot::subject::all_names;
 use dv_plot::{PlotOptions, PlotWriter, Subject};
@@ -65,7 +65,10 @@ fn subjects_of(
     for name in names {
         match Subject::named(alloc, tree, name.as_str())? {
             Some(subject) => keep(&mut subjects, subject)?,
-            None => return Err(no_name(alloc, tree, name.as_str())?),
+            None => {
+                let names = all_names(alloc, tree)?;
+                return Err(no_name(alloc, "nothing of this name", name.as_str(), &names)?);
+            }
         }
     }
     Ok(subjects)
@@ -74,15 +77,4 @@ fn subjects_of(
 fn keep(subjects: &mut Vec<Subject>, subject: Subject) -> Result<(), AllocError> {
     subjects.push(subject)?;
     Ok(())
-}
-
-// The error for a name that nothing has, with similar names.
-fn no_name(alloc: Global, tree: &Tree<'_>, name: &str) -> Result<ViewError, AllocError> {
-    let all = all_names(alloc, tree)?;
-    let mut names = Vec::with_capacity(alloc, all.len())?;
-    for name in &all {
-        names.push(name.as_str())?;
-    }
-    let words = unknown_name(alloc, name, &names)?;
-    Ok(ViewError::NoPath(format!(in alloc; "nothing of this name: {words}")?))
 }

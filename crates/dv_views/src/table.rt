@@ -4,6 +4,7 @@ ghost use Rattle.std.specs.Prelude.{◌≡◌, None};
 ghost use Rattle.dv_flat.specs.Limit.{link_refusal};
 ghost use Rattle.dv_syntax.specs.Trees.{file_of};
 
+use crate::chosen::chosen_of;
 use crate::error::ViewError;
 use dv_flat::flatten;
 use dv_job::load::{accept, load};
@@ -18,9 +19,10 @@ use std::io::Write;
 ///
 /// # Errors
 ///
-/// - `Job` with `Text`: the model is refused. `Job` with `Inputs`: the model is accepted, and the
-///   inputs are refused. `Trace`: both are accepted, and the trace is refused. Nothing was written
-///   in these cases.
+/// - `Job` with `Text`: the model is refused. `NoPath`: the model is accepted, and no component has
+///   the path that is asked for. `Job` with `Inputs`: there is such a path, and the inputs are
+///   refused. `Trace`: all of these are accepted, and the trace is refused. Nothing was written in
+///   these cases.
 /// - `Job` with `Write`: a write failed. `Job` with `Memory`: an allocation was refused. The writer
 ///   holds a beginning of the table, for `Memory` perhaps nothing.
 pub fn table_bytes<W: Write>(
@@ -45,5 +47,6 @@ fn table_tree<W: Write>(
     requires few { link_refusal (file_of tree.now.file) ≡ None }
 {
     let links = flatten(alloc, tree)?;
-    Ok(write_table(alloc, tree, &links, trace, options, writer)?)
+    let chosen = chosen_of(alloc, tree, options.excerpt.only)?;
+    Ok(write_table(alloc, tree, &links, chosen, trace, options, writer)?)
 }

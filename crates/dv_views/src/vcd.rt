@@ -1,5 +1,6 @@
 //! The value change dump of a trace.
 
+use crate::chosen::chosen_of;
 use crate::error::ViewError;
 use dv_job::load::{accept, load};
 use dv_trace::Reach;
@@ -13,10 +14,11 @@ use std::io::{Read, Seek, Write};
 ///
 /// # Errors
 ///
-/// - `Job` with `Text`: the model is refused. `Job` with `Inputs`: the model is accepted, and the
-///   inputs are refused. Nothing was written.
-/// - `Trace`: both are accepted, and the trace is refused. `Unread`: both are accepted, and the
-///   trace can't be read. Nothing was written, unless it was the second reading that failed, or
+/// - `Job` with `Text`: the model is refused. `NoPath`: the model is accepted, and no component has
+///   the path that is asked for. `Job` with `Inputs`: there is such a path, and the inputs are
+///   refused. Nothing was written.
+/// - `Trace`: all of these are accepted, and the trace is refused. `Unread`: they are accepted, and
+///   the trace can't be read. Nothing was written, unless it was the second reading that failed, or
 ///   that found a changed trace.
 /// - `Job` with `Write`: a write failed. `Job` with `Memory`: an allocation was refused. The writer
 ///   holds a beginning of the dump, for `Memory` perhaps nothing.
@@ -29,5 +31,6 @@ pub fn vcd_bytes<T: Read + Seek, W: Write>(
 ) -> Result<Reach, ViewError> {
     let checked = load(alloc, model)?;
     let tree = accept(alloc, model, &checked)?;
-    Ok(write_vcd(alloc, &tree, trace, options, writer)?)
+    let chosen = chosen_of(alloc, &tree, options.excerpt.only)?;
+    Ok(write_vcd(alloc, &tree, chosen, trace, options, writer)?)
 }

@@ -11,7 +11,9 @@ use dv_job::load::{accept, load};
 use dv_job::{JobEnded, JobError, status};
 use dv_notice::FaultCount;
 use dv_trace::End;
-use dv_views::{Form, StatsOptions, StatsWriter, Tree, ViewError, numbers_of};
+use dv_views::{
+    Excerpt, FlowOptions, Form, StatsOptions, StatsWriter, Tree, ViewError, numbers_of,
+};
 use std::sync::Wait;
 use std::thread::Threads;
 use std::time::Clock;
@@ -22,26 +24,51 @@ struct Counted<'c> {
     tree: Tree<'c>,
     /// The path of the components that count, if not all do.
     only: Option<String>,
+    /// The names of the ports between which times are taken, if they are.
+    ports: Option<String>,
 }
 
-/// The options of numbers, from those of the command line. `only` is a copy of `choice.only` that
-/// lives long enough.
+/// The part of a trace that is asked for, from that of the command line. `only` is a copy of its
+/// path that lives long enough.
+pub fn excerpt_of<'p>(excerpt: &dv_command::Excerpt, only: Option<&'p String>) -> Excerpt<'p> {
+    Excerpt {
+        from: excerpt.from,
+        to: excerpt.to,
+        only: match only {
+            Some(path) => Some(path.as_str()),
+            None => None,
+        },
+    }
+}
+
+/// The options of numbers, from those of the command line. `only` and `ports` are copies of texts
+/// of `choice` that live long enough.
 pub fn stats_options<'p>(
     choice: &StatsChoice,
     only: Option<&'p String>,
+    ports: Option<&'p String>,
     end: End,
 ) -> StatsOptions<'p> {
-    let only = match only {
-        Some(path) => Some(path.as_str()),
-        None => None,
-    };
     StatsOptions {
         end,
         form: if choice.csv { Form::Csv } else { Form::Columns },
-        from: choice.from,
-        to: choice.to,
-        only,
+        excerpt: excerpt_of(&choice.excerpt, only),
+        flow: match (ports, &choice.flow) {
+            (Some(ports), Some(flow)) => Some(FlowOptions {
+                ports: ports.as_str(),
+                by_value: flow.by_value,
+            }),
+            (Some(_), None) | (None, _) => None,
+        },
         quantiles: choice.quantiles,
+    }
+}
+
+/// The names of the ports between which times are taken.
+pub fn ports_of(choice: &StatsChoice) -> Option<&String> {
+    match &choice.flow {
+        Some(flow) => Some(&flow.ports),
+        None => None,
     }
 }
 
@@ -52,8 +79,9 @@ pub fn stats_options<'p>(
 /// # Errors
 ///
 /// `Job` with `Text`: the model is refused. `NoPath`: the model is accepted, and no component has
-/// the path that is asked for. `Job` with `Memory`: an allocation was refused. Nothing was run in
-/// these cases.
+/// the path that is asked for, or no ports have the names of the flow. `Job` with `Inputs`: the
+/// flow begins at an input of the root, and the inputs are refused. `Job` with `Memory`: an
+/// allocation was refused. Nothing was run in these cases.
 pub fn print_numbers<R: AllocGlobal + Clock + Print + Eprint + Threads + Wait + Sync>(
     rt: &R,
     job: &Job<'_>,
@@ -65,7 +93,11 @@ pub fn print_numbers<R: AllocGlobal + Clock + Print + Eprint + Threads + Wait + 
     let checked = load(alloc, job.texts.model.bytes)?;
     let counted = Counted {
         tree: accept(alloc, job.texts.model.bytes, &checked)?,
-        only: choice.only.clone()?,
+        only: choice.excerpt.only.clone()?,
+        ports: match ports_of(choice) {
+            Some(ports) => Some(String::from_str(alloc, ports.as_str())?),
+            None => None,
+        },
     };
     count_run(rt, job, &counted, choice, faults, progress)
 }
@@ -79,9 +111,11 @@ fn count_run<R: AllocGlobal + Clock + Print + Eprint + Threads + Wait + Sync>(
     faults: &mut FaultCount,
     progress: Option<Progress<'_, R>>,
 ) -> Result<u8, ViewError> {
-    let options = stats_options(choice, counted.only.as_ref(), End::Required);
+    let (only, ports) = (counted.only.as_ref(), counted.ports.as_ref());
+    let options = stats_options(choice, only, ports, End::Required);
+    let inputs = job.texts.inputs.bytes;
     let mut lines = Lines {
-        writer: numbers_of(rt.alloc(), &counted.tree, &options)?,
+        writer: numbers_of(rt.alloc(), &counted.tree, Some(inputs), &options)?,
         faults: FaultCount::new(),
         progress,
     };

@@ -20,7 +20,7 @@ pub fn shares_standard_input(request: &Request) -> bool {
         }
         Request::Plot(plot) => is_shared_by_trace(&plot.files, None),
         Request::Vcd(waves) => is_shared_by_trace(&waves.files, waves.inputs.as_ref()),
-        Request::Stats(stats) => is_shared_by_trace(&stats.files, None),
+        Request::Stats(stats) => is_shared_by_trace(&stats.files, stats.inputs.as_ref()),
         Request::Table(table) => is_shared_by_trace(&table.files, table.inputs.as_ref()),
         Request::Check(_) | Request::Code(_) | Request::Explain(_) | Request::Version(_) => false,
     }

@@ -1,7 +1,7 @@
 //! The subcommands `vcd`, `plot`, `stats` and `table`.
 
-use crate::files::{OpenedFile, open, open_seekable, read, read_inputs, read_trace};
-use crate::numbers::stats_options;
+use crate::files::{OpenedFile, TraceBytes, open, open_seekable, read, read_inputs, read_trace};
+use crate::numbers::{excerpt_of, ports_of, stats_options};
 use crate::printed::{Printed, print_through};
 use crate::told::{Texts, tell_line, tell_unread};
 use crate::{REFUSED, USAGE};
@@ -101,6 +101,7 @@ pub fn dump_trace<R: AllocGlobal + Files + Input + Print + Eprint>(
     };
     let options = WaveOptions {
         end: end_of(files),
+        excerpt: excerpt_of(&waves.excerpt, waves.excerpt.only.as_ref()),
         inputs: inputs.as_ref().map(|inputs| inputs.bytes.as_slice()),
         holds_ports: waves.holds_ports,
         timescale,
@@ -150,9 +151,9 @@ pub fn plot_trace<R: AllocGlobal + Files + Input + Print + Eprint>(
     Ok(status_of_read_view(rt, name, model.texts(), &printed, files.explained))
 }
 
-/// Prints the numbers of a trace, and returns the status. Files are read in the order model, trace.
-/// The first piece of the trace is read before the model is checked, and the others as they are
-/// counted.
+/// Prints the numbers of a trace, and returns the status. Files are read in the order model, trace,
+/// inputs. But of the trace only the first piece is read before the model is checked, and the
+/// others as they are counted.
 ///
 /// # Errors
 ///
@@ -169,12 +170,19 @@ pub fn count_trace<R: AllocGlobal + Files + Input + Print + Eprint>(
     else {
         return Ok(REFUSED);
     };
-    let options = stats_options(&stats.choice, stats.choice.only.as_ref(), end_of(files));
+    let Some(inputs) = read_inputs(rt, stats.inputs.as_ref(), files.explained)? else {
+        return Ok(REFUSED);
+    };
+    let choice = &stats.choice;
+    let only = choice.excerpt.only.as_ref();
+    let options = stats_options(choice, only, ports_of(choice), end_of(files));
+    let bytes = inputs.as_ref().map(|inputs| inputs.bytes.as_slice());
     let alloc = rt.alloc();
     let printed = print_through(rt, |writer| {
-        stats_bytes(alloc, &model.bytes, &mut reader, &options, writer)
+        stats_bytes(alloc, &model.bytes, &mut reader, bytes, &options, writer)
     });
-    Ok(status_of_read_view(rt, name, model.texts(), &printed, files.explained))
+    let texts = model.texts_with(inputs.as_ref());
+    Ok(status_of_read_view(rt, name, texts, &printed, files.explained))
 }
 
 /// Prints the table of a trace, and returns the status. Files are read in the order model, trace,
@@ -187,16 +195,22 @@ pub fn tabulate_trace<R: AllocGlobal + Files + Input + Print + Eprint>(
     rt: &R,
     table: &Table,
 ) -> io::Result<u8> {
-    let Some(bytes) = read_trace(rt, &table.files, table.inputs.as_ref())? else {
-        return Ok(REFUSED);
-    };
+    match read_trace(rt, &table.files, table.inputs.as_ref())? {
+        Some(bytes) => Ok(print_table(rt, table, &bytes)),
+        None => Ok(REFUSED),
+    }
+}
+
+/// Prints the table of a trace that was read, and returns the status.
+fn print_table<R: AllocGlobal + Print + Eprint>(
+    rt: &R,
+    table: &Table,
+    bytes: &TraceBytes<'_>,
+) -> u8 {
     let options = TableOptions {
         end: end_of(&table.files),
-        form: if table.json {
-            TableForm::JsonLines
-        } else {
-            TableForm::Csv
-        },
+        excerpt: excerpt_of(&table.excerpt, table.excerpt.only.as_ref()),
+        form: form_of(table),
         inputs: bytes.input_bytes(),
     };
     let alloc = rt.alloc();
@@ -209,5 +223,14 @@ pub fn tabulate_trace<R: AllocGlobal + Files + Input + Print + Eprint>(
             writer,
         )
     });
-    Ok(status_of_view(rt, bytes.texts(), &printed, table.files.explained))
+    status_of_view(rt, bytes.texts(), &printed, table.files.explained)
+}
+
+/// The form of a table that is asked for.
+fn form_of(table: &Table) -> TableForm {
+    if table.json {
+        TableForm::JsonLines
+    } else {
+        TableForm::Csv
+    }
 }
