@@ -127,6 +127,9 @@ impl<'t> TraceReader<'t> {
             self.is_past_end = matches!(self.last, Last::End(_));
             return Ok(LineHead::Empty);
         }
+        if text.ends_with(' ') {
+            return Err(LineError::Refused(TraceReason::Form));
+        }
         match self.last {
             Last::End(_) => Err(LineError::Refused(TraceReason::AfterEnd)),
             Last::Nothing | Last::Entry(..) | Last::Outside(_) | Last::Clock { .. } => {
@@ -195,6 +198,9 @@ impl<'t> TraceReader<'t> {
         let Some(clock) = time_in(clock, GREATEST_TICK + 1) else {
             return Err(LineError::Refused(TraceReason::Time));
         };
+        if !self.last.is_before_clock(clock) {
+            return Err(LineError::Refused(TraceReason::Order));
+        }
         self.last = Last::Clock {
             least: match self.last.clock() {
                 Some(least) if least.is_before(clock) => least,
@@ -353,6 +359,14 @@ impl Last {
             Last::Entry(last, _) => last.is_before(time) || last == time,
             Last::Outside(last) => last.is_before(time),
             Last::Clock { .. } | Last::End(_) => false,
+        }
+    }
+
+    // Whether the clock of a process may follow. What it has printed is before its clock.
+    fn is_before_clock(self, clock: Time) -> bool {
+        match self.time() {
+            Some(last) => last.is_before(clock),
+            None => true,
         }
     }
 
