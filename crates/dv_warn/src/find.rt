@@ -2,6 +2,7 @@
 
 use crate::atomic::AtomicModel;
 use crate::constants::Nowhere;
+use crate::divisors::find_zero_divisors;
 use crate::findings::Findings;
 use crate::gotos::find_behind_gotos;
 use crate::links::{InsideLinks, PortLinks, links_inside, port_links};
@@ -12,6 +13,7 @@ use crate::parts::{find_unlinked_parts, find_unlinked_ports};
 use crate::phases::{Phase, phases_of};
 use crate::ranges::find_outside_ranges;
 use crate::reach::{phases_behind_internal_rules, reached_phases};
+use crate::rounds::find_endless_round;
 use crate::rules::{Reach, find_constant_conditions, find_in_phase};
 use crate::warning::Found;
 use dv_syntax::Model;
@@ -74,6 +76,7 @@ fn find_in_atomic(
     find_constant_conditions(findings, &rules, nowhere)?;
     find_behind_gotos(findings, &rules)?;
     find_outside_ranges(findings, &rules, model.scope, nowhere)?;
+    find_zero_divisors(alloc, findings, &rules, model.scope)?;
     let phases = phases_of(alloc, model.atomic, model.scope, rules, nowhere)?;
     find_in_phases(alloc, model, &phases, findings)
 }
@@ -97,6 +100,7 @@ fn find_in_phases(
 ) -> Result<(), AllocError> {
     let reached = reached_phases(alloc, model.atomic, model.scope, phases)?;
     let behind = phases_behind_internal_rules(alloc, model.scope, phases, &reached)?;
+    find_endless_round(alloc, findings, model.scope, phases, &reached)?;
     let around = model.surroundings();
     for ((phase, is_reached), is_behind) in phases.iter().zip(&reached).zip(&behind) {
         let reach = Reach {

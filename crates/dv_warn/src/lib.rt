@@ -1,8 +1,9 @@
 //! Warnings: probable mistakes in a model that is accepted.
 //!
-//! `find_warnings` looks for names that nothing uses, phases that nothing reaches, rules that never
-//! run, values that are lost, statements behind a `goto`, and numbers outside of their ranges. Each `Warning` comes with the offset of the token to which it
-//! belongs. `write_warnings` prints them in the order of the text, one a line.
+//! `find_warnings` looks for names that nothing uses, phases that nothing reaches or that time does
+//! not leave, rules that never run, values that are lost, statements behind a `goto`, numbers
+//! outside of their ranges, and divisors that may be 0. Each `Warning` comes with the offset of the
+//! token to which it belongs. `write_warnings` prints them in the order of the text, one a line.
 //!
 //! `dv_views` calls it for `check --warn`. It is proved that these calls are safe and return, and
 //! nothing about the warnings themselves: a model without warnings may have mistakes, and a model
@@ -13,6 +14,8 @@
 mod atomic;
 /// The values of expressions without names.
 mod constants;
+/// Warnings about divisors that may be 0.
+mod divisors;
 /// Finds the warnings of a model.
 pub mod find;
 /// The list of the warnings found so far.
@@ -35,6 +38,8 @@ mod phases;
 mod ranges;
 /// Which phases can be reached.
 mod reach;
+/// Warnings about phases of hold 0 that lead to one another and to no others.
+mod rounds;
 /// Warnings about phases and rules.
 mod rules;
 /// The statements of a rule as a list.

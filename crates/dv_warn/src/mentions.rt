@@ -104,7 +104,8 @@ fn mention_of(statement: &Stmt) -> Option<Mention> {
     }
 }
 
-fn expression_of(statement: &Stmt) -> Option<&Expr> {
+/// The expression that a statement has itself.
+pub(crate) fn expression_of(statement: &Stmt) -> Option<&Expr> {
     match statement {
         Stmt::Assign { value, .. } | Stmt::Send { value, .. } | Stmt::Change { value, .. } => {
             Some(value)
@@ -114,8 +115,12 @@ fn expression_of(statement: &Stmt) -> Option<&Expr> {
     }
 }
 
-// Adds what an expression reads.
-fn add_reads(expression: &Expr, mentions: &mut Vec<Mention>) -> Result<(), AllocError> {
+/// Adds what an expression reads.
+///
+/// # Errors
+///
+/// Memory is refused. A part of it is added.
+pub(crate) fn add_reads(expression: &Expr, mentions: &mut Vec<Mention>) -> Result<(), AllocError> {
     match expression {
         Expr::Literal(_) | Expr::TruthValue { .. } | Expr::Elapsed { .. } => Ok(()),
         Expr::Named(name) | Expr::Call { bag: name, .. } => add_read(*name, mentions),

@@ -159,8 +159,8 @@ fn decision(operator: Operator, range: VariableRange, number: i64) -> Option<boo
     }
 }
 
-// The range of a variable of the model, if it is one with numbers.
-fn range_of(variable: Name, scope: &Scope) -> Option<VariableRange> {
+/// The range of a variable of the model, if it is one with numbers.
+pub(crate) fn range_of(variable: Name, scope: &Scope) -> Option<VariableRange> {
     match scope.domain(scope.variable(variable.number)?)? {
         Domain::Number(range) => Some(range),
         Domain::Flag { .. } | Domain::Held { .. } => None,

@@ -173,6 +173,11 @@ pub enum Warning<'a> {
         /// The name of the phase.
         phase: &'a str,
     },
+    /// From a phase of hold 0 rules lead only to others of hold 0.
+    EndlessRound {
+        /// The name of the phase.
+        phase: &'a str,
+    },
     /// A statement stands behind a `goto` in the same block, and runs all the same.
     BehindGoto {
         /// The name of the phase of the `goto`.
@@ -189,6 +194,15 @@ pub enum Warning<'a> {
         name: &'a str,
         /// The constant.
         number: i64,
+        /// The least number of the range.
+        low: i64,
+        /// The greatest number of the range.
+        high: i64,
+    },
+    /// The range of a variable by which a rule divides has 0, and no condition reads it.
+    ZeroDivisor {
+        /// The name of the variable.
+        name: &'a str,
         /// The least number of the range.
         low: i64,
         /// The greatest number of the range.
@@ -284,6 +298,9 @@ impl fmt::Display for Warning<'_> {
             Warning::EndlessPhase { phase } => {
                 write_named(f, "no rule leaves the phase", phase, BEGINS_AGAIN)
             }
+            Warning::EndlessRound { phase } => {
+                write_named(f, "rules lead from the phase", phase, STANDS_STILL)
+            }
             Warning::BehindGoto { phase } => {
                 write_named(
                     f,
@@ -303,6 +320,10 @@ impl fmt::Display for Warning<'_> {
             } => write!(
                 f,
                 "{number} is outside of {low}..{high}, the range of `{name}`"
+            ),
+            Warning::ZeroDivisor { name, low, high } => write!(
+                f,
+                "`{name}` may be 0 here: it is in {low}..{high}, and no condition asks"
             ),
             Warning::DecidedByRange {
                 value,
@@ -325,6 +346,9 @@ const IS_UNUSED: &str = " is never used";
 const IS_LOST: &str = " is lost: it has no external rule";
 
 const ENDS_NONE: &str = ": a `goto` ends no rule";
+
+const STANDS_STILL: &str =
+    " only to phases of hold 0: time stands still, until the fault `microsteps`";
 
 const BEGINS_AGAIN: &str =
     ", whose hold is 0: it begins again at once, until the fault `microsteps`";
