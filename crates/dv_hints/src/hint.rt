@@ -27,6 +27,7 @@ pub fn hint_on(alloc: Global, text: &[u8], refusal: &TextError) -> Result<Cause,
     let offset = refusal.offset as usize;
     match refusal.number {
         RefusalNumber::E1 => Cause::of(alloc, "a byte that is not part of a valid character", ""),
+        RefusalNumber::E2 if begins_like_trace(text) => stray_in_trace(alloc, text, offset),
         RefusalNumber::E2 => stray_at(alloc, text, offset),
         RefusalNumber::E3 => Cause::of(alloc, "a number above 9223372036854775807", ""),
         RefusalNumber::E4 => unexpected_at(alloc, text, offset),
@@ -48,6 +49,27 @@ pub fn hint_on(alloc: Global, text: &[u8], refusal: &TextError) -> Result<Cause,
             None => empty_cause(alloc),
         },
     }
+}
+
+/// Whether a text begins with a number, as a trace does and a model never.
+fn begins_like_trace(text: &[u8]) -> bool {
+    match text.first() {
+        Some(byte) => byte.is_ascii_digit(),
+        None => false,
+    }
+}
+
+/// The cause of E2 in a trace: the brackets around the values of a bag are met before anything is
+/// said of the number at its beginning.
+fn stray_in_trace(alloc: Global, text: &[u8], offset: usize) -> Result<Cause, AllocError> {
+    let cause = stray_at(alloc, text, offset)?;
+    Ok(Cause {
+        summary: cause.summary,
+        sentences: String::from_str(
+            alloc,
+            "This looks like a trace: a model begins with a word.\n",
+        )?,
+    })
 }
 
 /// The cause of a refusal of a text that has a tree.

@@ -52,6 +52,9 @@ mod repeats;
 /// The root, and limits on size.
 mod roots;
 
+/// How large the tree of the root is.
+mod sizes;
+
 /// The kinds of names and rules, in words.
 mod sorts;
 

@@ -5,11 +5,16 @@ use crate::ends::unknown;
 use crate::lists::Choice;
 use crate::models::{model_around, model_named, part_of_model_at};
 use crate::reading::ReadText;
+use crate::sizes::{TreeSize, size_of_root};
 use crate::sorts::{Direction, name_of as name_of_declaration, sort_of};
+use dv_bag::GREATEST_COUNT;
+use dv_check::{GREATEST_COMPONENTS, GREATEST_DEPTH, GREATEST_INSTANCES, GREATEST_NAMES};
 use dv_explain::{Cause, Quoted};
+use dv_flat::GREATEST_LINKS;
 use dv_lex::GREATEST_LENGTH;
-use dv_syntax::{Atomic, Declaration, Model, StateCollection};
+use dv_syntax::{Atomic, Coupled, Declaration, Model, Name, StateCollection};
 use std::alloc::{AllocError, Global};
+use std::fmt;
 
 /// The cause of E7 for the root.
 ///
@@ -105,16 +110,73 @@ pub fn limit_at(alloc: Global, read: &ReadText, offset: u32) -> Result<Cause, Al
     if read.file.root.offset == offset {
         return too_large(alloc, read);
     }
-    match collection_at(read, offset) {
-        Some(collection) => {
-            let capacity = collection.capacity.value.value();
-            cause(
-                alloc,
-                format_args!("the capacity {capacity} is outside of 1..4096"),
-                "",
-            )
+    if let Some(collection) = collection_at(read, offset) {
+        let capacity = collection.capacity.value.value();
+        let summary = format_args!("the capacity {capacity} is outside of 1..{GREATEST_COUNT}");
+        return cause(alloc, summary, "");
+    }
+    match model_around(&read.file, offset) {
+        Some(model) => {
+            let (name, count, kind) = names_like(model, offset);
+            let name = Quoted(read.name(name.number));
+            let summary = format_args!("{name} has {count} {kind}, more than {GREATEST_NAMES}");
+            cause(alloc, summary, "")
         }
-        None => Cause::of(alloc, "more than 4,096 names of one kind", ""),
+        None => empty_cause(alloc),
+    }
+}
+
+/// The name of a model, how many names it has of the kind of the one at an offset, and what these
+/// are.
+fn names_like(model: &Model, offset: u32) -> (Name, usize, &'static str) {
+    match model {
+        Model::Atomic(atomic) => {
+            let (count, kind) = names_of_atomic(atomic, offset);
+            (atomic.name, count, kind)
+        }
+        Model::Coupled(coupled) => {
+            let (count, kind) = names_of_coupled(coupled, offset);
+            (coupled.name, count, kind)
+        }
+    }
+}
+
+fn names_of_atomic(atomic: &Atomic, offset: u32) -> (usize, &'static str) {
+    let declared = &atomic.declarations;
+    let ports = declared.iter().filter(|item| is_port(item)).count();
+    match declared
+        .iter()
+        .find(|item| name_of_declaration(item).offset == offset)
+    {
+        Some(item) if is_port(item) => (ports, "ports"),
+        Some(_) => (
+            declared.len().saturating_sub(ports),
+            "variables, flags, bags and queues",
+        ),
+        None => (phase_count(atomic), "phases"),
+    }
+}
+
+fn phase_count(atomic: &Atomic) -> usize {
+    let mut count: usize = 0;
+    for phases in &atomic.phases {
+        count = count.saturating_add(phases.names.len());
+    }
+    count
+}
+
+fn is_port(declaration: &Declaration) -> bool {
+    sort_of(declaration).direction().is_some()
+}
+
+fn names_of_coupled(coupled: &Coupled, offset: u32) -> (usize, &'static str) {
+    if coupled.parts.iter().any(|part| part.name.offset == offset) {
+        (coupled.parts.len(), "parts")
+    } else {
+        (
+            coupled.inputs.len().saturating_add(coupled.outputs.len()),
+            "ports",
+        )
     }
 }
 
@@ -130,17 +192,42 @@ pub fn too_long(alloc: Global, length: usize) -> Result<Cause, AllocError> {
 
 fn too_large(alloc: Global, read: &ReadText) -> Result<Cause, AllocError> {
     let root = Quoted(read.name(read.file.root.number));
-    if is_without_parts(read) {
-        return cause(alloc, format_args!("{root} has no part"), "");
-    }
-    let limits = "has no component, or too many components, instances, levels or links";
-    cause(alloc, format_args!("the tree of {root} {limits}"), "")
+    let size = size_of_root(alloc, &read.file)?;
+    cause(alloc, TooLarge { root, size }, "")
 }
 
-fn is_without_parts(read: &ReadText) -> bool {
-    match model_named(&read.file, read.file.root.number) {
-        Some(Model::Coupled(coupled)) => coupled.parts.is_empty(),
-        Some(Model::Atomic(_)) | None => false,
+/// Displayed as the limit on trees that the tree of a root exceeds.
+#[derive(Clone, Copy)]
+struct TooLarge<'a> {
+    root: Quoted<'a>,
+    size: TreeSize,
+}
+
+impl fmt::Display for TooLarge<'_> {
+    fn fmt<W: fmt::Write>(&self, f: &mut fmt::Formatter<W>) -> fmt::Result {
+        let TooLarge { root, size } = self;
+        if size.levels > GREATEST_DEPTH {
+            write!(
+                f,
+                "{root} nests coupled models more than {GREATEST_DEPTH} deep"
+            )
+        } else if size.components == 0 {
+            write!(f, "{root} has no component")
+        } else if size.components > GREATEST_COMPONENTS as u64 {
+            write!(
+                f,
+                "{root} has {} components, more than {GREATEST_COMPONENTS}",
+                size.components
+            )
+        } else if size.instances > GREATEST_INSTANCES as u64 {
+            write!(
+                f,
+                "{root} has {} models in its tree, more than {GREATEST_INSTANCES}",
+                size.instances
+            )
+        } else {
+            write!(f, "{root} has more than {GREATEST_LINKS} links")
+        }
     }
 }
 

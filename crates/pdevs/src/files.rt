@@ -1,8 +1,8 @@
 //! Reads the files that a command line names.
 
 use crate::plans::partition_of_plan;
-use crate::told::{Texts, tell_unread};
-use dv_cause::Source;
+use crate::told::tell_unread;
+use dv_cause::{Source, Texts};
 use dv_command::{PartitionChoice, TraceFiles};
 use dv_partition::Partition;
 use std::fs::OpenFile;
@@ -30,12 +30,20 @@ impl FileBytes<'_> {
         }
     }
 
-    /// The texts that may be refused, if this is the model and there are no inputs.
+    /// The texts that may be refused, if this is the model, in one process and without inputs.
     pub fn texts(&self) -> Texts<'_> {
         self.texts_with(None)
     }
 
-    /// The texts that may be refused, if this is the model.
+    /// The texts that may be refused, if this is the model and it is divided.
+    pub fn texts_in<'a>(&'a self, parting: &'a Parting) -> Texts<'a> {
+        Texts {
+            partition: parting.partition(),
+            ..self.texts()
+        }
+    }
+
+    /// The texts that may be refused, if this is the model, in one process.
     pub fn texts_with<'a>(&'a self, inputs: Option<&'a FileBytes<'a>>) -> Texts<'a> {
         let inputs = match inputs {
             Some(inputs) => inputs.source(),
@@ -47,6 +55,7 @@ impl FileBytes<'_> {
         Texts {
             model: self.source(),
             inputs,
+            partition: Partition::Count(1),
         }
     }
 }

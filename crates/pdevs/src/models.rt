@@ -80,7 +80,7 @@ pub fn plan_model<R: AllocGlobal + Files + Input + Print + Eprint>(
             Ok(ACCEPTED)
         }
         Err(error) => {
-            tell_error(rt, model.texts(), &error, plan.explained);
+            tell_error(rt, model.texts_in(&parting), &error, plan.explained);
             Ok(REFUSED)
         }
     }
@@ -115,7 +115,7 @@ pub fn graph_model<R: AllocGlobal + Files + Input + Print + Eprint>(
     let printed = print_through(rt, |writer| {
         graph_bytes(alloc, &model.bytes, &options, writer)
     });
-    Ok(printed.status(rt, model.texts(), graph.file.explained))
+    Ok(printed.status(rt, model.texts_in(&parting), graph.file.explained))
 }
 
 /// What of a model a graph shows.

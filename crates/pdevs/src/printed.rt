@@ -3,8 +3,9 @@
 use crate::lines::Lines;
 use crate::noted::Noted;
 use crate::progress::Progress;
-use crate::told::{Texts, tell_reason, tell_view_error};
+use crate::told::{tell_reason, tell_view_error};
 use crate::{ACCEPTED, REFUSED};
+use dv_cause::Texts;
 use dv_notice::FaultCount;
 use dv_text::WriteError;
 use dv_views::ViewError;

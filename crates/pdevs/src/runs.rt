@@ -5,12 +5,12 @@ use crate::noticed::tell_notices;
 use crate::numbers::print_numbers;
 use crate::printed::print_lines;
 use crate::progress::Progress;
-use crate::told::{Texts, tell_error, tell_view_error};
+use crate::told::{tell_error, tell_view_error};
 use crate::{REFUSED, USAGE};
+use dv_cause::Texts;
 use dv_command::Run;
 use dv_job::{Driver, JobEnded, JobError, Options, run_by_workers, run_bytes, status};
 use dv_notice::FaultCount;
-use dv_partition::Partition;
 use std::io;
 use std::io::Write;
 use std::rt::Files;
@@ -24,10 +24,8 @@ const LINK_CAPACITY: u32 = 16;
 /// A model to run, and how.
 #[derive(Clone, Copy)]
 pub struct Job<'a> {
-    /// The model and its inputs.
+    /// The model, its inputs, and how it is divided.
     pub texts: Texts<'a>,
-    /// How the model is divided.
-    pub groups: Partition<'a>,
     /// The horizon and how the processes are driven.
     pub options: &'a Options,
     /// Whether errors are explained.
@@ -47,8 +45,22 @@ pub fn run_job<R: AllocGlobal + Threads + Wait + Sync, W: Write>(
     let model = job.texts.model.bytes;
     let inputs = job.texts.inputs.bytes;
     match job.options.driver {
-        Driver::Workers(_) => run_by_workers(rt, model, inputs, job.groups, job.options, writer),
-        Driver::Rounds(_) => run_bytes(rt.alloc(), model, inputs, job.groups, job.options, writer),
+        Driver::Workers(_) => run_by_workers(
+            rt,
+            model,
+            inputs,
+            job.texts.partition,
+            job.options,
+            writer,
+        ),
+        Driver::Rounds(_) => run_bytes(
+            rt.alloc(),
+            model,
+            inputs,
+            job.texts.partition,
+            job.options,
+            writer,
+        ),
     }
 }
 
@@ -122,8 +134,10 @@ pub fn run_model<R: AllocGlobal + Clock + Files + Input + Print + Eprint + Threa
         return Ok(USAGE);
     };
     let job = Job {
-        texts: model.texts_with(inputs.as_ref()),
-        groups: parting.partition(),
+        texts: Texts {
+            partition: parting.partition(),
+            ..model.texts_with(inputs.as_ref())
+        },
         options: &options,
         is_explained: run.explained,
     };

@@ -1,20 +1,11 @@
 //! Prints on standard error.
 
-use dv_cause::{Source, explained};
+use dv_cause::{Texts, explained};
 use dv_job::JobError;
 use dv_views::ViewError;
 use std::fmt::Display;
 use std::io;
 use std::io::ErrorKind;
-
-/// The texts that may be refused.
-#[derive(Clone, Copy)]
-pub struct Texts<'a> {
-    /// The text of the model.
-    pub model: Source<'a>,
-    /// The text of the inputs. Its name and its bytes are empty if there are no inputs.
-    pub inputs: Source<'a>,
-}
 
 /// Prints a message as a line. A failed write is ignored, since the exit status still shows that
 /// there was an error.
@@ -69,7 +60,7 @@ pub fn tell_error<R: AllocGlobal + Eprint>(
     if !is_explained {
         return;
     }
-    if let Ok(text) = explained(rt.alloc(), texts.model, texts.inputs, error) {
+    if let Ok(text) = explained(rt.alloc(), texts, error) {
         tell_text(rt, text.as_str());
     }
 }

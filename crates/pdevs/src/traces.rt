@@ -3,8 +3,9 @@
 use crate::files::{OpenedFile, TraceBytes, open, open_seekable, read, read_inputs, read_trace};
 use crate::numbers::{excerpt_of, ports_of, stats_options};
 use crate::printed::{Printed, print_through};
-use crate::told::{Texts, tell_line, tell_unread};
+use crate::told::{tell_line, tell_unread};
 use crate::{REFUSED, USAGE};
+use dv_cause::Texts;
 use dv_command::{Plot, Stats, Table, TraceFiles, Waves};
 use dv_trace::{End, Reach};
 use dv_views::{
