@@ -5,7 +5,7 @@ import subprocess
 from dataclasses import dataclass, field
 from pathlib import Path
 
-from testing.notices import value_of, without_notices
+from testing.notices import value_of, without_notices, without_warnings
 
 # Seconds that one call may take.
 LONGEST_CALL = 600
@@ -70,5 +70,19 @@ class Bench:
         if words[:1] == ["run"] and ended.returncode in (0, 3, 4) and not any(word in words for word in STATS):
             name = value_of(words, "--inputs")
             inputs = given if name == "-" else (Path(where or self.folder) / name).read_bytes() if name else b""
+            if "--explain" in words and stood_in is None:
+                told = without_warnings(told, self.warnings(words[1], given, where))
             told = without_notices(words, ended.returncode, ended.stdout, told, inputs)
         return Answer(ended.returncode, ended.stdout, told)
+
+    def warnings(self, model, given, where):
+        """How many warnings a model has, which is given if its name is `-`."""
+        printed = subprocess.run(
+            [self.program, "check", model, "--warn"],
+            input=given,
+            capture_output=True,
+            check=True,
+            cwd=where or self.folder,
+            timeout=LONGEST_CALL,
+        ).stdout
+        return printed.count(b": warning: ")

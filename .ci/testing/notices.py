@@ -55,3 +55,13 @@ def without_notices(words, status, trace, told, inputs):
     if told.endswith(wanted):
         return told[: len(told) - len(wanted)]
     return told + b"and this is wanted at its end: " + wanted
+
+
+def without_warnings(told, count):
+    """What is told by an explained run without the line on its warnings, of which there are so many. Where it lacks, a line says
+    so."""
+    one, many = b"pdevs: 1 warning; check --warn shows it\n", b"pdevs: %d warnings; check --warn shows them\n" % count
+    wanted = b"" if count == 0 else one if count == 1 else many
+    if told.endswith(wanted):
+        return told[: len(told) - len(wanted)]
+    return told + b"and this is wanted at its end: " + wanted

@@ -5,9 +5,12 @@ use crate::faulted::tell_faults;
 use crate::runs::Job;
 use crate::told::tell_line;
 use dv_notice::{FaultCount, notice_inputs};
+use dv_views::warnings_bytes;
+use std::io::sink;
 
 /// Prints that components had faults, or explains the faults of a whole run if that is asked for;
-/// and which inputs may not be meant. `status` is that of the run.
+/// which inputs may not be meant; and how many warnings the model has, if errors are explained.
+/// `status` is that of the run.
 pub fn tell_notices<R: AllocGlobal + Eprint>(
     rt: &R,
     job: &Job<'_>,
@@ -27,5 +30,22 @@ pub fn tell_notices<R: AllocGlobal + Eprint>(
     }
     if let Some(early) = inputs.early {
         tell_line(rt, early);
+    }
+    if job.is_explained {
+        tell_warnings(rt, job);
+    }
+}
+
+// Prints how many warnings the model has. Nothing is printed if it has none, or if memory does not
+// suffice for them.
+fn tell_warnings<R: AllocGlobal + Eprint>(rt: &R, job: &Job<'_>) {
+    let model = job.texts.model;
+    match warnings_bytes(rt.alloc(), model.name, model.bytes, &mut sink()) {
+        Ok(0) | Err(_) => {}
+        Ok(1) => tell_line(rt, "1 warning; check --warn shows it"),
+        Ok(count) => tell_line(
+            rt,
+            format_args!("{count} warnings; check --warn shows them"),
+        ),
     }
 }
