@@ -19,9 +19,10 @@ use std::io::{Read, Write};
 /// - `Unread`: the trace can't be read. This is also the answer if its first piece can't be read
 ///   and the model would be refused.
 /// - `Job` with `Text`: the model is refused. `NoPath`: the model is accepted, and no component has
-///   the path that is asked for, or no ports have the names of the flow. `Job` with `Inputs`: the
-///   flow begins at an input of the root, and the inputs are refused. `Trace`: all of these are
-///   accepted, and the trace is refused.
+///   the path that is asked for, no ports have the names of the flow, or the flow begins at an
+///   input of the root, and there are no inputs. `Job` with `Inputs`: the flow begins at an input
+///   of the root, and the inputs are refused. `Trace`: all of these are accepted, and the trace is
+///   refused.
 /// - `Job` with `Write`: a write failed. `Job` with `Memory`: an allocation was refused. The writer
 ///   holds a beginning of the text, for `Memory` perhaps nothing. For all other errors nothing was
 ///   written.
@@ -54,14 +55,14 @@ fn count_trace<T: Read, W: Write>(
     Ok(numbers.finish(writer)?)
 }
 
-/// A writer that counts a trace of the model of a tree. `inputs` is the text of the run's inputs;
-/// without it, nothing comes by the inputs of the root.
+/// A writer that counts a trace of the model of a tree. `inputs` is the text of the run's inputs.
 ///
 /// # Errors
 ///
-/// `NoPath`: no component has the path that is asked for, or no ports have the names of the flow.
-/// `Job` with `Inputs`: the flow begins at an input of the root, and the inputs are refused. `Job`
-/// with `Memory`: an allocation was refused.
+/// `NoPath`: no component has the path that is asked for, no ports have the names of the flow, or
+/// the flow begins at an input of the root, and there are no inputs. `Job` with `Inputs`: the flow
+/// begins at an input of the root, and the inputs are refused. `Job` with `Memory`: an allocation
+/// was refused.
 pub fn numbers_of<'t>(
     alloc: Global,
     tree: &'t Tree<'t>,
@@ -92,9 +93,15 @@ fn flow_of<'t>(
     };
     let from = gate_of(alloc, tree, from, true)?;
     let to = gate_of(alloc, tree, to, false)?;
-    let inputs = match from {
-        Gate::Input(_) => inputs_of(alloc, tree, inputs)?,
-        Gate::Component { .. } | Gate::Output(_) => inputs_of(alloc, tree, None)?,
+    let inputs = match (from, inputs) {
+        (Gate::Input(_), None) => {
+            let ports = flow.ports;
+            return Err(ViewError::NoPath(format!(in alloc;
+                "no inputs are given, and `{ports}` begins at an input of the root"
+            )?));
+        }
+        (Gate::Input(_), inputs) => inputs_of(alloc, tree, inputs)?,
+        (Gate::Component { .. } | Gate::Output(_), _) => inputs_of(alloc, tree, None)?,
     };
     Ok(Flow::new(alloc, from, to, flow, inputs, span))
 }
