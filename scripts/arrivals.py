@@ -5,24 +5,36 @@
 
 A law is `fixed:N`, `uniform:LEAST,GREATEST`, `exponential:MEAN`, `erlang:STAGES,MEAN`, or `from:FILE`: each number of the file is as
 likely as any other. Gaps are drawn as real numbers and added up, and each sum is rounded to a tick, so that the mean of the gaps is
-that of the law. Several values may come at one tick. Values are rounded to whole numbers. Gaps and values have generators of their own:
-another law of values leaves the times as they are.
+that of the law. Several values may come at one tick. Values are whole numbers: of `uniform:1,6` each of 1 to 6 is as likely as any other,
+and what another law draws is rounded. Gaps and values have generators of their own: another law of values leaves the times as they are.
 """
 
 import argparse
 import itertools
+import math
 import random
-import re
 from pathlib import Path
 
+LAWS = "fixed:N, uniform:LEAST,GREATEST, exponential:MEAN, erlang:STAGES,MEAN or from:FILE"
 
-def law(word):
-    """A function that draws a number by a law, with a generator of random numbers."""
+
+def parts_of(word):
+    """The name of a law and its numbers. What is no law is refused with those that there are."""
     name, _, rest = word.partition(":")
-    if name == "from":
-        numbers = [float(number) for number in Path(rest).read_text(encoding="utf-8").split()]
+    try:
+        cells = Path(rest).read_text(encoding="utf-8").split() if name == "from" else rest.split(",")
+        return name, [float(number) for number in cells]
+    except OSError as told:
+        raise argparse.ArgumentTypeError(f"{rest} can't be read: {told.strerror}") from told
+    except ValueError as told:
+        raise argparse.ArgumentTypeError(f"`{word}` is no law with its numbers; there are {LAWS}") from told
+
+
+def real(word):
+    """A function that draws a real number by a law, with a generator of random numbers."""
+    name, numbers = parts_of(word)
+    if name == "from" and numbers:
         return lambda generator: generator.choice(numbers)
-    numbers = [float(number) for number in re.split(",", rest)]
     if name == "fixed" and len(numbers) == 1:
         return lambda _generator: numbers[0]
     if name == "uniform" and len(numbers) == 2 and numbers[0] <= numbers[1]:
@@ -31,7 +43,27 @@ def law(word):
         return lambda generator: generator.expovariate(1 / numbers[0])
     if name == "erlang" and len(numbers) == 2 and numbers[0] >= 1 and numbers[1] > 0:
         return lambda generator: generator.gammavariate(int(numbers[0]), numbers[1] / int(numbers[0]))
-    raise ValueError(word)
+    raise argparse.ArgumentTypeError(f"`{word}` is no law with its numbers; there are {LAWS}")
+
+
+def gap_law(word):
+    """A function that draws a gap: a real number that is not below 0, since time does not go back."""
+    draw = real(word)
+    if min(parts_of(word)[1]) < 0:
+        raise argparse.ArgumentTypeError(f"`{word}` has gaps below 0")
+    return draw
+
+
+def value_law(word):
+    """A function that draws a value. Real numbers between two ends, when rounded, would be the ends half as often as what is between them;
+    so a uniform law draws whole numbers."""
+    draw, (name, numbers) = real(word), parts_of(word)
+    if name != "uniform":
+        return lambda generator: round(draw(generator))
+    least, greatest = math.ceil(numbers[0]), math.floor(numbers[1])
+    if least > greatest:
+        raise argparse.ArgumentTypeError(f"`{word}` has no whole number")
+    return lambda generator: generator.randint(least, greatest)
 
 
 def arrivals(gap, value, seed):
@@ -40,15 +72,17 @@ def arrivals(gap, value, seed):
     time = 0.0
     while True:
         time += gap(times)
-        yield round(time), round(value(values))
+        yield round(time), value(values)
 
 
 def main():
     """Reads the words and prints the inputs."""
-    parser = argparse.ArgumentParser(description="Prints inputs at random times for a seed.")
+    parser = argparse.ArgumentParser(description="Prints inputs at random times for a seed.", epilog=f"LAW is {LAWS}.")
     parser.add_argument("port", help="the input port of the root")
-    parser.add_argument("--gap", type=law, required=True, help="the law of the ticks between two arrivals")
-    parser.add_argument("--value", type=law, default=law("fixed:1"), help="the law of the values (fixed:1)")
+    gap = "the ticks between two arrivals: real numbers, which are added up; each sum is rounded to a tick"
+    parser.add_argument("--gap", type=gap_law, metavar="LAW", required=True, help=gap)
+    value = "the values (fixed:1): of uniform, whole numbers that are equally likely; what another law draws is rounded"
+    parser.add_argument("--value", type=value_law, metavar="LAW", default="fixed:1", help=value)
     parser.add_argument("--until", type=int, default=10**15, help="the last tick at which a value may come")
     parser.add_argument("--count", type=int, help="how many values come, at most")
     parser.add_argument("--seed", default="1", help="any word; the same word gives the same inputs (1)")

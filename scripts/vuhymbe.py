@@ -4,19 +4,23 @@
     numbers = vuhymbe.stats("model.pd", horizon=1000)
     numbers["phase", "server", "busy", "share"]
 
-Options of the program are named as there, with `_` for `-`: `inputs="inputs.txt"`, `processes=2`, `to=500`, `quantiles=True`. The program
-is ./pdevs of this repository, or the one that the environment variable PDEVS names.
+Options of the program are named as there, with `_` for `-`: `inputs="inputs.txt"`, `processes=2`, `only="server"`, `quantiles=True`. The
+first and the last tick that count are `begin=100` and `end=500`, since Python keeps the word `from` for itself. The program is ./pdevs of
+this repository, or the one that the environment variable PDEVS names.
 """
 
 import csv
 import io
 import json
 import os
+import re
 import subprocess
 import tempfile
 from pathlib import Path
 
 PROGRAM = os.environ.get("PDEVS") or str(Path(__file__).resolve().parent.parent / "pdevs")
+# Options that have names of their own here.
+RENAMED = {"begin": "from", "end": "to"}
 
 
 class NotRun(Exception):
@@ -34,10 +38,11 @@ def call(*words, text=None):
 def words_of(options):
     """Options as words of a command line."""
     for name, value in options.items():
+        word = f"--{RENAMED.get(name, name).replace('_', '-')}"
         if value is True:
-            yield f"--{name.replace('_', '-')}"
+            yield word
         elif value is not None and value is not False:
-            yield from (f"--{name.replace('_', '-')}", value)
+            yield from (word, value)
 
 
 def run(model, horizon, **options):
@@ -45,11 +50,21 @@ def run(model, horizon, **options):
     return call("run", model, "--horizon", horizon, *words_of(options))
 
 
+def cell(measure, text):
+    """What a cell says: None if it is empty, else a number, or a text if it is a word such as `overflow`. A time is a text, too: as numbers
+    the times 2.1 and 2.10 would be the same."""
+    if text == "":
+        return None
+    if measure == "fault_time" or not re.fullmatch(r"-?[0-9]+(\.[0-9]+)?", text):
+        return text
+    return float(text) if "." in text else int(text)
+
+
 def stats(model, horizon, **options):
-    """The numbers of a run by (kind, component, name, measure), as `run --stats --csv` prints them. A measure that a component does not
-    have is left out."""
+    """The numbers of a run by (kind, component, name, measure), as `run --stats --csv` prints them. A measure that is not there, such as
+    the mean of no values, is None; the name of a fault, the time of it and `overflow` are texts."""
     rows = csv.DictReader(io.StringIO(run(model, horizon, stats=True, csv=True, **options)))
-    return {(row["kind"], row["component"], row["name"], row["measure"]): float(row["value"]) for row in rows if row["value"]}
+    return {(row["kind"], row["component"], row["name"], row["measure"]): cell(row["measure"], row["value"]) for row in rows}
 
 
 def table(model, horizon, inputs=None, **options):
