@@ -69,7 +69,8 @@ def column(measure, runs):
     if not any(key in numbers for numbers in runs):
         names = {",".join(name) for numbers in runs for name in numbers}
         near = " or ".join(f"`{name}`" for name in difflib.get_close_matches(measure, names))
-        raise vuhymbe.NotRun(f"no run has `{measure}`{near and ', but '}{near}; run --stats --csv prints all measures, with the same options")
+        near = f", but {near}" if near else ""
+        raise vuhymbe.NotRun(f"no run has `{measure}`{near}; run --stats --csv prints all measures, with the same options")
     found = [numbers.get(key) for numbers in runs]
     for text in found:
         if isinstance(text, str):
