@@ -5,7 +5,7 @@ use Rattle.std.proofs.Common.{append_assoc}
 use Rattle.std.proofs.lemmas.Bool.{le-leb, lt-leb}
 use lib.Ieee.Fits.{and_l, and_r}
 use Rattle.std.specs.Fmt.{decimal}
-use Rattle.dv_lines.specs.Rooms.{last_four}
+use Rattle.dv_lines.specs.Digits.{last_four}
 use Rattle.dv_lines.specs.Words.{word_text}
 use Rattle.dv_lines.specs.declared.numbers.TheConstants.{PAIRS}
 use Rattle.dv_lines.specs.declared.pieces.Word.{Word}

@@ -6,7 +6,7 @@ use Rattle.std.proofs.lemmas.Fmt.{length-decimal-le}
 use Rattle.std.proofs.lemmas.List.{take-append-le, length-take-le, take_all}
 use Rattle.std.specs.Fmt.{decimal}
 use Rattle.itoa.proofs.Decimal.{decimal_four, length_four}
-use Rattle.dv_lines.specs.Rooms.{last_four}
+use Rattle.dv_lines.specs.Digits.{last_four}
 
 -- a number by its first digits and its last four
 pub by_last_four : (n : ℕ) → 0 < n / 10000 → n < 2 ^ 64 → decimal n ≡ decimal (n / 10000) ++ last_four n

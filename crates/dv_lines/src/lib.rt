@@ -12,9 +12,8 @@
 //! its head, and is put in one step. A `Stamp` keeps the text of a time for all lines of that time;
 //! the next time mostly renews its last digits alone.
 //!
-//! Lines go into a `Room`, one after the other. A `Text` puts itself into the free part of the room
-//! if it fits there. If it does not, the room is doubled, and the text is put again. So no line is
-//! measured before, and most lines ask for no memory.
+//! Lines are put into a `Room` of `dv_written`, one after the other: that of the text of a process
+//! that is alone, or that of a part of the trace. A line is made where it stays.
 #![tactic(auto)]
 
 /// Bytes and words.
@@ -40,9 +39,6 @@ mod lines;
 
 /// Laws of the text of a part that grows.
 pub mod laws;
-
-/// A room that grows.
-mod room;
 
 /// A time with its text.
 mod stamp;

@@ -3,14 +3,14 @@
 ghost use Rattle.std.specs.Prelude.{◌≡◌, ◌≤◌, ◌++◌, ◌∷◌, [], length, IfSome};
 ghost use Rattle.dv_bag.specs.Words.{kind_word};
 ghost use Rattle.dv_time.specs.Time.{time_text};
-ghost use Rattle.dv_lines.specs.Rooms.{IsPut};
+ghost use Rattle.dv_written.specs.Rooms.{IsPut};
 ghost use Rattle.dv_lines.specs.Words.{phase_at, sent_words, words_found};
 
-use crate::pieces::{Word, put_byte, put_bytes, put_path, put_word};
-use crate::room::Text;
+use crate::pieces::{Word, put_byte, put_path, put_word};
 use crate::stamp::Stamp;
 use crate::values::{put_sent, put_values, put_variables};
 use dv_bag::{Bag, Fault, Kind, Sent, State};
+use dv_written::{Text, put_bytes};
 
 /// The words of a component, within bytes that hold the words of all components.
 #[derive(Clone, Copy)]
@@ -174,21 +174,5 @@ impl<'l> Text for OutPort<'l> {
         }
         let at = put_word(to, 0, self.bytes, self.word)?;
         put_values(to, at, self.values)
-    }
-}
-
-/// Bytes that are text already.
-#[derive(Drop)]
-pub struct Ready<'l> {
-    /// The bytes.
-    pub text: &'l [u8],
-}
-
-impl<'l> Text for Ready<'l> {
-    ghost bytes = { λ r. r.text.now };
-
-    #[inline]
-    fn put(&self, to: &mut [u8]) -> Option<usize> {
-        put_bytes(to, 0, self.text)
     }
 }

@@ -5,12 +5,12 @@ ghost use Rattle.dv_bag.specs.declared.entry.What.TheVariants as what;
 ghost use Rattle.dv_time.specs.Time.{time_text};
 ghost use Rattle.dv_lines.specs.Words.{line_words, port_words, word_text, words_found};
 
-use crate::line::{ComponentWords, FaultLine, OutFront, OutPort, Ready, TransitionLine};
+use crate::line::{ComponentWords, FaultLine, OutFront, OutPort, TransitionLine};
 use crate::pieces::Word;
-use crate::room::Room;
 use crate::stamp::Stamp;
 use dv_bag::{Bag, Fault, Kind, Sent, State};
 use dv_time::Time;
+use dv_written::{Ready, Room};
 use std::alloc::{AllocError, Global};
 use std::marker::Model;
 
@@ -87,10 +87,9 @@ impl Lines {
             ++ line_words (words_found words.now) now (what.Transition kind state.now) sent.now) }
         ensures err { OnErr result (self.new ≡ self.old) }
     {
-        self.stamp.set(now);
         let line = TransitionLine {
             words,
-            stamp: &self.stamp,
+            stamp: self.stamp.at(now),
             kind,
             state,
             sent,
@@ -114,10 +113,9 @@ impl Lines {
             ++ line_words (words_found words.now) now (what.Fault fault) sent.now) }
         ensures err { OnErr result (self.new ≡ self.old) }
     {
-        self.stamp.set(now);
         let line = FaultLine {
-            stamp: &self.stamp,
             words,
+            stamp: self.stamp.at(now),
             fault,
             sent,
         };
@@ -134,8 +132,9 @@ impl Lines {
         ensures ok { OnOk result (self.new ≡ self.old ++ (time_text now ++ codes " out")) }
         ensures err { OnErr result (self.new ≡ self.old) }
     {
-        self.stamp.set(now);
-        let front = OutFront { stamp: &self.stamp };
+        let front = OutFront {
+            stamp: self.stamp.at(now),
+        };
         self.room.append(&front)
     }
 

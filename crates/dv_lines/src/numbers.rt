@@ -2,9 +2,11 @@
 
 ghost use Rattle.std.specs.Prelude.{◌≡◌, ◌≤◌, ◌<◌, ◌+◌, ◌/◌, ◌%◌, ◌∷◌, [], pos, ◌<ℤ◌, length, IfSome};
 ghost use Rattle.std.specs.Fmt.{decimal, signed_decimal};
-ghost use Rattle.dv_lines.specs.Rooms.{IsPut, last_four};
+ghost use Rattle.dv_written.specs.Rooms.{IsPut};
+ghost use Rattle.dv_lines.specs.Digits.{last_four};
 
-use crate::pieces::{put_byte, put_few_bytes};
+use crate::pieces::put_byte;
+use dv_written::put_few_bytes;
 use itoa::write_digits;
 
 // The digits of all numbers below 100, two for each.

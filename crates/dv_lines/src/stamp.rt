@@ -3,11 +3,12 @@
 ghost use Rattle.std.specs.Prelude.{◌≡◌, ◌≤◌, ◌<◌, ◌∷◌, ◌++◌, ◌/◌, length, take, IfSome};
 ghost use Rattle.std.specs.Fmt.{decimal};
 ghost use Rattle.dv_time.specs.Time.{time_text};
-ghost use Rattle.dv_lines.specs.Rooms.{IsPut};
+ghost use Rattle.dv_written.specs.Rooms.{IsPut};
 
 use crate::numbers::{put_digits, put_four};
-use crate::pieces::{part_of, put_byte, put_bytes, put_sixteen, sixteen_at};
+use crate::pieces::{part_of, put_byte, put_sixteen, sixteen_at};
 use dv_time::Time;
+use dv_written::put_bytes;
 use std::marker::Model;
 
 /// A time with its text, which is made once for all lines of that time. Of a later time only the
@@ -117,14 +118,15 @@ impl Stamp {
         stamp
     }
 
-    /// Another time, or the same.
+    /// Another time, or the same. Returns the stamp of it.
     #[inline(always)]
-    pub fn set(&mut self, time: Time)
-        ensures { self.new ≡ time }
+    pub fn at(&mut self, time: Time) -> &Stamp
+        ensures { result.now ≡ time }
     {
         if self.time != time {
             self.renew(time);
         }
+        self
     }
 
     // Another time: its text is put in place of the last one.

@@ -3,16 +3,15 @@
 ghost use Rattle.std.specs.Prelude.{◌≡◌, ◌++◌, IfOk, OnErr, OnOk};
 ghost use Rattle.dv_bag.specs.declared.entry.Entry.{Entry as MeantEntry};
 ghost use Rattle.dv_text.specs.Names.{tree_names, tree_ports};
-ghost use Rattle.dv_text.specs.Texts.{entry_text, names_at, port_text};
+ghost use Rattle.dv_text.specs.Texts.{port_text};
 ghost use Rattle.dv_tree.specs.Paths.{name_at};
 ghost use Rattle.dv_lines.specs.Entries.{line_of};
 
 use crate::laws::words_say_the_names;
 use crate::lines::Lines;
-use crate::told::{faulted, transition};
 use crate::words::Words;
 use crate::written_record::WrittenRecords;
-use dv_bag::{Bag, Entry, What};
+use dv_bag::Bag;
 use dv_tree::Tree;
 use dv_written::OfJob;
 use std::alloc::{AllocError, Global};
@@ -70,26 +69,6 @@ impl<'t> TreeWords<'t> {
         // For the prover alone.
         words_say_the_names();
         WrittenRecords::new(&self.words)
-    }
-
-    /// Appends the line of an entry.
-    ///
-    /// # Errors
-    ///
-    /// No memory for it. The lines are as before.
-    pub fn put_entry(&self, lines: &mut Lines, entry: &Entry) -> Result<(), AllocError>
-        ensures ok { OnOk result (lines.new ≡ lines.old
-            ++ entry_text (names_at (tree_names self.now) entry.now.component) entry.now) }
-        ensures err { OnErr result (lines.new ≡ lines.old) }
-    {
-        let (time, component) = (entry.time, entry.component);
-        let sent = &entry.sent;
-        match &entry.what {
-            What::Transition { kind, state } => {
-                transition(lines, &self.words, time, component, *kind, state, sent)
-            }
-            What::Fault(fault) => faulted(lines, &self.words, time, component, *fault, sent),
-        }
     }
 
     /// Appends what left at a port to an output line.

@@ -9,13 +9,14 @@ ghost use Rattle.dv_bag.specs.Collections.{values_in};
 ghost use Rattle.dv_bag.specs.Sent.{RiseFrom, pairs_at};
 ghost use Rattle.dv_text.specs.Texts.{datum_text, numbers_text, values_text};
 ghost use Rattle.dv_text.specs.Writing.{values_from};
-ghost use Rattle.dv_lines.specs.Rooms.{IsPut};
+ghost use Rattle.dv_written.specs.Rooms.{IsPut};
 ghost use Rattle.dv_lines.specs.Words.{word_text, variables_words, one_words, sent_words};
 
 use crate::numbers::put_number;
-use crate::pieces::{Word, put_byte, put_few_bytes, put_word};
+use crate::pieces::{Word, put_byte, put_word};
 use dv_bag::sent::Sending;
 use dv_bag::{Bag, Collection, Datum, Queue, Sent, Variables};
+use dv_written::put_few_bytes;
 
 // Puts a value, with a comma before it unless it is the first.
 #[inline(always)]

@@ -5,9 +5,11 @@ ghost use Rattle.dv_bag.specs.declared.entry.Entry.{Entry as MeantEntry};
 ghost use Rattle.dv_text.specs.Names.{tree_names};
 ghost use Rattle.dv_lines.specs.Entries.{line_of};
 
-use crate::lines::Lines;
+use crate::stamp::Stamp;
 use crate::tree_words::TreeWords;
+use crate::written_record::WrittenRecords;
 use dv_bag::{Entry, Part, What};
+use dv_time::Time;
 use dv_written::{OfJob, WrittenPart};
 use std::alloc::{AllocError, Global};
 
@@ -41,33 +43,30 @@ fn written_entries<N: OfJob>(
     ensures { IfOk result (λ written.
         written ≡ record { entries = part.now.entries; outer = [] }) }
 {
+    let records: WrittenRecords<N> = words.records();
     let mut written = WrittenPart::new(alloc);
-    let mut lines = Lines::new(alloc);
+    let mut stamp = Stamp::of(Time::ZERO);
     for entry in part.entries() {
-        push_entry(&mut written, entry, words, &mut lines)?;
+        push_entry(&records, &mut written, &mut stamp, entry)?;
     }
     Ok(written)
 }
 
-// Appends an entry. Its line is made in `lines`, whose content is replaced.
+// Appends an entry with its line.
 fn push_entry<N: OfJob>(
+    records: &WrittenRecords<N>,
     written: &mut WrittenPart<N>,
+    stamp: &mut Stamp,
     entry: &Entry,
-    words: &TreeWords,
-    lines: &mut Lines,
 ) -> Result<(), AllocError>
-    requires { (e : MeantEntry) → line_of (tree_names words.now) e ≡ N.line e }
     ensures { OnOk result (written.new
         ≡ record written.old { entries = written.old.entries ++ entry.now ∷ [] }) }
 {
-    lines.clear();
-    words.put_entry(lines, entry)?;
-    let line = lines.as_bytes();
     let (time, component, sent) = (entry.time, entry.component, &entry.sent);
     match &entry.what {
         What::Transition { kind, state } => {
-            written.push_moved(line, time, component, *kind, state, sent)
+            records.push_moved(written, stamp, time, component, *kind, state, sent)
         }
-        What::Fault(fault) => written.push_faulted(line, time, component, *fault, sent),
+        What::Fault(fault) => records.push_faulted(written, stamp, time, component, *fault, sent),
     }
 }

@@ -1,14 +1,18 @@
 //! A record that keeps entries as lines, and what makes such records.
 
-ghost use Rattle.std.specs.Prelude.{◌≡◌, ◌≤◌, ◌^◌, List, OnErr, OnOk, length};
+ghost use Rattle.std.specs.Prelude.{◌≡◌, ◌≤◌, ◌∷◌, ◌++◌, ◌^◌, [], List, OnErr, OnOk, length};
+ghost use Rattle.dv_bag.specs.Bag.{Counts};
 ghost use Rattle.dv_bag.specs.declared.entry.Entry.{Entry};
 ghost use Rattle.dv_bag.specs.declared.entry.Outer.{Outer as OuterOfCode};
+ghost use Rattle.dv_bag.specs.declared.entry.What.{What};
 ghost use Rattle.dv_bag.specs.declared.entry.What.TheVariants as what;
 ghost use Rattle.dv_record.specs.Told.{entry, lines_from, with_lines};
 ghost use Rattle.dv_lines.specs.Entries.{line_by};
 ghost use Rattle.dv_lines.specs.Tables.{rows_found};
+ghost use Rattle.dv_lines.specs.Words.{line_words, words_found};
 
-use crate::lines::Lines;
+use crate::line::{ComponentWords, FaultLine, TransitionLine};
+use crate::stamp::Stamp;
 use crate::words::Words;
 use dv_bag::{Bags, Fault, Kind, Outer, Sent, State};
 use dv_record::{History, Record};
@@ -55,38 +59,77 @@ impl<'w, N: OfJob> WrittenRecords<'w, N> {
         }
     }
 
-    // Makes the line of a transition. The content of `lines` is replaced.
-    #[inline]
-    fn put_transition(
+    // The words of a component. A line that is made of them is the one that the job prints.
+    #[inline(always)]
+    fn component(&self, component: u32) -> ComponentWords<'_>
+        ensures { (t : Time) (w : What) (sent : List Counts)
+            → line_words (words_found result) t w sent ≡ N.line (entry t component w sent) }
+    {
+        self.words.component(component)
+    }
+
+    /// Appends a transition of a component to a part, with the state after it and what it sent.
+    /// Its line is made where it stays. `stamp` may have any time before.
+    ///
+    /// # Errors
+    ///
+    /// No memory for it. The part is as before.
+    #[inline(always)]
+    pub(crate) fn push_moved(
         &self,
-        lines: &mut Lines,
-        now: Time,
+        part: &mut WrittenPart<N>,
+        stamp: &mut Stamp,
+        time: Time,
         component: u32,
         kind: Kind,
         state: &State,
         sent: &Sent,
     ) -> Result<(), AllocError>
-        ensures { OnOk result (lines.new
-            ≡ N.line (entry now component (what.Transition kind state.now) sent.now)) }
+        ensures ok { OnOk result (part.new ≡ record part.old {
+          entries = part.old.entries
+              ++ entry time component (what.Transition kind state.now) sent.now ∷ [];
+        }) }
+        ensures err { OnErr result (part.new ≡ part.old) }
     {
-        lines.clear();
-        lines.transition(&self.words.component(component), now, kind, state, sent)
+        let words = self.component(component);
+        let line = TransitionLine {
+            words: &words,
+            stamp: stamp.at(time),
+            kind,
+            state,
+            sent,
+        };
+        part.push_moved(&line, time, component, kind, state, sent)
     }
 
-    // Makes the line of a fault. The content of `lines` is replaced.
-    fn put_fault(
+    /// Appends a fault of a component to a part, with what it sent. Its line is made where it
+    /// stays. `stamp` may have any time before.
+    ///
+    /// # Errors
+    ///
+    /// No memory for it. The part is as before.
+    pub(crate) fn push_faulted(
         &self,
-        lines: &mut Lines,
-        now: Time,
+        part: &mut WrittenPart<N>,
+        stamp: &mut Stamp,
+        time: Time,
         component: u32,
         fault: Fault,
         sent: &Sent,
     ) -> Result<(), AllocError>
-        ensures { OnOk result (lines.new
-            ≡ N.line (entry now component (what.Fault fault) sent.now)) }
+        ensures ok { OnOk result (part.new ≡ record part.old {
+          entries = part.old.entries ++ entry time component (what.Fault fault) sent.now ∷ [];
+        }) }
+        ensures err { OnErr result (part.new ≡ part.old) }
     {
-        lines.clear();
-        lines.faulted(&self.words.component(component), now, fault, sent)
+        let words = self.component(component);
+        let line = FaultLine {
+            words: &words,
+            stamp: stamp.at(time),
+            fault,
+            sent,
+        };
+        part.push_faulted(&line, time, component, fault, sent)
     }
 }
 
@@ -94,7 +137,7 @@ impl<'w, N: OfJob> MakesRecord<WrittenRecord<'w, N>> for WrittenRecords<'w, N> {
     fn make(&self, alloc: Global) -> Result<WrittenRecord<'w, N>, AllocError> {
         Ok(WrittenRecord {
             by: WrittenRecords::new(self.words),
-            line: Lines::new(alloc),
+            stamp: Stamp::of(Time::ZERO),
             kept: WrittenPart::with_room(alloc, ENTRIES_AT_FIRST, BYTES_AT_FIRST),
             entries: 0,
             lines: 0,
@@ -111,8 +154,8 @@ impl<'w, N: OfJob> MakesRecord<WrittenRecord<'w, N>> for WrittenRecords<'w, N> {
 #[derive(Drop)]
 pub struct WrittenRecord<'w, N: OfJob> {
     by: WrittenRecords<'w, N>,
-    // Where a line is made before it is kept.
-    line: Lines,
+    // The text of the last time.
+    stamp: Stamp,
     kept: WrittenPart<N>,
     // How many entries and output lines are settled.
     entries: usize,
@@ -161,11 +204,9 @@ impl<'w, N: OfJob> Record for WrittenRecord<'w, N> {
         state: &State,
         sent: &Sent,
     ) -> Result<(), AllocError> {
+        let (kept, stamp) = (&mut self.kept, &mut self.stamp);
         self.by
-            .put_transition(&mut self.line, time, component, kind, state, sent)?;
-        let line = self.line.as_bytes();
-        self.kept
-            .push_moved(line, time, component, kind, state, sent)?;
+            .push_moved(kept, stamp, time, component, kind, state, sent)?;
         self.told = self.told.and_moved(&time, &component, &kind, state, sent);
         Ok(())
     }
@@ -177,10 +218,9 @@ impl<'w, N: OfJob> Record for WrittenRecord<'w, N> {
         fault: Fault,
         sent: &Sent,
     ) -> Result<(), AllocError> {
+        let (kept, stamp) = (&mut self.kept, &mut self.stamp);
         self.by
-            .put_fault(&mut self.line, time, component, fault, sent)?;
-        let line = self.line.as_bytes();
-        self.kept.push_faulted(line, time, component, fault, sent)?;
+            .push_faulted(kept, stamp, time, component, fault, sent)?;
         self.told = self.told.and_faulted(&time, &component, &fault, sent);
         Ok(())
     }

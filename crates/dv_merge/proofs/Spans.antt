@@ -1,16 +1,29 @@
 -- Spans of entries, cut and merged.
-use Rattle.std.proofs.Common.{◌≡◌, ℕ, suc, ◌+◌, ◌-◌, ◌<◌, true, false, List, [], ◌∷◌, ◌++◌, length, take, drop, slice_get, Some, refl, sym}
+use Rattle.std.proofs.Common.{◌≡◌, ℕ, suc, ◌+◌, ◌-◌, ◌<◌, ◌≤◌, true, false, List, [], ◌∷◌, ◌++◌, length, take, drop, slice_get, Some, refl, sym}
 use Rattle.std.proofs.Common.{ap, ap₂, subst, ◌∙◌, arith}
 use Rattle.std.proofs.Math.Seq.{drop-append_seam}
 use Rattle.std.specs.List.{All, flat_map}
 use Rattle.std.proofs.lemmas.Bool.{cond-true, cond-false}
 use Rattle.std.proofs.lemmas.List.Elements.{All-head, All-nil, All-tail}
-use Rattle.std.proofs.lemmas.List.{take_all}
+use Rattle.std.proofs.lemmas.List.{length-append, take_all, take_at}
 use Rattle.std.proofs.lemmas.Option.{slice_get_within}
 use Rattle.dv_bag.specs.declared.entry.Entry.{Entry}
 use Rattle.dv_written.proofs.Lines.{text_cut}
 use Rattle.dv_merge.specs.Entries.{merged, precedes}
 use Rattle.dv_merge.proofs.Merging.{flips, merged-empty}
+
+-- the lines of the first entries
+pub text_shorter : {X : Type 0} (line : X → List ℕ) (es : List X) (n : ℕ)
+    → length (flat_map line (take n es)) ≤ length (flat_map line es)
+text_shorter line es n =
+    let both = ap length (text_cut line es n) ∙ length-append (flat_map line (take n es)) (flat_map line (drop n es)) in
+    omega (arith, both)
+
+pub text_front : {X : Type 0} (line : X → List ℕ) (es : List X) (n : ℕ)
+    → take (length (flat_map line (take n es))) (flat_map line es) ≡ flat_map line (take n es)
+text_front line es n =
+    let front = flat_map line (take n es) in
+    ap (take (length front)) (text_cut line es n) ∙ take_at front (flat_map line (drop n es)) (length front) refl
 
 -- the lines behind those of the first entries
 pub text_behind : {X : Type 0} (line : X → List ℕ) (es : List X) (n : ℕ)

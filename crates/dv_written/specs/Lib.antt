@@ -4,3 +4,5 @@ pub mod Faults
 pub mod Jobs
 -- The length of the lines that were not handed over yet.
 pub mod Rest
+-- What it means to put a text into a slice.
+pub mod Rooms

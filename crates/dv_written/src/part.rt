@@ -2,12 +2,14 @@
 
 ghost use Rattle.std.specs.Prelude.{◌≡◌, ◌<◌, ◌^◌, [], ◌∷◌, ◌++◌, length, take, IfOk, OnOk, OnErr};
 ghost use Rattle.std.specs.List.{flat_map};
+ghost use Rattle.std.specs.Vec.{vec_capacity, vec_len};
 ghost use Rattle.dv_bag.specs.Part.{joined, nothing, since};
 ghost use Rattle.dv_bag.specs.declared.entry.What.TheVariants as what;
 ghost use Rattle.dv_record.specs.Told.{entry};
 
 use crate::entry::WrittenEntry;
 use crate::job::OfJob;
+use crate::room::{Ready, Room, Text};
 use dv_bag::{Fault, Kind, Outer, Sent, State};
 use dv_time::Time;
 use std::alloc::{AllocError, Global};
@@ -20,7 +22,7 @@ use std::mem;
 #[derive(Drop)]
 pub struct WrittenPart<N: OfJob> {
     entries: Vec<WrittenEntry<N>>,
-    text: Vec<u8>,
+    text: Room,
     outer: Vec<Outer>,
 }
 
@@ -33,7 +35,7 @@ impl<N: OfJob> Model for WrittenPart<N> {
 
     ghost view = { λ p. record { entries = p.entries.items; outer = p.outer.items } };
 
-    ghost invariant = { λ p. p.text.items ≡ flat_map N.line p.entries.items };
+    ghost invariant = { λ p. p.text ≡ flat_map N.line p.entries.items };
 }
 
 // A part has room in blocks of four kibibytes. An allocator keeps freed memory by its size: with
@@ -82,6 +84,26 @@ fn entries_since<N: OfJob>(
     Ok(rest)
 }
 
+// Makes room for one more entry, and appends its line to the text. Returns the length of the line in
+// bytes. If memory is refused, the text is as before.
+#[inline(always)]
+fn push_line<N: OfJob, T: Text>(
+    entries: &mut Vec<WrittenEntry<N>>,
+    text: &mut Room,
+    line: &T,
+) -> Result<usize, AllocError>
+    ensures entries { entries.new.items ≡ entries.old.items }
+    ensures room { OnOk result (vec_len entries.new < vec_capacity entries.new) }
+    ensures text { OnOk result (text.new ≡ text.old ++ T.bytes line.now) }
+    ensures bytes { IfOk result (λ bytes. bytes ≡ length (T.bytes line.now)) }
+    ensures err { OnErr result (text.new ≡ text.old) }
+{
+    let before = text.len();
+    entries.reserve(1)?;
+    text.append(line)?;
+    Ok(text.len() - before)
+}
+
 impl<N: OfJob> WrittenPart<N> {
     /// A part without entries and output lines. It takes no memory.
     pub fn new(alloc: Global) -> Self
@@ -89,7 +111,7 @@ impl<N: OfJob> WrittenPart<N> {
     {
         WrittenPart {
             entries: Vec::new(alloc),
-            text: Vec::new(alloc),
+            text: Room::new(alloc),
             outer: Vec::new(alloc),
         }
     }
@@ -103,7 +125,7 @@ impl<N: OfJob> WrittenPart<N> {
         let bytes = whole_blocks(bytes, BYTES_OF_A_BLOCK);
         WrittenPart {
             entries: Vec::with_capacity(alloc, entries).unwrap_or(Vec::new(alloc)),
-            text: Vec::with_capacity(alloc, bytes).unwrap_or(Vec::new(alloc)),
+            text: Room::with_room(alloc, bytes),
             outer: Vec::new(alloc),
         }
     }
@@ -115,8 +137,7 @@ impl<N: OfJob> WrittenPart<N> {
             (self.new ≡ record self.old { entries = self.old.entries ++ entry ∷ [] }) }
         ensures err { OnErr result (self.new ≡ self.old) }
     {
-        self.entries.reserve(1)?;
-        self.text.extend_from_slice(line)?;
+        push_line(&mut self.entries, &mut self.text, &Ready { text: line })?;
         self.entries.push_reserved(entry);
         Ok(())
     }
@@ -127,16 +148,17 @@ impl<N: OfJob> WrittenPart<N> {
     /// # Errors
     ///
     /// No memory for it. The part is as before.
-    pub fn push_moved(
+    #[inline(always)]
+    pub fn push_moved<T: Text>(
         &mut self,
-        line: &[u8],
+        line: &T,
         time: Time,
         component: u32,
         kind: Kind,
         state: &State,
         sent: &Sent,
     ) -> Result<(), AllocError>
-        requires { line.now
+        requires { T.bytes line.now
             ≡ N.line (entry time component (what.Transition kind state.now) sent.now) }
         ensures ok { OnOk result (self.new ≡ record self.old {
           entries = self.old.entries
@@ -144,8 +166,10 @@ impl<N: OfJob> WrittenPart<N> {
         }) }
         ensures err { OnErr result (self.new ≡ self.old) }
     {
-        let entry = WrittenEntry::moved(line.len(), time, component, kind, state, sent);
-        self.push(entry, line)
+        let bytes = push_line(&mut self.entries, &mut self.text, line)?;
+        let entry = WrittenEntry::moved(bytes, time, component, kind, state, sent);
+        self.entries.push_reserved(entry);
+        Ok(())
     }
 
     /// Appends a fault of a component at a time, with what it sent. `line` is its line.
@@ -153,23 +177,26 @@ impl<N: OfJob> WrittenPart<N> {
     /// # Errors
     ///
     /// No memory for it. The part is as before.
-    pub fn push_faulted(
+    pub fn push_faulted<T: Text>(
         &mut self,
-        line: &[u8],
+        line: &T,
         time: Time,
         component: u32,
         fault: Fault,
         sent: &Sent,
     ) -> Result<(), AllocError>
-        requires { line.now ≡ N.line (entry time component (what.Fault fault) sent.now) }
+        requires { T.bytes line.now
+            ≡ N.line (entry time component (what.Fault fault) sent.now) }
         ensures ok { OnOk result (self.new ≡ record self.old {
           entries = self.old.entries
               ++ entry time component (what.Fault fault) sent.now ∷ [];
         }) }
         ensures err { OnErr result (self.new ≡ self.old) }
     {
-        let entry = WrittenEntry::faulted(line.len(), time, component, fault, sent);
-        self.push(entry, line)
+        let bytes = push_line(&mut self.entries, &mut self.text, line)?;
+        let entry = WrittenEntry::faulted(bytes, time, component, fault, sent);
+        self.entries.push_reserved(entry);
+        Ok(())
     }
 
     /// Appends an output line.
@@ -232,13 +259,14 @@ impl<N: OfJob> WrittenPart<N> {
         ensures same { OnErr result (more.new ≡ more.old) }
     {
         self.entries.reserve(more.entries.len())?;
-        self.text.reserve(more.text.len())?;
-        self.outer.append(&mut more.outer)?;
+        self.outer.reserve(more.outer.len())?;
+        self.text.append_bytes(more.text.as_bytes())?;
         if self.entries.append(&mut more.entries).is_err()
-            || self.text.append(&mut more.text).is_err()
+            || self.outer.append(&mut more.outer).is_err()
         {
             unreachable!("room was made");
         }
+        more.text.clear();
         Ok(())
     }
 
@@ -262,8 +290,10 @@ impl<N: OfJob> WrittenPart<N> {
         ensures entries { self.new.entries ≡ take entries self.old.entries }
         ensures outer { self.new.outer ≡ take outer self.old.outer }
     {
-        self.entries.truncate(entries);
-        self.text.truncate(text_length(&self.entries));
+        let bytes = self.text.len();
+        let kept = entries.min(self.entries.len());
+        self.text.cut(bytes - text_length(&self.entries[kept..]));
+        self.entries.truncate(kept);
         self.outer.truncate(outer);
     }
 
@@ -275,7 +305,7 @@ impl<N: OfJob> WrittenPart<N> {
     pub fn since(mut self, alloc: Global, time: Time) -> Result<Self, AllocError>
         ensures { IfOk result (λ rest. rest ≡ since time self) }
     {
-        let mut rest = entries_since(alloc, self.entries, &self.text, time)?;
+        let mut rest = entries_since(alloc, self.entries, self.text.as_bytes(), time)?;
         self.outer.retain(|line| !line.time.is_before(time));
         rest.outer = self.outer;
         Ok(rest)
@@ -292,7 +322,7 @@ impl<N: OfJob> WrittenPart<N> {
     pub fn text(&self) -> &[u8]
         ensures { result.now ≡ flat_map N.line self.now.entries }
     {
-        &self.text
+        self.text.as_bytes()
     }
 
     /// The output lines in the order in which they were pushed. A run pushes them by time and port.

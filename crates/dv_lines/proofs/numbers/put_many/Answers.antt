@@ -1,5 +1,5 @@
 use Rattle.std.proofs.Common.{◌/◌, ◌++◌, arith, refl}
-use Rattle.dv_lines.specs.Rooms.{last_four}
+use Rattle.dv_lines.specs.Digits.{last_four}
 use Rattle.dv_lines.proofs.Behind.{put_behind}
 use Rattle.dv_lines.proofs.Digits.{by_last_eight}
 use Rattle.dv_lines.proofs.Stamps.{by_last_four}

@@ -2,7 +2,7 @@
 use Rattle.std.proofs.Common.{rules, ◌+◌, ◌≤◌, ◌++◌, take, length, ◌-◌, ap, ◌∙◌, arith}
 use Rattle.std.proofs.lemmas.List.{length-take-le}
 use borrow.Rule.Slice.PartMut.{put_mid, post_of}
-use Rattle.dv_lines.proofs.Behind.{behind}
+use Rattle.dv_written.proofs.Behind.{behind}
 use Rattle.dv_lines.proofs.pieces.put_sixteen.Goals as goal
 
 pub returns-clause-text : goal.returns-clause-text

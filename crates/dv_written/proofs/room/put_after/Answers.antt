@@ -1,6 +1,6 @@
 use Rattle.std.proofs.Common.{◌-◌, length}
-use Rattle.dv_lines.proofs.Behind.{rest_begins}
-use Rattle.dv_lines.proofs.room.put_after.Goals as goal
+use Rattle.dv_written.proofs.Behind.{rest_begins}
+use Rattle.dv_written.proofs.room.put_after.Goals as goal
 
 pub returns-clause-text : goal.returns-clause-text
 returns-clause-text g c =

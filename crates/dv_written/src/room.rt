@@ -1,7 +1,7 @@
 //! A room that grows, with texts in it one after the other.
 
 ghost use Rattle.std.specs.Prelude.{◌≡◌, ◌≤◌, ◌++◌, ℕ, List, [], if◌then◌else◌, length, take, IfSome, OnOk, OnErr};
-ghost use Rattle.dv_lines.specs.Rooms.{IsPut};
+ghost use Rattle.dv_written.specs.Rooms.{IsPut};
 
 use std::alloc::{AllocError, Global};
 use std::marker::Model;
@@ -16,6 +16,47 @@ pub trait Text {
     fn put(&self, to: &mut [u8]) -> Option<usize>
         ensures size { length to.new ≡ length to.old }
         ensures text { IfSome result (λ end. IsPut to.old 0 to.new end (bytes self.now)) };
+}
+
+/// Puts bytes into a slice, from an index on. Returns the index after the last byte, or `None` if
+/// there is not enough room.
+#[inline]
+pub fn put_bytes(to: &mut [u8], at: usize, bytes: &[u8]) -> Option<usize>
+    requires { at ≤ length to.old }
+    ensures size { length to.new ≡ length to.old }
+    ensures text { IfSome result (λ end. IsPut to.old at to.new end bytes.now) }
+{
+    put_few_bytes(to, at, bytes)
+}
+
+/// Puts bytes as `put_bytes` does. It is for bytes of which the number is known where it is called.
+#[inline(always)]
+pub fn put_few_bytes(to: &mut [u8], at: usize, bytes: &[u8]) -> Option<usize>
+    requires { at ≤ length to.old }
+    ensures size { length to.new ≡ length to.old }
+    ensures text { IfSome result (λ end. IsPut to.old at to.new end bytes.now) }
+{
+    if to.len() - at < bytes.len() {
+        return None;
+    }
+    to[at..at + bytes.len()].copy_from_slice(bytes);
+    Some(at + bytes.len())
+}
+
+/// Bytes that are text already.
+#[derive(Drop)]
+pub struct Ready<'l> {
+    /// The bytes.
+    pub text: &'l [u8],
+}
+
+impl<'l> Text for Ready<'l> {
+    ghost bytes = { λ r. r.text.now };
+
+    #[inline]
+    fn put(&self, to: &mut [u8]) -> Option<usize> {
+        put_bytes(to, 0, self.text)
+    }
 }
 
 /// Texts, one after the other, in a room that grows. A contract reads their bytes.
@@ -45,6 +86,16 @@ impl Room {
     {
         Room {
             bytes: Vec::new(alloc),
+            at: 0,
+        }
+    }
+
+    /// An empty room with memory for so many bytes. If there is no memory for them, it has none.
+    pub fn with_room(alloc: Global, bytes: usize) -> Self
+        ensures { result ≡ [] }
+    {
+        Room {
+            bytes: Vec::with_capacity(alloc, bytes).unwrap_or(Vec::new(alloc)),
             at: 0,
         }
     }
@@ -105,6 +156,21 @@ impl Room {
             self.grow()?;
         }
         Err(AllocError)
+    }
+
+    /// Appends many bytes. Unlike for a text, the memory behind them is not filled with zeros first.
+    ///
+    /// # Errors
+    ///
+    /// No memory for them. The room has the same bytes as before.
+    pub fn append_bytes(&mut self, bytes: &[u8]) -> Result<(), AllocError>
+        ensures ok { OnOk result (self.new ≡ self.old ++ bytes.now) }
+        ensures err { OnErr result (self.new ≡ self.old) }
+    {
+        self.bytes.truncate(self.at);
+        self.bytes.extend_from_slice(bytes)?;
+        self.at = self.bytes.len();
+        Ok(())
     }
 
     // Appends a text if there is enough memory already.
