@@ -1,5 +1,6 @@
 //! Texts with their syntax trees.
 
+use dv_expand::expand;
 use dv_explain::Position;
 use dv_explain::grammar::knows_queues;
 use dv_lex::{LoadError, Names, tokens};
@@ -46,11 +47,12 @@ pub fn read(alloc: Global, text: &[u8]) -> Result<Option<ReadText<'_>>, AllocErr
 
 fn parsed(alloc: Global, text: &[u8]) -> Result<ReadText<'_>, LoadError> {
     let lexed = tokens(alloc, text)?;
-    let file = parse(
+    let source = parse(
         alloc,
         &lexed.tokens,
         text.len().min(u32::MAX as usize) as u32,
     )?;
+    let file = expand(alloc, source)?;
     let knows_queues = knows_queues(&lexed.tokens);
     Ok(ReadText {
         text,

@@ -1,5 +1,5 @@
 -- What loading a text gives, step by step; and that a text has one answer.
-use Rattle.std.proofs.Common.{◌≡◌, ◌⊎◌, ℕ, List, Option, Some, None, Result, Err, ◌≤◌, ◌^◌, length, map, refl, ap, ◌∙◌, sym}
+use Rattle.std.proofs.Common.{◌≡◌, ◌⊎◌, ℕ, List, Option, Some, None, Result, Ok, Err, IfErr, ◌≤◌, ◌^◌, length, map, refl, ap, ◌∙◌, sym}
 use Rattle.std.proofs.Common.{subst, inl, inr, arith}
 use Rattle.std.proofs.lemmas.List.{length-map}
 use Rattle.dv_lex.specs.declared.token.Token.{Token}
@@ -65,6 +65,12 @@ unchecked (Refused r) text names tokens f lexed parsed refused =
       refused = broken (refusal_of f) (link_refusal f) r refused;
     }))
 unchecked Memory text names tokens f lexed parsed refused = tt
+
+pub unchecked_so : {T : Type 0} (checked : Result T LoadError) (text : List ℕ) (names : List (List ℕ)) (tokens : List Token)
+    (f : FileTree) → IsTokensOf text names tokens → IsFileOf tokens f → IfErr checked (IsAnswerTo f)
+    → IfErr checked (λ e. IsUnloaded e text)
+unchecked_so (Ok c) text names tokens f lexed parsed refused = tt
+unchecked_so (Err e) text names tokens f lexed parsed refused = unchecked e text names tokens f lexed parsed refused
 
 -- nor one that has too many links
 pub crowded : (e : LoadError) (text : List ℕ) (names : List (List ℕ)) (f : FileTree) → IsCheckedFileOf text names f →

@@ -16,6 +16,7 @@ use crate::ended::JobError;
 use dv_bag::Inputs;
 use dv_check::laws::{checked_files, files_of_texts_are_writable};
 use dv_check::{Checked, check};
+use dv_expand::expand;
 use dv_flat::{count_links, paths_of};
 use dv_inputs::{InputRefusal, InputsError, read_inputs};
 use dv_lex::{LoadError, answer, tokens};
@@ -50,9 +51,10 @@ fn read(alloc: Global, text: &[u8]) -> Result<Checked, LoadError>
     refusals_are_dead_ends();
     files_of_texts_are_writable();
     let lexed = tokens(alloc, text)?;
-    let file = parse(alloc, &lexed.tokens, text.len() as u32)?;
+    let source = parse(alloc, &lexed.tokens, text.len() as u32)?;
     // A text may have millions of tokens, and nothing needs them from here on.
     drop(lexed.tokens);
+    let file = expand(alloc, source)?;
     check(alloc, file, lexed.names)
 }
 

@@ -4,6 +4,5 @@ pub mod Expressions
 pub mod Climbing
 pub mod Statements
 pub mod Models
-pub mod Sorting
 pub mod OneAnswer
 pub mod Rows

@@ -1,5 +1,5 @@
 -- Readers, and lists of what one reader reads.
-use Rattle.std.proofs.Common.{◌≡◌, ℕ, zero, suc, ◌<◌, true, false, List, [], ◌∷◌, ◌++◌, length, Ok, Err, refl, sym, ap, subst}
+use Rattle.std.proofs.Common.{◌≡◌, ℕ, zero, suc, ◌<◌, Bool, true, false, List, [], ◌∷◌, ◌++◌, length, Ok, Err, refl, sym, ap, subst}
 use Rattle.std.proofs.Common.{◌∙◌, append_assoc, inl, inr, arith}
 use Rattle.std.specs.List.{flat_map, AllByRecursion}
 use Rattle.dv_lex.specs.declared.token.Token.{Token}
@@ -12,7 +12,7 @@ use Rattle.dv_parser.specs.declared.parse_error.ParseError.{ParseError}
 use Rattle.dv_parser.specs.declared.parse_error.ParseError.TheVariants as parse_error
 use Rattle.dv_parser.specs.Reading.{Obstacle, Read, Fails, read_then, becoming, choose, begins, many, many_at, with_front}
 use Rattle.dv_parser.specs.Reading.{braces_at, Reader, obstacle_of}
-use Rattle.dv_parser.proofs.Tokens.{then_ok, chosen, ok_is, err_ok, same_after, Spans, nothing, span_end, then_spans, split}
+use Rattle.dv_parser.proofs.Tokens.{then_ok, chosen, ok_is, err_is, err_ok, same_after, Spans, nothing, span_end, then_spans, split}
 use Rattle.dv_parser.proofs.Tokens.{first, after_spans}
 
 -- ---- Readers
@@ -147,6 +147,17 @@ pub later : {A B C : Type 0} (r : Read A) (f : A → Read C) (g : A → Read B) 
 unfolding read_then
 later (Ok x) f g h e = e x
 later (Err o) f g h e = refl
+
+pub same_chosen : {A B : Type 0} (b : Bool) (x y : Read A) (f : A → Read B) (u v : Read B) → u ≡ read_then x f → v ≡ read_then y f
+    → choose b u v ≡ read_then (choose b x y) f
+unfolding choose
+same_chosen true x y f u v p q = p
+same_chosen false x y f u v p q = q
+
+pub err_kept : {A B : Type 0} (r : Read A) (f : A → B) (o : Obstacle) → read_then r (λ x. Ok (f x)) ≡ Err o → r ≡ Err o
+unfolding read_then
+err_kept (Ok x) f o e = absurd cc
+err_kept (Err p) f o e = ap Err (err_is p o e)
 
 becoming_more : {A B : Type 0} (f g : List A → B) (x : A) (read : Read (List A × List Token)) → ((xs : List A) → f (x ∷ xs) ≡ g xs)
     → becoming f (read_then read (λ xs. Ok (x ∷ xs.0, xs.1))) ≡ becoming g read

@@ -34,10 +34,6 @@ use Rattle.dv_syntax.specs.declared.tree.End.{End}
 use Rattle.dv_syntax.specs.declared.tree.Part.{Part}
 use Rattle.dv_syntax.specs.declared.tree.Link.{Link}
 use Rattle.dv_syntax.specs.declared.tree.Declaration.TheVariants as declaration
-use Rattle.dv_parser.specs.declared.atomic.AtomicItem.{AtomicItem as CodeItem}
-use Rattle.dv_parser.specs.declared.atomic.AtomicItem.TheVariants as item
-use Rattle.dv_parser.specs.declared.coupled.CoupledItem.{CoupledItem as CodeCoupledItem}
-use Rattle.dv_parser.specs.declared.coupled.CoupledItem.TheVariants as coupled_item
 use Rattle.dv_parser.specs.declared.parse_error.Obstacle.{Obstacle as CodeObstacle}
 use Rattle.dv_parser.specs.declared.parse_error.Obstacle.TheVariants as obstacle
 use Rattle.dv_parser.specs.declared.parse_error.ParseError.{ParseError}
@@ -48,12 +44,11 @@ use Rattle.dv_lex.specs.declared.error.LoadError.{LoadError}
 use Rattle.dv_lex.specs.declared.error.LoadError.TheVariants as error
 use Rattle.dv_lex.specs.declared.error.Refusal.{Refusal}
 use Rattle.dv_lex.specs.declared.error.RefusalNumber.TheVariants.{E4, E5}
-use Rattle.dv_syntax.specs.Trees.{expression_of, row_statements, phases_of, hold_of, rule_of, Expression, Literal, TruthValue}
+use Rattle.dv_syntax.specs.Trees.{expression_of, row_statements, Expression, Literal, TruthValue}
 use Rattle.dv_syntax.specs.Trees.{Named, Parens, Prefixed, Binary, Call, Elapsed, Times, Statements, Done, Assign, Does, Send, If}
-use Rattle.dv_syntax.specs.Trees.{IfElse, For, Changes, AtomicTree, CoupledTree, ModelTree, AtomicModel, CoupledModel, FileTree}
+use Rattle.dv_syntax.specs.Trees.{IfElse, For, Changes}
 use Rattle.dv_syntax.specs.Written.{AtomicItem, Declares, Lists, Starts, Holds, Rules, CoupledItem, Inputs, Outputs, Contains}
-use Rattle.dv_syntax.specs.Written.{Couples, WrittenModel, WrittenAtomic, WrittenCoupled, WrittenFile, sorted_items}
-use Rattle.dv_syntax.specs.Written.{sorted_coupled_items}
+use Rattle.dv_syntax.specs.Written.{Couples, WrittenModel, WrittenAtomic, WrittenCoupled, WrittenFile}
 use Rattle.dv_syntax.specs.Grammar.{Limits, the_limits, prefix_kind, prefix_rank, operator_rank, left_rank, rank, depth}
 use Rattle.dv_syntax.specs.Grammar.{call_word, command_word, change_word, change_preposition, discipline_word, sort_word}
 
@@ -750,82 +745,3 @@ answer_of (parse_error.Stopped o) end = error.Refused (refusal_of (obstacle_of o
 abbrev pub IsRefused : LoadError → List Token → ℕ → Type 0
 IsRefused error.Memory ts end = Unit {0}
 IsRefused (error.Refused r) ts end = refusal_of_tokens ts end ≡ Some r
-
--- ---- What the code reads: items are sorted while they are read
-
-abbrev pub item_of : CodeItem → AtomicItem
-item_of (item.Declares d) = Declares d
-item_of (item.Lists p) = Lists (phases_of p)
-item_of (item.Starts s) = Starts s
-item_of (item.Holds h) = Holds (hold_of h)
-item_of (item.Rules r) = Rules (rule_of r)
-
-abbrev pub coupled_item_of : CodeCoupledItem → CoupledItem
-coupled_item_of (coupled_item.Inputs port) = Inputs port
-coupled_item_of (coupled_item.Outputs port) = Outputs port
-coupled_item_of (coupled_item.Contains part) = Contains part
-coupled_item_of (coupled_item.Couples link) = Couples link
-
--- a model, and behind its items those of a list
-abbrev pub with_items : AtomicTree → List AtomicItem → AtomicTree
-with_items m items = record {
-  name = m.name;
-  declarations = m.declarations ++ (sorted_items m.name items).declarations;
-  phases = m.phases ++ (sorted_items m.name items).phases;
-  starts = m.starts ++ (sorted_items m.name items).starts;
-  holds = m.holds ++ (sorted_items m.name items).holds;
-  rules = m.rules ++ (sorted_items m.name items).rules;
-}
-
-abbrev pub with_item : AtomicTree → AtomicItem → AtomicTree
-with_item m i = with_items m (i ∷ [])
-
-abbrev pub empty_atomic : Name → AtomicTree
-empty_atomic name = sorted_items name []
-
-abbrev pub with_coupled_items : CoupledTree → List CoupledItem → CoupledTree
-with_coupled_items m items = record {
-  name = m.name;
-  inputs = m.inputs ++ (sorted_coupled_items m.name items).inputs;
-  outputs = m.outputs ++ (sorted_coupled_items m.name items).outputs;
-  parts = m.parts ++ (sorted_coupled_items m.name items).parts;
-  links = m.links ++ (sorted_coupled_items m.name items).links;
-}
-
-abbrev pub with_coupled_item : CoupledTree → CoupledItem → CoupledTree
-with_coupled_item m i = with_coupled_items m (i ∷ [])
-
-abbrev pub empty_coupled : Name → CoupledTree
-empty_coupled name = sorted_coupled_items name []
-
-unfoldable pub atomic_tree_at : Reader AtomicTree
-atomic_tree_at ts = do
-  behind ← after (kind.Keyword keyword.Atomic) ts
-  n ← name_at behind
-  inside ← after (kind.Symbol symbol.OpenBrace) n.1
-  m ← becoming (with_items (empty_atomic n.0)) (many_at (item_at the_limits) (kind.Symbol symbol.CloseBrace) inside)
-  rest ← after (kind.Symbol symbol.CloseBrace) m.1
-  Ok (m.0, rest)
-
-unfoldable pub coupled_tree_at : Reader CoupledTree
-coupled_tree_at ts = do
-  behind ← after (kind.Keyword keyword.Coupled) ts
-  n ← name_at behind
-  inside ← after (kind.Symbol symbol.OpenBrace) n.1
-  m ← becoming (with_coupled_items (empty_coupled n.0)) (many_at coupled_item_at (kind.Symbol symbol.CloseBrace) inside)
-  rest ← after (kind.Symbol symbol.CloseBrace) m.1
-  Ok (m.0, rest)
-
-unfoldable pub tree_at : Reader ModelTree
-tree_at ts = choose (begins (kind.Keyword keyword.Coupled) ts)
-    (coupled_tree_at ts >>= λ m. Ok (CoupledModel m.0, m.1))
-    (atomic_tree_at ts >>= λ m. Ok (AtomicModel m.0, m.1))
-
-unfoldable pub file_tree_at : List Token → Read FileTree
-file_tree_at ts = do
-  header ← header_at ts
-  models ← many_at tree_at (kind.Keyword keyword.Root) header.1
-  behind ← after (kind.Keyword keyword.Root) models.1
-  n ← name_at behind
-  rest ← after (kind.Symbol symbol.Semicolon) n.1
-  choose (is_end rest) (Ok (record { models = models.0; root = n.0 })) (Err (obstacle_at rest))

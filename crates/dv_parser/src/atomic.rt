@@ -1,13 +1,13 @@
 //! Atomic models and their items.
 
-ghost use Rattle.std.specs.Prelude.{◌≡◌, [], OnOk, IfErr, IfOk};
-ghost use Rattle.dv_syntax.specs.Trees.{ticks_of, atomic_of};
+ghost use Rattle.std.specs.Prelude.{◌≡◌, map};
+ghost use Rattle.dv_source.specs.Sources.{item_of};
+ghost use Rattle.dv_syntax.specs.Trees.{ticks_of};
 ghost use Rattle.dv_syntax.specs.Grammar.{the_limits, discipline_word, sort_word};
 ghost use Rattle.dv_parser.specs.Reading.{Gives, Reads, with_front, many_at, braces_at, bound_at, variable_at, flag_at};
 ghost use Rattle.dv_parser.specs.Reading.{collection_at, begins_collection};
 ghost use Rattle.dv_parser.specs.Reading.{further_name_at, phases_at, start_at, ticks_at, hold_at, rule_at, begins_rule};
-ghost use Rattle.dv_parser.specs.Reading.{any_rule_at, port_at, item_at, item_of, with_item, with_items, empty_atomic, becoming};
-ghost use Rattle.dv_parser.specs.Reading.{atomic_tree_at};
+ghost use Rattle.dv_parser.specs.Reading.{any_rule_at, port_at, item_at, atomic_at};
 
 use crate::expression::expression;
 use crate::parse_error::{Obstacle, ParseError};
@@ -18,32 +18,18 @@ use crate::token::{
 };
 use dv_bag::Discipline;
 use dv_lex::{Keyword, Symbol, Token, TokenKind};
+use dv_source::{SourceAtomic, SourceItem};
 use dv_syntax::{
-    Atomic, Bound, Declaration, Flag, Hold, Name, Phases, Rule, RuleSort, Start, StateCollection,
-    Ticks, Variable,
+    Bound, Declaration, Flag, Hold, Name, Phases, Rule, RuleSort, Start, StateCollection, Ticks,
+    Variable,
 };
-use std::alloc::{AllocError, Global};
+use std::alloc::Global;
 
 /// How deep the blocks of a rule may be nested.
 const BLOCK_LIMIT: u32 = 16;
 
 /// How deep the loops of a rule may be nested.
 const LOOP_LIMIT: u32 = 3;
-
-/// An item of an atomic model.
-#[derive(Drop)]
-pub enum AtomicItem {
-    /// A port, a variable, a flag, a bag or a queue.
-    Declares(Declaration),
-    /// Phases.
-    Lists(Phases),
-    /// The start.
-    Starts(Start),
-    /// The hold of a phase.
-    Holds(Hold),
-    /// A rule of a phase.
-    Rules(Rule),
-}
 
 /// A number, with or without a minus sign.
 #[tactic(auto, unfolding(crate::specs::Reading::bound_at, crate::specs::Reading::read_then, crate::specs::Reading::choose))]
@@ -197,7 +183,7 @@ fn further_names(
 
 /// `phases first, second, ..;`
 #[tactic(auto, unfolding(crate::specs::Reading::phases_at, crate::specs::Reading::read_then))]
-fn phases(alloc: Global, tokens: &[Token]) -> Result<(AtomicItem, &[Token]), ParseError>
+fn phases(alloc: Global, tokens: &[Token]) -> Result<(SourceItem, &[Token]), ParseError>
     ensures { Gives (λ x. (item_of x.0, x.1.now)) result (phases_at tokens.now) }
 {
     let offset = first_offset(tokens);
@@ -208,19 +194,19 @@ fn phases(alloc: Global, tokens: &[Token]) -> Result<(AtomicItem, &[Token]), Par
     let (mut names, rest) = further_names(names, rest)?;
     let rest = after_symbol(rest, Symbol::Semicolon)?;
     names.shrink_to_fit();
-    Ok((AtomicItem::Lists(Phases { offset, names }), rest))
+    Ok((SourceItem::Lists(Phases { offset, names }), rest))
 }
 
 /// `start phase;`
 #[tactic(auto, unfolding(crate::specs::Reading::start_at, crate::specs::Reading::read_then))]
-fn start(tokens: &[Token]) -> Result<(AtomicItem, &[Token]), Obstacle>
+fn start(tokens: &[Token]) -> Result<(SourceItem, &[Token]), Obstacle>
     ensures { Reads (λ x. (item_of x.0, x.1.now)) result (start_at tokens.now) }
 {
     let offset = first_offset(tokens);
     let rest = after_keyword(tokens, Keyword::Start)?;
     let (phase, rest) = name(rest)?;
     let rest = after_symbol(rest, Symbol::Semicolon)?;
-    Ok((AtomicItem::Starts(Start { offset, phase }), rest))
+    Ok((SourceItem::Starts(Start { offset, phase }), rest))
 }
 
 /// `forever`, or an expression.
@@ -239,7 +225,7 @@ fn ticks(alloc: Global, tokens: &[Token]) -> Result<(Ticks, &[Token]), ParseErro
 
 /// `hold phase: ticks;`
 #[tactic(auto, unfolding(crate::specs::Reading::hold_at, crate::specs::Reading::read_then))]
-fn hold(alloc: Global, tokens: &[Token]) -> Result<(AtomicItem, &[Token]), ParseError>
+fn hold(alloc: Global, tokens: &[Token]) -> Result<(SourceItem, &[Token]), ParseError>
     ensures { Gives (λ x. (item_of x.0, x.1.now)) result (hold_at the_limits tokens.now) }
 {
     let offset = first_offset(tokens);
@@ -253,7 +239,7 @@ fn hold(alloc: Global, tokens: &[Token]) -> Result<(AtomicItem, &[Token]), Parse
         phase,
         ticks,
     };
-    Ok((AtomicItem::Holds(hold), rest))
+    Ok((SourceItem::Holds(hold), rest))
 }
 
 /// The first word of a rule of this sort.
@@ -274,13 +260,13 @@ fn rule(
     alloc: Global,
     tokens: &[Token],
     sort: RuleSort,
-) -> Result<(AtomicItem, &[Token]), ParseError>
+) -> Result<(SourceItem, &[Token]), ParseError>
     ensures { Gives (λ x. (item_of x.0, x.1.now)) result (rule_at the_limits sort tokens.now) }
 {
     let rest = after_keyword(tokens, word_of(sort))?;
     let (phase, rest) = name(rest)?;
     let (body, rest) = block(alloc, rest, BLOCK_LIMIT, LOOP_LIMIT)?;
-    Ok((AtomicItem::Rules(Rule { sort, phase, body }), rest))
+    Ok((SourceItem::Rules(Rule { sort, phase, body }), rest))
 }
 
 /// Whether the first token is the word of a rule of this sort.
@@ -292,7 +278,7 @@ fn begins_with_rule(tokens: &[Token], sort: RuleSort) -> bool
 
 /// A rule, by its word.
 #[tactic(auto, unfolding(crate::specs::Reading::any_rule_at, crate::specs::Reading::choose))]
-fn any_rule(alloc: Global, tokens: &[Token]) -> Result<(AtomicItem, &[Token]), ParseError>
+fn any_rule(alloc: Global, tokens: &[Token]) -> Result<(SourceItem, &[Token]), ParseError>
     ensures { Gives (λ x. (item_of x.0, x.1.now)) result (any_rule_at the_limits tokens.now) }
 {
     if begins_with_rule(tokens, RuleSort::Output) {
@@ -319,36 +305,36 @@ pub fn port(tokens: &[Token], word: Keyword) -> Result<(Name, &[Token]), Obstacl
 
 /// The item at the front.
 #[tactic(auto, unfolding(crate::specs::Reading::item_at, crate::specs::Reading::read_then, crate::specs::Reading::choose))]
-fn item(alloc: Global, tokens: &[Token]) -> Result<(AtomicItem, &[Token]), ParseError>
+fn item(alloc: Global, tokens: &[Token]) -> Result<(SourceItem, &[Token]), ParseError>
     ensures { Gives (λ x. (item_of x.0, x.1.now)) result (item_at the_limits tokens.now) }
 {
     if begins_with_keyword(tokens, Keyword::In) {
         let (port, rest) = port(tokens, Keyword::In)?;
-        Ok((AtomicItem::Declares(Declaration::In(port)), rest))
+        Ok((SourceItem::Declares(Declaration::In(port)), rest))
     } else if begins_with_keyword(tokens, Keyword::Out) {
         let (port, rest) = port(tokens, Keyword::Out)?;
-        Ok((AtomicItem::Declares(Declaration::Out(port)), rest))
+        Ok((SourceItem::Declares(Declaration::Out(port)), rest))
     } else if begins_with_keyword(tokens, Keyword::Var) {
         let (variable, rest) = match variable(tokens) {
             Ok(read) => read,
             Err(obstacle) => return Err(ParseError::Stopped(obstacle)),
         };
-        Ok((AtomicItem::Declares(Declaration::Var(variable)), rest))
+        Ok((SourceItem::Declares(Declaration::Var(variable)), rest))
     } else if begins_with_keyword(tokens, Keyword::Flag) {
         let (flag, rest) = flag(tokens)?;
-        Ok((AtomicItem::Declares(Declaration::Flag(flag)), rest))
+        Ok((SourceItem::Declares(Declaration::Flag(flag)), rest))
     } else if begins_with_collection(tokens, Discipline::Bag) {
         let (bag, rest) = match collection(tokens, Discipline::Bag) {
             Ok(read) => read,
             Err(obstacle) => return Err(ParseError::Stopped(obstacle)),
         };
-        Ok((AtomicItem::Declares(Declaration::Held(bag)), rest))
+        Ok((SourceItem::Declares(Declaration::Held(bag)), rest))
     } else if begins_with_collection(tokens, Discipline::Queue) {
         let (queue, rest) = match collection(tokens, Discipline::Queue) {
             Ok(read) => read,
             Err(obstacle) => return Err(ParseError::Stopped(obstacle)),
         };
-        Ok((AtomicItem::Declares(Declaration::Held(queue)), rest))
+        Ok((SourceItem::Declares(Declaration::Held(queue)), rest))
     } else if begins_with_keyword(tokens, Keyword::Phases) {
         phases(alloc, tokens)
     } else if begins_with_keyword(tokens, Keyword::Start) {
@@ -360,83 +346,33 @@ fn item(alloc: Global, tokens: &[Token]) -> Result<(AtomicItem, &[Token]), Parse
     }
 }
 
-/// Adds an item to the list of its kind.
-fn add(atomic: &mut Atomic, item: AtomicItem) -> Result<(), ParseError>
-    ensures added { OnOk result
-        (atomic_of atomic.new ≡ with_item (atomic_of atomic.old) (item_of item)) }
-    ensures memory { IfErr result (λ e. e ≡ ParseError.Memory) }
+/// The items before the closing brace of their model.
+fn items(alloc: Global, tokens: &[Token]) -> Result<(Vec<SourceItem>, &[Token]), ParseError>
+    ensures { Gives (λ x. (map item_of x.0.items, x.1.now)) result
+        (many_at (item_at the_limits) (TokenKind.Symbol Symbol.CloseBrace) tokens.now) }
 {
-    match item {
-        AtomicItem::Declares(declaration) => atomic.declarations.push(declaration)?,
-        AtomicItem::Lists(phases) => atomic.phases.push(phases)?,
-        AtomicItem::Starts(start) => atomic.starts.push(start)?,
-        AtomicItem::Holds(hold) => atomic.holds.push(hold)?,
-        AtomicItem::Rules(rule) => atomic.rules.push(rule)?,
-    }
-    Ok(())
-}
-
-/// Frees the memory that no item of the model needs: a text may have very many models of a few
-/// items each.
-fn trim(atomic: &mut Atomic)
-    ensures { atomic_of atomic.new ≡ atomic_of atomic.old }
-{
-    atomic.declarations.shrink_to_fit();
-    atomic.phases.shrink_to_fit();
-    atomic.starts.shrink_to_fit();
-    atomic.holds.shrink_to_fit();
-    atomic.rules.shrink_to_fit();
-}
-
-/// Adds the items before the closing brace of their model.
-fn items(
-    alloc: Global,
-    mut atomic: Atomic,
-    tokens: &[Token],
-) -> Result<(Atomic, &[Token]), ParseError>
-    ensures { Gives (λ x. (atomic_of x.0, x.1.now)) result
-        (becoming (with_items (atomic_of atomic))
-        (many_at (item_at the_limits) (TokenKind.Symbol Symbol.CloseBrace) tokens.now)) }
-{
+    let mut items = Vec::new(alloc);
     let mut rest = tokens;
     while !begins_with_symbol(rest, Symbol::CloseBrace) {
         let (item, after) = item(alloc, rest)?;
-        add(&mut atomic, item)?;
+        items.push(item)?;
         rest = after;
     }
-    Ok((atomic, rest))
+    Ok((items, rest))
 }
 
-/// An atomic model without items, with memory for one item of phases and one start.
-///
-/// # Errors
-///
-/// No memory for them.
-fn empty(alloc: Global, name: Name) -> Result<Atomic, AllocError>
-    ensures { IfOk result (λ atomic. atomic_of atomic ≡ empty_atomic name) }
-{
-    let phases = Vec::with_capacity(alloc, 1)?;
-    let starts = Vec::with_capacity(alloc, 1)?;
-    Ok(Atomic {
-        name,
-        declarations: Vec::new(alloc),
-        phases,
-        starts,
-        holds: Vec::new(alloc),
-        rules: Vec::new(alloc),
-    })
-}
-
-/// `atomic name { .. }`
-#[tactic(auto, unfolding(crate::specs::Reading::atomic_tree_at, crate::specs::Reading::atomic_at, crate::specs::Reading::braces_at, crate::specs::Reading::read_then))]
-pub fn atomic(alloc: Global, tokens: &[Token]) -> Result<(Atomic, &[Token]), ParseError>
-    ensures { Gives (λ x. (atomic_of x.0, x.1.now)) result (atomic_tree_at tokens.now) }
+/// `atomic name { .. }`. It has no memory to spare: a text may have very many models of a few items
+/// each.
+#[tactic(auto, unfolding(crate::specs::Reading::atomic_at, crate::specs::Reading::braces_at, crate::specs::Reading::read_then))]
+pub fn atomic(alloc: Global, tokens: &[Token]) -> Result<(SourceAtomic, &[Token]), ParseError>
+    ensures { Gives (λ x. ((x.0.name, map item_of x.0.items.items), x.1.now)) result
+        (atomic_at the_limits tokens.now) }
 {
     let rest = after_keyword(tokens, Keyword::Atomic)?;
     let (name, rest) = name(rest)?;
     let rest = after_symbol(rest, Symbol::OpenBrace)?;
-    let (mut atomic, rest) = items(alloc, empty(alloc, name)?, rest)?;
+    let (mut items, rest) = items(alloc, rest)?;
     let rest = after_symbol(rest, Symbol::CloseBrace)?;
-    trim(&mut atomic);
-    Ok((atomic, rest))
+    items.shrink_to_fit();
+    Ok((SourceAtomic { name, items }, rest))
 }

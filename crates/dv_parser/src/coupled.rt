@@ -1,9 +1,8 @@
 //! Coupled models and their items.
 
-ghost use Rattle.std.specs.Prelude.{◌≡◌, OnOk, IfErr};
-ghost use Rattle.dv_syntax.specs.Trees.{coupled_of};
-ghost use Rattle.dv_parser.specs.Reading.{Gives, Reads, many_at, braces_at, end_at, part_at, link_at, coupled_item_at, coupled_item_of};
-ghost use Rattle.dv_parser.specs.Reading.{with_coupled_item, with_coupled_items, empty_coupled, becoming, coupled_tree_at};
+ghost use Rattle.std.specs.Prelude.{◌≡◌, map};
+ghost use Rattle.dv_source.specs.Sources.{coupled_item_of};
+ghost use Rattle.dv_parser.specs.Reading.{Gives, Reads, many_at, braces_at, end_at, part_at, link_at, coupled_item_at, coupled_at};
 
 use crate::atomic::port;
 use crate::parse_error::{Obstacle, ParseError};
@@ -11,21 +10,9 @@ use crate::token::{
     after_keyword, after_symbol, begins_with_keyword, begins_with_symbol, first_offset, name,
 };
 use dv_lex::{Keyword, Symbol, Token, TokenKind};
-use dv_syntax::{Coupled, End, Link, Name, Part};
+use dv_source::{SourceCoupled, SourceCoupledItem};
+use dv_syntax::{End, Link, Part};
 use std::alloc::Global;
-
-/// An item of a coupled model.
-#[derive(Clone, Copy)]
-pub enum CoupledItem {
-    /// An input port.
-    Inputs(Name),
-    /// An output port.
-    Outputs(Name),
-    /// A part.
-    Contains(Part),
-    /// A link.
-    Couples(Link),
-}
 
 /// `self.port` or `part.port`
 #[tactic(auto, unfolding(crate::specs::Reading::end_at, crate::specs::Reading::read_then, crate::specs::Reading::choose))]
@@ -80,87 +67,50 @@ fn link(tokens: &[Token]) -> Result<(Link, &[Token]), Obstacle>
 
 /// The item at the front.
 #[tactic(auto, unfolding(crate::specs::Reading::coupled_item_at, crate::specs::Reading::read_then, crate::specs::Reading::choose))]
-fn item(tokens: &[Token]) -> Result<(CoupledItem, &[Token]), Obstacle>
+fn item(tokens: &[Token]) -> Result<(SourceCoupledItem, &[Token]), Obstacle>
     ensures { Reads (λ x. (coupled_item_of x.0, x.1.now)) result (coupled_item_at tokens.now) }
 {
     if begins_with_keyword(tokens, Keyword::In) {
         let (port, rest) = port(tokens, Keyword::In)?;
-        Ok((CoupledItem::Inputs(port), rest))
+        Ok((SourceCoupledItem::Inputs(port), rest))
     } else if begins_with_keyword(tokens, Keyword::Out) {
         let (port, rest) = port(tokens, Keyword::Out)?;
-        Ok((CoupledItem::Outputs(port), rest))
+        Ok((SourceCoupledItem::Outputs(port), rest))
     } else if begins_with_keyword(tokens, Keyword::Part) {
         let (part, rest) = part(tokens)?;
-        Ok((CoupledItem::Contains(part), rest))
+        Ok((SourceCoupledItem::Contains(part), rest))
     } else {
         let (link, rest) = link(tokens)?;
-        Ok((CoupledItem::Couples(link), rest))
+        Ok((SourceCoupledItem::Couples(link), rest))
     }
 }
 
-/// Adds an item to the list of its kind.
-fn add(coupled: &mut Coupled, item: CoupledItem) -> Result<(), ParseError>
-    ensures added { OnOk result (coupled_of coupled.new
-        ≡ with_coupled_item (coupled_of coupled.old) (coupled_item_of item)) }
-    ensures memory { IfErr result (λ e. e ≡ ParseError.Memory) }
+/// The items before the closing brace of their model.
+fn items(alloc: Global, tokens: &[Token]) -> Result<(Vec<SourceCoupledItem>, &[Token]), ParseError>
+    ensures { Gives (λ x. (map coupled_item_of x.0.items, x.1.now)) result
+        (many_at coupled_item_at (TokenKind.Symbol Symbol.CloseBrace) tokens.now) }
 {
-    match item {
-        CoupledItem::Inputs(port) => coupled.inputs.push(port)?,
-        CoupledItem::Outputs(port) => coupled.outputs.push(port)?,
-        CoupledItem::Contains(part) => coupled.parts.push(part)?,
-        CoupledItem::Couples(link) => coupled.links.push(link)?,
-    }
-    Ok(())
-}
-
-/// Frees the memory that no item of the model needs.
-fn trim(coupled: &mut Coupled)
-    ensures { coupled_of coupled.new ≡ coupled_of coupled.old }
-{
-    coupled.inputs.shrink_to_fit();
-    coupled.outputs.shrink_to_fit();
-    coupled.parts.shrink_to_fit();
-    coupled.links.shrink_to_fit();
-}
-
-/// Adds the items before the closing brace of their model.
-fn items(mut coupled: Coupled, tokens: &[Token]) -> Result<(Coupled, &[Token]), ParseError>
-    ensures { Gives (λ x. (coupled_of x.0, x.1.now)) result
-        (becoming (with_coupled_items (coupled_of coupled))
-        (many_at coupled_item_at (TokenKind.Symbol Symbol.CloseBrace) tokens.now)) }
-{
+    let mut items = Vec::new(alloc);
     let mut rest = tokens;
     while !begins_with_symbol(rest, Symbol::CloseBrace) {
         let (item, after) = item(rest)?;
-        add(&mut coupled, item)?;
+        items.push(item)?;
         rest = after;
     }
-    Ok((coupled, rest))
+    Ok((items, rest))
 }
 
-/// A coupled model without items.
-fn empty(alloc: Global, name: Name) -> Coupled
-    ensures { coupled_of result ≡ empty_coupled name }
-{
-    Coupled {
-        name,
-        inputs: Vec::new(alloc),
-        outputs: Vec::new(alloc),
-        parts: Vec::new(alloc),
-        links: Vec::new(alloc),
-    }
-}
-
-/// `coupled name { .. }`
-#[tactic(auto, unfolding(crate::specs::Reading::coupled_tree_at, crate::specs::Reading::coupled_at, crate::specs::Reading::braces_at, crate::specs::Reading::read_then))]
-pub fn coupled(alloc: Global, tokens: &[Token]) -> Result<(Coupled, &[Token]), ParseError>
-    ensures { Gives (λ x. (coupled_of x.0, x.1.now)) result (coupled_tree_at tokens.now) }
+/// `coupled name { .. }`. It has no memory to spare, as atomic models have none.
+#[tactic(auto, unfolding(crate::specs::Reading::coupled_at, crate::specs::Reading::braces_at, crate::specs::Reading::read_then))]
+pub fn coupled(alloc: Global, tokens: &[Token]) -> Result<(SourceCoupled, &[Token]), ParseError>
+    ensures { Gives (λ x. ((x.0.name, map coupled_item_of x.0.items.items), x.1.now)) result
+        (coupled_at tokens.now) }
 {
     let rest = after_keyword(tokens, Keyword::Coupled)?;
     let (name, rest) = name(rest)?;
     let rest = after_symbol(rest, Symbol::OpenBrace)?;
-    let (mut coupled, rest) = items(empty(alloc, name), rest)?;
+    let (mut items, rest) = items(alloc, rest)?;
     let rest = after_symbol(rest, Symbol::CloseBrace)?;
-    trim(&mut coupled);
-    Ok((coupled, rest))
+    items.shrink_to_fit();
+    Ok((SourceCoupled { name, items }, rest))
 }

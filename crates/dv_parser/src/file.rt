@@ -1,9 +1,9 @@
 //! Files: a header or none, models, and the name of the root.
 
 ghost use Rattle.std.specs.Prelude.{◌≡◌, IfOk, IfErr, map};
-ghost use Rattle.dv_syntax.specs.Trees.{model_of, file_of};
-ghost use Rattle.dv_syntax.specs.Grammar.{IsFileOf};
-ghost use Rattle.dv_parser.specs.Reading.{Gives, IsRefused, many_at, tree_at, file_tree_at, obstacle_of};
+ghost use Rattle.dv_source.specs.Sources.{source_of, written_model};
+ghost use Rattle.dv_syntax.specs.Grammar.{IsWritten, the_limits};
+ghost use Rattle.dv_parser.specs.Reading.{Gives, IsRefused, many_at, model_at, file_at, obstacle_of};
 ghost use Rattle.dv_parser.specs.Reading.{Reads, header_at, version_at, refusal_of, answer_of};
 
 use crate::atomic::atomic;
@@ -14,27 +14,28 @@ use crate::token::{
     test_end,
 };
 use dv_lex::{Keyword, LoadError, Refusal, RefusalNumber, Symbol, Token, TokenKind};
-use dv_syntax::{File, Model, Version};
+use dv_source::{SourceFile, SourceModel};
+use dv_syntax::Version;
 use std::alloc::Global;
 
 /// The model at the front.
-#[tactic(auto, unfolding(crate::specs::Reading::tree_at, crate::specs::Reading::read_then, crate::specs::Reading::choose))]
-fn model(alloc: Global, tokens: &[Token]) -> Result<(Model, &[Token]), ParseError>
-    ensures { Gives (λ x. (model_of x.0, x.1.now)) result (tree_at tokens.now) }
+#[tactic(auto, unfolding(crate::specs::Reading::model_at, crate::specs::Reading::read_then, crate::specs::Reading::choose))]
+fn model(alloc: Global, tokens: &[Token]) -> Result<(SourceModel, &[Token]), ParseError>
+    ensures { Gives (λ x. (written_model x.0, x.1.now)) result (model_at the_limits tokens.now) }
 {
     if begins_with_keyword(tokens, Keyword::Coupled) {
         let (coupled, rest) = coupled(alloc, tokens)?;
-        Ok((Model::Coupled(coupled), rest))
+        Ok((SourceModel::Coupled(coupled), rest))
     } else {
         let (atomic, rest) = atomic(alloc, tokens)?;
-        Ok((Model::Atomic(atomic), rest))
+        Ok((SourceModel::Atomic(atomic), rest))
     }
 }
 
 /// The models before `root`.
-fn models(alloc: Global, tokens: &[Token]) -> Result<(Vec<Model>, &[Token]), ParseError>
-    ensures { Gives (λ x. (map model_of x.0.items, x.1.now)) result
-        (many_at tree_at (TokenKind.Keyword Keyword.Root) tokens.now) }
+fn models(alloc: Global, tokens: &[Token]) -> Result<(Vec<SourceModel>, &[Token]), ParseError>
+    ensures { Gives (λ x. (map written_model x.0.items, x.1.now)) result
+        (many_at (model_at the_limits) (TokenKind.Keyword Keyword.Root) tokens.now) }
 {
     let mut models = Vec::new(alloc);
     let mut rest = tokens;
@@ -76,17 +77,21 @@ fn header(tokens: &[Token]) -> Result<(Option<Version>, &[Token]), Obstacle>
 }
 
 /// All the tokens as a file.
-#[tactic(auto, unfolding(crate::specs::Reading::file_tree_at, crate::specs::Reading::obstacle_at, crate::specs::Reading::read_then, crate::specs::Reading::choose))]
-fn file(alloc: Global, tokens: &[Token]) -> Result<File, ParseError>
-    ensures { Gives file_of result (file_tree_at tokens.now) }
+#[tactic(auto, unfolding(crate::specs::Reading::file_at, crate::specs::Reading::obstacle_at, crate::specs::Reading::read_then, crate::specs::Reading::choose))]
+fn file(alloc: Global, tokens: &[Token]) -> Result<SourceFile, ParseError>
+    ensures { Gives source_of result (file_at the_limits tokens.now) }
 {
-    let (_, rest) = header(tokens)?;
+    let (header, rest) = header(tokens)?;
     let (models, rest) = models(alloc, rest)?;
     let rest = after_keyword(rest, Keyword::Root)?;
     let (root, rest) = name(rest)?;
     let rest = after_symbol(rest, Symbol::Semicolon)?;
     test_end(rest)?;
-    Ok(File { models, root })
+    Ok(SourceFile {
+        header,
+        models,
+        root,
+    })
 }
 
 /// The refusal of the tokens of a text that ends at this offset, by what stopped the parser.
@@ -119,7 +124,7 @@ fn load_error(error: ParseError, end: u32) -> LoadError
     }
 }
 
-/// The file that the tokens spell. `end` is the offset of the end of the text.
+/// The source that the tokens spell. `end` is the offset of the end of the text.
 ///
 /// # Errors
 ///
@@ -127,12 +132,12 @@ fn load_error(error: ParseError, end: u32) -> LoadError
 ///   token after which the tokens begin no file within the limits on depth: E5 if they still begin
 ///   one without these limits, else E4. If they end too early it is E4 at the end of the text.
 /// - `Memory`: no memory for the trees.
-pub fn parse(alloc: Global, tokens: &[Token], end: u32) -> Result<File, LoadError>
-    ensures tree { IfOk result (λ file. IsFileOf tokens.now (file_of file)) }
+pub fn parse(alloc: Global, tokens: &[Token], end: u32) -> Result<SourceFile, LoadError>
+    ensures tree { IfOk result (λ source. IsWritten the_limits tokens.now (source_of source)) }
     ensures refused { IfErr result (λ e. IsRefused e tokens.now end) }
 {
     match file(alloc, tokens) {
-        Ok(file) => Ok(file),
+        Ok(source) => Ok(source),
         Err(error) => Err(load_error(error, end)),
     }
 }

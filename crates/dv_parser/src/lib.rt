@@ -1,14 +1,14 @@
-//! The parser: from tokens to syntax trees.
+//! The parser: from tokens to sources.
 //!
-//! `parse` gives the `File` that the tokens spell, or their refusal: E4 if the tokens so far begin
-//! no file, E5 if they begin one that is nested too deeply. Laws say that no list of tokens spells
-//! two files, and that each spells one or is refused. The parser is a recursive descent with one
-//! function for each form; operators are read by their rank.
+//! `parse` gives the `SourceFile` that the tokens spell, or their refusal: E4 if the tokens so far
+//! begin no file, E5 if they begin one that is nested too deeply. Laws say that no list of tokens
+//! spells two files, and that each spells one or is refused. The parser is a recursive descent with
+//! one function for each form; operators are read by their rank.
 //!
-//! `dv_job` and `dv_views` parse the text of a model, and `dv_hints` parses a refused text again to
-//! find what is near. No name is looked up and no type is tested here: that is `dv_check`.
-//! `law_dead_ends` has the law that a refusal names the first token after which the tokens begin no
-//! file.
+//! `dv_job` parses the text of a model, and `dv_hints` parses a refused text again to find what is
+//! near; `dv_expand` makes a file of what was read. No name is looked up and no type is tested here:
+//! that is `dv_check`. `law_dead_ends` has the law that a refusal names the first token after which
+//! the tokens begin no file.
 #![tactic(auto)]
 
 /// A whole file, where parsing begins.

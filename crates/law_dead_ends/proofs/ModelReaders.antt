@@ -22,9 +22,8 @@ use Rattle.dv_parser.specs.Reading.{start_at, ticks_at, hold_at, rule_at, any_ru
 use Rattle.dv_parser.specs.Reading.{part_at, link_at, coupled_item_at, coupled_at, model_at, version_at, header_at, is_end, file_at}
 use Rattle.dv_parser.proofs.Tokens.{then_is, then_err}
 use Rattle.dv_parser.proofs.Models.{item_shortens, further_name_shortens, coupled_item_shortens, model_shortens, NoHeader, file_sound}
-use Rattle.dv_parser.proofs.Sorting.{same_chosen, err_kept}
 use Rattle.dv_parser.proofs.Expressions.{IsClosed}
-use Rattle.dv_parser.proofs.Readers.{Always, later}
+use Rattle.dv_parser.proofs.Readers.{Always, later, same_chosen, err_kept}
 use Rattle.law_dead_ends.specs.Refusals.{BeginsFileWithin}
 use Rattle.law_dead_ends.proofs.Depths.{HaveRoom, AreWidened, above, widened}
 use Rattle.law_dead_ends.proofs.Steady.{IsSteady, StopsThere}

@@ -21,6 +21,7 @@ use dv_bag::Inputs;
 use dv_check::laws::files_of_texts_are_writable;
 use dv_check::{Checked, check};
 use dv_coded::{Bench, Components, Lent, components_of};
+use dv_expand::expand;
 use dv_flat::{LinkLists, count_links, flatten};
 use dv_gen::laws::accepted_files_are_compilable;
 use dv_lex::{LoadError, tokens};
@@ -72,7 +73,8 @@ fn checked(alloc: Global, text: &str) -> Result<Checked, LoadError>
     // The file of a text could be written down.
     files_of_texts_are_writable();
     let found = tokens(alloc, text.as_bytes())?;
-    let file = parse(alloc, &found.tokens, text.len() as u32)?;
+    let source = parse(alloc, &found.tokens, text.len() as u32)?;
+    let file = expand(alloc, source)?;
     check(alloc, file, found.names)
 }
 

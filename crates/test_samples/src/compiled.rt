@@ -11,6 +11,7 @@ use dv_check::laws::files_of_texts_are_writable;
 use dv_check::{Checked, check};
 use dv_code::Valid;
 use dv_eval::{Scope, phase_ticks, rule_body, rule_of, start_state};
+use dv_expand::expand;
 use dv_gen::laws::accepted_files_are_compilable;
 use dv_gen::{ModelCode, PhaseCode, generate};
 use dv_lex::{LoadError, tokens};
@@ -30,7 +31,8 @@ pub fn checked(alloc: Global, text: &str) -> Result<Checked, LoadError>
     files_of_texts_are_writable();
     accepted_files_are_compilable();
     let found = tokens(alloc, text.as_bytes())?;
-    let file = parse(alloc, &found.tokens, text.len() as u32)?;
+    let source = parse(alloc, &found.tokens, text.len() as u32)?;
+    let file = expand(alloc, source)?;
     check(alloc, file, found.names)
 }
 
