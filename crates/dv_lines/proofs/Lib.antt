@@ -7,6 +7,7 @@ pub mod Recording
 pub mod Rounds
 pub mod Stamps
 pub mod Tables
+pub mod Unknown
 pub mod Walks
 pub mod Views
 pub mod Spans

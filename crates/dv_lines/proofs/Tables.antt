@@ -15,8 +15,8 @@ use Rattle.dv_tree.specs.Tables.{Source}
 use Rattle.dv_tree.specs.Paths.{name_at, texts_of, with_dots}
 use Rattle.dv_text.specs.Names.{instance_names, tree_names}
 use Rattle.dv_text.specs.Texts.{ComponentNames, names_at, no_names}
-use Rattle.dv_lines.specs.Words.{WordTexts, word_text}
-use Rattle.dv_lines.specs.Tables.{AreRows, AreWords, Extends, IsRow, IsWord, decorated, row_words, with_ends}
+use Rattle.dv_lines.specs.Words.{WordTexts, row_words, word_text}
+use Rattle.dv_lines.specs.Tables.{AreRows, AreWords, Extends, IsRow, IsWord, decorated, leads_of, with_ends}
 use Rattle.dv_lines.proofs.Digits.{head_text, part_text}
 use Rattle.dv_lines.specs.declared.pieces.Word.{Word}
 use Rattle.dv_lines.specs.declared.words.Row.{Row}
@@ -88,7 +88,8 @@ row_kept a b r t h is = (
   word_kept a b r.path t.path h is.0,
   words_kept a b r.phases.items t.phases h is.1,
   words_kept a b r.variables.items t.variables h is.2,
-  words_kept a b r.outputs.items t.outputs h is.3,
+  words_kept a b r.leads.items t.leads h is.3,
+  words_kept a b r.outputs.items t.outputs h is.4,
 )
 
 pub rows_kept : (a b : List ℕ) (rs : List Row) (ts : List WordTexts) → Extends a b → AreRows a rs ts → AreRows b rs ts
@@ -106,13 +107,13 @@ rows_push b (v ∷ rs) (u ∷ ts) r t are is = (are.0, rows_push b rs ts r t are
 
 row_text : (b : List ℕ) (r : Row) (t : WordTexts) → IsRow b r t → row_words b r ≡ t
 row_text b r t is =
-    let Made : List ℕ → List (List ℕ) → List (List ℕ) → List (List ℕ) → WordTexts =
-    λ p f v o. record { path = p; phases = f; variables = v; outputs = o } in
-    let text = map (word_text b) in
-    ap (λ p. Made p (text r.phases.items) (text r.variables.items) (text r.outputs.items)) is.0.1
-    ∙ ap (λ f. Made t.path f (text r.variables.items) (text r.outputs.items)) (words_texts b r.phases.items t.phases is.1)
-    ∙ ap (λ v. Made t.path t.phases v (text r.outputs.items)) (words_texts b r.variables.items t.variables is.2)
-    ∙ ap (λ o. Made t.path t.phases t.variables o) (words_texts b r.outputs.items t.outputs is.3)
+    rw (
+      is.0.1,
+      words_texts b r.phases.items t.phases is.1,
+      words_texts b r.variables.items t.variables is.2,
+      words_texts b r.leads.items t.leads is.3,
+      words_texts b r.outputs.items t.outputs is.4,
+    ) refl
 
 pub rows_texts : (b : List ℕ) (rs : List Row) (ts : List WordTexts) → AreRows b rs ts → map (row_words b) rs ≡ ts
 rows_texts b [] [] are = refl
@@ -148,6 +149,18 @@ names_more last names numbers i d lt =
     ap (λ ns. map (with_ends last) (texts_of names ns)) (take_more numbers i d lt)
     ∙ ap (map (with_ends last)) (map-append (name_at names) (take i numbers) (get_or numbers i d ∷ []))
     ∙ map-append (with_ends last) (texts_of names (take i numbers)) (name_at names (get_or numbers i d) ∷ [])
+
+-- the leads by the number of the first variable
+pub leads_by : (phases names : List (List ℕ)) (variables : List ℕ) (first : ℕ) → slice_get variables 0 ≡ Some first →
+    leads_of phases (texts_of names variables) ≡ map (with_ends (with_ends (61 ∷ []) (name_at names first))) phases
+leads_by phases names [] first is = cc
+leads_by phases names (v ∷ vs) first is =
+    let same : v ≡ first = cc in ap (λ n. map (with_ends (with_ends (61 ∷ []) (name_at names n))) phases) same
+
+pub no_leads : (phases names : List (List ℕ)) (variables : List ℕ) → slice_get variables 0 ≡ None →
+    leads_of phases (texts_of names variables) ≡ []
+no_leads phases names [] is = refl
+no_leads phases names (v ∷ vs) is = cc
 
 -- the path and the scope of a component give its names
 by_instance : (names : List (List ℕ)) (o : Option Instance) (text : List ℕ) (scope : Scope) →

@@ -1,6 +1,7 @@
 -- The words of a component: each name with the signs around it in a line.
 use Rattle.std.specs.Prelude.{ℕ, ℤ, nat_eq, nat_le, Bool, true, false, if◌then◌else◌, List, [], ◌∷◌, ◌++◌}
-use Rattle.std.specs.Prelude.{map, take, drop, slice_get, unwrap_or, codes}
+use Rattle.std.specs.Prelude.{map, take, drop, slice_get, unwrap_or, codes, Option, None, Some}
+use Rattle.std.specs.Borrow.{Bor}
 use Rattle.std.specs.Fmt.{signed_decimal}
 use Rattle.std.specs.List.{flat_map}
 use Rattle.std.specs.Option.{option_map}
@@ -8,6 +9,7 @@ use Rattle.dv_bag.specs.Bag.{Counts, size}
 use Rattle.dv_bag.specs.Words.{fault_word, kind_word}
 use Rattle.dv_bag.specs.declared.bags.PortBag.{PortBag}
 use Rattle.dv_bag.specs.declared.state.Datum.{Datum}
+use Rattle.dv_bag.specs.declared.state.State.{State}
 use Rattle.dv_bag.specs.declared.entry.What.{What}
 use Rattle.dv_bag.specs.declared.entry.What.TheVariants as what
 use Rattle.dv_time.specs.declared.time.Time.{Time}
@@ -15,6 +17,7 @@ use Rattle.dv_time.specs.Time.{time_text}
 use Rattle.dv_text.specs.Texts.{datum_text, values_text}
 use Rattle.dv_lines.specs.declared.pieces.Word.{Word}
 use Rattle.dv_lines.specs.declared.line.ComponentWords.{ComponentWords}
+use Rattle.dv_lines.specs.declared.words.Row.{Row}
 
 -- the bytes of a word: its head if it is short, else a part of other bytes
 abbrev pub word_text : List ℕ → Word → List ℕ
@@ -53,28 +56,56 @@ one_words words k v = unwrap_or (option_map (λ (w : List ℕ). 32 ∷ 62 ∷ (w
 abbrev pub sent_left : Bool → List (List ℕ) → List Counts → List ℕ
 sent_left is_first words bags = if is_first then sent_words words bags else ports_words words bags
 
--- the words of a component: ` PATH `, ` PHASE` for each phase, ` NAME=` for each variable, ` NAME:` for each output
+-- the words of a component: ` PATH `, ` PHASE` for each phase, ` NAME=` for each variable, ` NAME:` for each output; and for each phase
+-- ` PHASE NAME=` with the first variable, if there is one
 pub record WordTexts : Type 0 where
   pub path : List ℕ
   pub phases : List (List ℕ)
   pub variables : List (List ℕ)
+  pub leads : List (List ℕ)
   pub outputs : List (List ℕ)
+
+-- the words that the code made of a component
+abbrev pub row_words : List ℕ → Row → WordTexts
+row_words bytes r = record {
+  path = word_text bytes r.path;
+  phases = map (word_text bytes) r.phases.items;
+  variables = map (word_text bytes) r.variables.items;
+  leads = map (word_text bytes) r.leads.items;
+  outputs = map (word_text bytes) r.outputs.items;
+}
+
+-- the words where there is no such component
+abbrev pub no_words : WordTexts
+no_words = record { path = 32 ∷ 32 ∷ []; phases = []; variables = []; leads = []; outputs = [] }
+
+abbrev pub row_found : List ℕ → Option (Bor Row) → WordTexts
+row_found bytes None = no_words
+row_found bytes (Some r) = row_words bytes r.now
 
 -- the words of the code
 abbrev pub words_found : ComponentWords → WordTexts
-words_found w = record {
-  path = word_text w.bytes.now w.path.now;
-  phases = map (word_text w.bytes.now) w.phases.now;
-  variables = map (word_text w.bytes.now) w.variables.now;
-  outputs = map (word_text w.bytes.now) w.outputs.now;
-}
+words_found w = row_found w.all.now.bytes.items w.row
 
 -- the word of a phase; a blank past the last
 abbrev pub phase_at : List (List ℕ) → ℕ → List ℕ
 phase_at phases k = unwrap_or (slice_get phases k) (32 ∷ [])
 
+-- the phase and the variables of a state, word by word
+abbrev pub plain_words : WordTexts → State → List ℕ
+plain_words w s = phase_at w.phases s.phase ++ variables_words w.variables s.variables
+
+-- the same where the phase and the name of the first variable are one word
+abbrev pub led_words : Option (List ℕ) → List (List ℕ) → List Datum → List ℕ → List ℕ
+led_words None others ds plain = plain
+led_words (Some lead) others [] plain = plain
+led_words (Some lead) others (d ∷ ds) plain = (lead ++ datum_text d) ++ variables_words others ds
+
+abbrev pub state_words : WordTexts → State → List ℕ
+state_words w s = led_words (slice_get w.leads s.phase) (drop 1 w.variables) s.variables (plain_words w s)
+
 abbrev pub what_words : WordTexts → What → List ℕ
-what_words w (what.Transition k s) = kind_word k ++ (phase_at w.phases s.phase ++ variables_words w.variables s.variables)
+what_words w (what.Transition k s) = kind_word k ++ state_words w s
 what_words w (what.Fault f) = codes "fault " ++ fault_word f
 
 -- the line of what happened to a component

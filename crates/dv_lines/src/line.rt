@@ -1,41 +1,39 @@
 //! The lines of a trace, as texts that are put into a room.
 
-ghost use Rattle.std.specs.Prelude.{◌≡◌, ◌≤◌, ◌++◌, ◌∷◌, [], length, IfSome};
-ghost use Rattle.dv_bag.specs.Words.{kind_word};
+ghost use Rattle.std.specs.Prelude.{◌≡◌, ◌≤◌, ◌+◌, ◌++◌, ◌∷◌, [], codes, length, map, IfSome};
+ghost use Rattle.dv_bag.specs.Words.{fault_word, kind_word};
+ghost use Rattle.dv_bag.specs.declared.entry.What.TheVariants as what;
 ghost use Rattle.dv_time.specs.Time.{time_text};
 ghost use Rattle.dv_written.specs.Rooms.{IsPut};
-ghost use Rattle.dv_lines.specs.Words.{phase_at, sent_words, words_found};
+ghost use Rattle.dv_lines.specs.Words.{line_words, no_words, phase_at, plain_words, row_words, sent_words, state_words, word_text};
 
-use crate::pieces::{Word, put_byte, put_path, put_word};
+use crate::pieces::{Word, put_byte, put_near_byte, put_path, put_word};
 use crate::stamp::Stamp;
-use crate::values::{put_sent, put_values, put_variables};
+use crate::values::{put_near_variable, put_sent, put_values, put_variables, rest_of};
+use crate::words::{Row, Words};
 use dv_bag::{Bag, Fault, Kind, Sent, State};
 use dv_written::{Text, put_bytes};
 
-/// The words of a component, within bytes that hold the words of all components.
+/// The words of a component, within the words of all components.
 #[derive(Clone, Copy)]
 pub struct ComponentWords<'w> {
-    /// The bytes that the words are in.
-    pub bytes: &'w [u8],
-    /// The path of the component, with a blank on both sides.
-    pub path: &'w Word,
-    /// The names of its phases in the order of their declaration, each after a blank.
-    pub phases: &'w [Word],
-    /// The names of its state variables in the order of their declaration, each as ` NAME=`.
-    pub variables: &'w [Word],
-    /// The names of its output ports in the order of their declaration, each as ` NAME:`.
-    pub outputs: &'w [Word],
+    /// The words of all components.
+    pub all: &'w Words,
+    /// The words of the component, or `None` if there is no such component.
+    pub row: Option<&'w Row>,
 }
 
-// Puts the front of a line: the time and the path of a component.
+// Puts the front of a line: the time and the path of a component. Behind it there is room for 19
+// bytes.
 #[inline(always)]
-fn put_front(to: &mut [u8], words: &ComponentWords, stamp: &Stamp) -> Option<usize>
+fn put_front(to: &mut [u8], stamp: &Stamp, words: &Words, path: &Word) -> Option<usize>
     ensures size { length to.new ≡ length to.old }
+    ensures room { IfSome result (λ end. end + 19 ≤ length to.new) }
     ensures text { IfSome result (λ end. IsPut to.old 0 to.new end
-        (time_text stamp.now ++ (words_found words.now).path)) }
+        (time_text stamp.now ++ word_text words.now.bytes.items path.now)) }
 {
-    let at = stamp.put(to, 0)?;
-    put_path(to, at, words.bytes, words.path)
+    let at = stamp.put_first(to)?;
+    put_path(to, at, words.as_bytes(), path)
 }
 
 // The letter of a kind of transition.
@@ -46,29 +44,69 @@ fn letter_of(kind: Kind) -> u8
     kind.word().as_bytes()[0]
 }
 
-// Puts the word of a phase, or a blank if the component has no such phase.
-#[inline(always)]
-fn put_phase(to: &mut [u8], at: usize, words: &ComponentWords, phase: u32) -> Option<usize>
+// Puts the word of a phase, or a blank if there is no such phase.
+fn put_phase(to: &mut [u8], at: usize, words: &Words, phases: &[Word], phase: u32) -> Option<usize>
     requires { at ≤ length to.old }
     ensures size { length to.new ≡ length to.old }
     ensures text { IfSome result (λ end. IsPut to.old at to.new end
-        (phase_at (words_found words.now).phases phase)) }
+        (phase_at (map (word_text words.now.bytes.items) phases.now) phase)) }
 {
-    match words.phases.get(phase as usize) {
-        Some(word) => put_word(to, at, words.bytes, word),
+    match phases.get(phase as usize) {
+        Some(word) => put_word(to, at, words.as_bytes(), word),
         None => put_byte(to, at, b' '),
     }
 }
 
-// Puts what was sent, and the end of the line.
-#[inline(always)]
-fn put_rest(to: &mut [u8], at: usize, words: &ComponentWords, sent: &Sent) -> Option<usize>
+// Puts a phase and the variables one by one.
+#[inline(never)]
+fn put_plain_state(
+    to: &mut [u8],
+    at: usize,
+    words: &Words,
+    row: &Row,
+    state: &State,
+) -> Option<usize>
     requires { at ≤ length to.old }
     ensures size { length to.new ≡ length to.old }
     ensures text { IfSome result (λ end. IsPut to.old at to.new end
-        (sent_words (words_found words.now).outputs sent.now ++ (10 ∷ []))) }
+        (plain_words (row_words words.now.bytes.items row.now) state.now)) }
 {
-    let at = put_sent(to, at, words.bytes, words.outputs, sent)?;
+    let at = put_phase(to, at, words, &row.phases, state.phase)?;
+    let values = state.variables.as_slice();
+    put_variables(to, at, words.as_bytes(), &row.variables, values)
+}
+
+// Puts a phase and the variables. The phase and the name of the first variable are put at once.
+#[inline(always)]
+fn put_state(to: &mut [u8], at: usize, words: &Words, row: &Row, state: &State) -> Option<usize>
+    requires { at + 18 ≤ length to.old }
+    ensures size { length to.new ≡ length to.old }
+    ensures text { IfSome result (λ end. IsPut to.old at to.new end
+        (state_words (row_words words.now.bytes.items row.now) state.now)) }
+{
+    let values = state.variables.as_slice();
+    let (Some(lead), Some(first)) = (row.leads.get(state.phase as usize), values.first()) else {
+        return put_plain_state(to, at, words, row, state);
+    };
+    let at = put_near_variable(to, at, words.as_bytes(), lead, first)?;
+    put_variables(
+        to,
+        at,
+        words.as_bytes(),
+        rest_of(&row.variables),
+        rest_of(values),
+    )
+}
+
+// Puts what was sent, and the end of the line.
+#[inline(always)]
+fn put_rest(to: &mut [u8], at: usize, words: &Words, row: &Row, sent: &Sent) -> Option<usize>
+    requires { at ≤ length to.old }
+    ensures size { length to.new ≡ length to.old }
+    ensures text { IfSome result (λ end. IsPut to.old at to.new end
+        (sent_words (row_words words.now.bytes.items row.now).outputs sent.now ++ (10 ∷ []))) }
+{
+    let at = put_sent(to, at, words.as_bytes(), &row.outputs, sent)?;
     put_byte(to, at, b'\n')
 }
 
@@ -76,7 +114,7 @@ fn put_rest(to: &mut [u8], at: usize, words: &ComponentWords, sent: &Sent) -> Op
 #[derive(Drop)]
 pub struct TransitionLine<'l> {
     /// The words of the component.
-    pub words: &'l ComponentWords<'l>,
+    pub words: ComponentWords<'l>,
     /// The time.
     pub stamp: &'l Stamp,
     /// The kind of transition.
@@ -87,21 +125,39 @@ pub struct TransitionLine<'l> {
     pub sent: &'l Sent,
 }
 
+impl<'l> TransitionLine<'l> {
+    // Puts the line of a component that the tree doesn't have.
+    #[inline(never)]
+    fn put_unknown(&self, to: &mut [u8]) -> Option<usize>
+        ensures size { length to.new ≡ length to.old }
+        ensures text { IfSome result (λ end. IsPut to.old 0 to.new end
+            (line_words no_words self.now.stamp.now
+            (what.Transition self.now.kind self.now.state.now) self.now.sent.now)) }
+    {
+        let at = self.stamp.put_first(to)?;
+        let at = put_bytes(to, at, b"  ")?;
+        let at = put_byte(to, at, letter_of(self.kind))?;
+        put_bytes(to, at, b" \n")
+    }
+}
+
 impl<'l> Text for TransitionLine<'l> {
     ghost use Rattle.dv_bag.specs.declared.entry.What.TheVariants as what;
     ghost use Rattle.dv_lines.specs.Words.{line_words, words_found};
 
-    ghost bytes = { λ l. line_words (words_found l.words.now) l.stamp.now
+    ghost bytes = { λ l. line_words (words_found l.words) l.stamp.now
         (what.Transition l.kind l.state.now) l.sent.now };
 
     #[inline(always)]
     fn put(&self, to: &mut [u8]) -> Option<usize> {
-        let (words, state) = (self.words, self.state);
-        let at = put_front(to, words, self.stamp)?;
-        let at = put_byte(to, at, letter_of(self.kind))?;
-        let at = put_phase(to, at, words, state.phase)?;
-        let at = put_variables(to, at, words.bytes, words.variables, &state.variables)?;
-        put_rest(to, at, words, self.sent)
+        let words = self.words.all;
+        let Some(row) = self.words.row else {
+            return self.put_unknown(to);
+        };
+        let at = put_front(to, self.stamp, words, &row.path)?;
+        put_near_byte(to, at, letter_of(self.kind));
+        let at = put_state(to, at + 1, words, row, self.state)?;
+        put_rest(to, at, words, row, self.sent)
     }
 }
 
@@ -111,25 +167,53 @@ pub struct FaultLine<'l> {
     /// The time.
     pub stamp: &'l Stamp,
     /// The words of the component.
-    pub words: &'l ComponentWords<'l>,
+    pub words: ComponentWords<'l>,
     /// The fault.
     pub fault: Fault,
     /// What the component sent.
     pub sent: &'l Sent,
 }
 
+// Puts what a fault is called.
+fn put_fault(to: &mut [u8], at: usize, fault: Fault) -> Option<usize>
+    requires { at ≤ length to.old }
+    ensures size { length to.new ≡ length to.old }
+    ensures text { IfSome result (λ end. IsPut to.old at to.new end
+        (codes "fault " ++ fault_word fault)) }
+{
+    let at = put_bytes(to, at, b"fault ")?;
+    put_bytes(to, at, fault.word().as_bytes())
+}
+
+impl<'l> FaultLine<'l> {
+    // Puts the line of a component that the tree doesn't have.
+    fn put_unknown(&self, to: &mut [u8]) -> Option<usize>
+        ensures size { length to.new ≡ length to.old }
+        ensures text { IfSome result (λ end. IsPut to.old 0 to.new end
+            (line_words no_words self.now.stamp.now (what.Fault self.now.fault) self.now.sent.now)) }
+    {
+        let at = self.stamp.put_first(to)?;
+        let at = put_bytes(to, at, b"  ")?;
+        let at = put_fault(to, at, self.fault)?;
+        put_byte(to, at, b'\n')
+    }
+}
+
 impl<'l> Text for FaultLine<'l> {
     ghost use Rattle.dv_bag.specs.declared.entry.What.TheVariants as what;
     ghost use Rattle.dv_lines.specs.Words.{line_words, words_found};
 
-    ghost bytes = { λ l. line_words (words_found l.words.now) l.stamp.now
+    ghost bytes = { λ l. line_words (words_found l.words) l.stamp.now
         (what.Fault l.fault) l.sent.now };
 
     fn put(&self, to: &mut [u8]) -> Option<usize> {
-        let at = put_front(to, self.words, self.stamp)?;
-        let at = put_bytes(to, at, b"fault ")?;
-        let at = put_bytes(to, at, self.fault.word().as_bytes())?;
-        put_rest(to, at, self.words, self.sent)
+        let words = self.words.all;
+        let Some(row) = self.words.row else {
+            return self.put_unknown(to);
+        };
+        let at = put_front(to, self.stamp, words, &row.path)?;
+        let at = put_fault(to, at, self.fault)?;
+        put_rest(to, at, words, row, self.sent)
     }
 }
 
@@ -147,7 +231,7 @@ impl<'l> Text for OutFront<'l> {
     ghost bytes = { λ l. time_text l.stamp.now ++ codes " out" };
 
     fn put(&self, to: &mut [u8]) -> Option<usize> {
-        let at = self.stamp.put(to, 0)?;
+        let at = self.stamp.put_first(to)?;
         put_bytes(to, at, b" out")
     }
 }

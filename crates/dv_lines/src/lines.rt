@@ -88,7 +88,7 @@ impl Lines {
         ensures err { OnErr result (self.new ≡ self.old) }
     {
         let line = TransitionLine {
-            words,
+            words: *words,
             stamp: self.stamp.at(now),
             kind,
             state,
@@ -114,7 +114,7 @@ impl Lines {
         ensures err { OnErr result (self.new ≡ self.old) }
     {
         let line = FaultLine {
-            words,
+            words: *words,
             stamp: self.stamp.at(now),
             fault,
             sent,

@@ -5,7 +5,7 @@ ghost use Rattle.std.specs.Fmt.{decimal, signed_decimal};
 ghost use Rattle.dv_written.specs.Rooms.{IsPut};
 ghost use Rattle.dv_lines.specs.Digits.{last_four};
 
-use crate::pieces::put_byte;
+use crate::pieces::{put_byte, put_near_byte, put_near_bytes};
 use dv_written::put_few_bytes;
 use itoa::write_digits;
 
@@ -104,6 +104,22 @@ pub fn put_four(to: &mut [u8], at: usize, n: u64) -> Option<usize>
     put_few_bytes(to, at, &digits)
 }
 
+// Puts the digits of a number below 100 where there is room for two.
+#[inline(always)]
+fn put_near_two(to: &mut [u8], at: usize, n: u64) -> usize
+    requires room { at + 2 ≤ length to.old }
+    requires few { n < 100 }
+    ensures size { length to.new ≡ length to.old }
+    ensures text { IsPut to.old at to.new result (decimal n) }
+{
+    if n < 10 {
+        put_near_byte(to, at, b'0' + n as u8);
+        return at + 1;
+    }
+    put_near_bytes(to, at, &two_digits(n));
+    at + 2
+}
+
 // Puts the digits of a number below 100.
 #[inline(always)]
 fn put_two(to: &mut [u8], at: usize, n: u64) -> Option<usize>
@@ -112,10 +128,10 @@ fn put_two(to: &mut [u8], at: usize, n: u64) -> Option<usize>
     ensures size { length to.new ≡ length to.old }
     ensures text { IfSome result (λ end. IsPut to.old at to.new end (decimal n)) }
 {
-    if n < 10 {
-        return put_byte(to, at, b'0' + n as u8);
+    if to.len() - at < 2 {
+        return None;
     }
-    put_pair(to, at, n)
+    Some(put_near_two(to, at, n))
 }
 
 // Puts the digits of a number below 10,000.
@@ -190,4 +206,17 @@ pub fn put_number(to: &mut [u8], at: usize, n: i64) -> Option<usize>
         return put_digits(to, at, n.unsigned_abs());
     }
     put_negative(to, at, n)
+}
+
+/// Puts a number where there is room for two digits, which are enough for most.
+#[inline(always)]
+pub fn put_near_number(to: &mut [u8], at: usize, n: i64) -> Option<usize>
+    requires { at + 2 ≤ length to.old }
+    ensures size { length to.new ≡ length to.old }
+    ensures text { IfSome result (λ end. IsPut to.old at to.new end (signed_decimal n)) }
+{
+    if n >= 0 && n < 100 {
+        return Some(put_near_two(to, at, n.unsigned_abs()));
+    }
+    put_number(to, at, n)
 }

@@ -1,15 +1,17 @@
 //! A time with its text.
 
-ghost use Rattle.std.specs.Prelude.{◌≡◌, ◌≤◌, ◌<◌, ◌∷◌, ◌++◌, ◌/◌, length, take, IfSome};
+ghost use Rattle.std.specs.Prelude.{◌≡◌, ◌≤◌, ◌+◌, ◌<◌, ◌∷◌, ◌++◌, ◌/◌, length, take, IfSome};
 ghost use Rattle.std.specs.Fmt.{decimal};
 ghost use Rattle.dv_time.specs.Time.{time_text};
 ghost use Rattle.dv_written.specs.Rooms.{IsPut};
 
 use crate::numbers::{put_digits, put_four};
-use crate::pieces::{part_of, put_byte, put_sixteen, sixteen_at};
+use crate::pieces::{HEAD, put_byte, put_sixteen, sixteen_at};
 use dv_time::Time;
-use dv_written::put_bytes;
 use std::marker::Model;
+
+// The room that is asked for: a head, and the 35 bytes behind it.
+const ROOM: usize = 51;
 
 /// A time with its text, which is made once for all lines of that time. Of a later time only the
 /// last four digits of the tick are made, if the digits before them are the same.
@@ -17,14 +19,14 @@ use std::marker::Model;
 pub struct Stamp {
     time: Time,
     bytes: [u8; 32],
-    // How many of the bytes are the text. If it is 0, the text is made for each line.
+    // How many of the bytes are the text, at most 16. If it is 0, the text is made for each line.
     length: usize,
     // How many bytes the tick has before its last four digits. If it is 0, they are not there.
     front: usize,
 }
 
 impl Model for Stamp {
-    ghost use Rattle.std.specs.Prelude.{◌≡◌, ◌<◌, ◌/◌, take};
+    ghost use Rattle.std.specs.Prelude.{◌≡◌, ◌≤◌, ◌<◌, ◌/◌, take};
     ghost use Rattle.std.specs.Fmt.{decimal};
     ghost use Rattle.dv_time.specs.Time.{time_text};
     ghost use Rattle.dv_time.specs.declared.time.Time.{Time};
@@ -35,7 +37,8 @@ impl Model for Stamp {
 
     ghost invariant = { λ s. (0 < s.length → take s.length s.bytes ≡ time_text s.time)
         × (0 < s.front → 0 < s.time.tick / 10000)
-        × (0 < s.front → take s.front s.bytes ≡ decimal (s.time.tick / 10000)) };
+        × (0 < s.front → take s.front s.bytes ≡ decimal (s.time.tick / 10000))
+        × (s.length ≤ 16) };
 }
 
 // How many of the first digits of a tick stay for the next one: `front`, or none.
@@ -94,13 +97,26 @@ fn put_anew(to: &mut [u8], front: usize, tick: u64, micro: u32) -> Option<(usize
 }
 
 // A time, as `tick.micro`.
-fn put_time(to: &mut [u8], at: usize, time: Time) -> Option<usize>
-    requires { at ≤ length to.old }
+fn put_time(to: &mut [u8], time: Time) -> Option<usize>
     ensures size { length to.new ≡ length to.old }
-    ensures text { IfSome result (λ end. IsPut to.old at to.new end (time_text time)) }
+    ensures text { IfSome result (λ end. IsPut to.old 0 to.new end (time_text time)) }
 {
-    let at = put_digits(to, at, time.tick)?;
+    let at = put_digits(to, 0, time.tick)?;
     put_micro(to, at, time.micro)
+}
+
+// A time whose text is longer than a head. Behind it there is room for 35 bytes.
+#[inline(never)]
+fn put_long_time(to: &mut [u8], time: Time) -> Option<usize>
+    ensures size { length to.new ≡ length to.old }
+    ensures room { IfSome result (λ end. end + 35 ≤ length to.new) }
+    ensures text { IfSome result (λ end. IsPut to.old 0 to.new end (time_text time)) }
+{
+    let end = put_time(to, time)?;
+    if to.len() - end < ROOM - HEAD {
+        return None;
+    }
+    Some(end)
 }
 
 impl Stamp {
@@ -139,25 +155,27 @@ impl Stamp {
         self.front = 0;
         if let Some((front, length)) = put_anew(&mut self.bytes, front, time.tick, time.micro) {
             self.front = front;
-            self.length = length;
+            if length <= HEAD {
+                self.length = length;
+            }
         }
     }
 
-    /// Puts the text of the time into a slice, from an index on. Returns the index after it, or
-    /// `None` if there is not enough room.
+    /// Puts the text of the time at the start of a slice. Returns the index after it, behind which
+    /// there is room for 35 bytes, or `None` if there is not enough room.
     #[inline(always)]
-    pub fn put(&self, to: &mut [u8], at: usize) -> Option<usize>
-        requires { at ≤ length to.old }
+    pub fn put_first(&self, to: &mut [u8]) -> Option<usize>
         ensures size { length to.new ≡ length to.old }
-        ensures text { IfSome result (λ end. IsPut to.old at to.new end (time_text self.now)) }
+        ensures room { IfSome result (λ end. end + 35 ≤ length to.new) }
+        ensures text { IfSome result (λ end. IsPut to.old 0 to.new end (time_text self.now)) }
     {
+        if to.len() < ROOM {
+            return None;
+        }
         if self.length == 0 {
-            return put_time(to, at, self.time);
+            return put_long_time(to, self.time);
         }
-        if self.length <= 16 && to.len() - at >= 16 {
-            put_sixteen(to, at, sixteen_at(&self.bytes, 0), self.length);
-            return Some(at + self.length);
-        }
-        put_bytes(to, at, part_of(&self.bytes, 0, self.length))
+        put_sixteen(to, 0, sixteen_at(&self.bytes, 0), self.length);
+        Some(self.length)
     }
 }

@@ -1,7 +1,7 @@
 //! Values, state variables, and what was sent, put into a slice of bytes from an index on. Calls
 //! return what those of `pieces` do.
 
-ghost use Rattle.std.specs.Prelude.{◌≡◌, ◌≤◌, ◌<◌, ◌++◌, ◌∷◌, [], if◌then◌else◌, true, length, map, replicate, IfSome};
+ghost use Rattle.std.specs.Prelude.{◌≡◌, ◌≤◌, ◌+◌, ◌<◌, ◌++◌, ◌∷◌, [], if◌then◌else◌, true, drop, length, map, replicate, IfSome};
 ghost use Rattle.std.specs.Fmt.{signed_decimal};
 ghost use Rattle.std.specs.List.{All};
 ghost use Rattle.dv_bag.specs.Bag.{values_of};
@@ -12,10 +12,10 @@ ghost use Rattle.dv_text.specs.Writing.{values_from};
 ghost use Rattle.dv_written.specs.Rooms.{IsPut};
 ghost use Rattle.dv_lines.specs.Words.{word_text, variables_words, one_words, sent_words};
 
-use crate::numbers::put_number;
-use crate::pieces::{Word, put_byte, put_word};
+use crate::numbers::{put_near_number, put_number};
+use crate::pieces::{HEAD, Word, put_byte, put_near_bytes, put_near_word, put_sixteen, put_word};
 use dv_bag::sent::Sending;
-use dv_bag::{Bag, Collection, Datum, Queue, Sent, Variables};
+use dv_bag::{Bag, Collection, Datum, Queue, Sent};
 use dv_written::put_few_bytes;
 
 // Puts a value, with a comma before it unless it is the first.
@@ -109,43 +109,109 @@ fn put_held(to: &mut [u8], at: usize, held: &Collection) -> Option<usize>
     put_byte(to, at, b']')
 }
 
-/// Puts what a state variable holds: a number, `true` or `false`, or a bag or a queue in brackets.
+// Puts what a state variable holds, where there is room for two bytes: a number, `true` or `false`,
+// or a bag or a queue in brackets.
 #[inline(always)]
-pub fn put_datum(to: &mut [u8], at: usize, datum: &Datum) -> Option<usize>
-    requires { at ≤ length to.old }
+fn put_datum(to: &mut [u8], at: usize, datum: &Datum) -> Option<usize>
+    requires { at + 2 ≤ length to.old }
     ensures size { length to.new ≡ length to.old }
     ensures text { IfSome result (λ end. IsPut to.old at to.new end (datum_text datum.now)) }
 {
     match datum {
-        Datum::Number(number) => put_number(to, at, *number),
+        Datum::Number(number) => put_near_number(to, at, *number),
         Datum::Flag(true) => put_few_bytes(to, at, b"true"),
         Datum::Flag(false) => put_few_bytes(to, at, b"false"),
         Datum::Held(held) => put_held(to, at, held.as_collection()),
     }
 }
 
-/// Puts the variables of a state, each after its word.
+// Puts a state variable whose word is longer than a head.
+#[inline(never)]
+fn put_long_variable(
+    to: &mut [u8],
+    at: usize,
+    bytes: &[u8],
+    word: &Word,
+    datum: &Datum,
+) -> Option<usize>
+    requires { at + 18 ≤ length to.old }
+    ensures size { length to.new ≡ length to.old }
+    ensures text { IfSome result (λ end. IsPut to.old at to.new end
+        (word_text bytes.now word.now ++ datum_text datum.now)) }
+{
+    let at = put_near_word(to, at, bytes, word)?;
+    if to.len() - at < 2 {
+        return None;
+    }
+    put_datum(to, at, datum)
+}
+
+/// Puts a word and what a state variable holds, where there is room for a head and two bytes.
+#[inline(always)]
+pub fn put_near_variable(
+    to: &mut [u8],
+    at: usize,
+    bytes: &[u8],
+    word: &Word,
+    datum: &Datum,
+) -> Option<usize>
+    requires { at + 18 ≤ length to.old }
+    ensures size { length to.new ≡ length to.old }
+    ensures text { IfSome result (λ end. IsPut to.old at to.new end
+        (word_text bytes.now word.now ++ datum_text datum.now)) }
+{
+    if word.length > HEAD {
+        return put_long_variable(to, at, bytes, word, datum);
+    }
+    put_sixteen(to, at, word.head, word.length);
+    put_datum(to, at + word.length, datum)
+}
+
+// Puts a word and what a state variable holds.
+#[inline(always)]
+fn put_variable(to: &mut [u8], at: usize, bytes: &[u8], word: &Word, datum: &Datum) -> Option<usize>
+    requires { at ≤ length to.old }
+    ensures size { length to.new ≡ length to.old }
+    ensures text { IfSome result (λ end. IsPut to.old at to.new end
+        (word_text bytes.now word.now ++ datum_text datum.now)) }
+{
+    if to.len() - at < HEAD + 2 {
+        return None;
+    }
+    put_near_variable(to, at, bytes, word, datum)
+}
+
+/// All but the first of some items.
+#[inline(always)]
+pub fn rest_of<T>(items: &[T]) -> &[T]
+    ensures { result.now ≡ drop 1 items.now }
+{
+    if items.is_empty() {
+        return items;
+    }
+    &items[1..]
+}
+
+/// Puts state variables, each after its word.
 #[inline(always)]
 pub fn put_variables(
     to: &mut [u8],
     at: usize,
     bytes: &[u8],
     words: &[Word],
-    variables: &Variables,
+    values: &[Datum],
 ) -> Option<usize>
     requires { at ≤ length to.old }
     ensures size { length to.new ≡ length to.old }
     ensures text { IfSome result (λ end. IsPut to.old at to.new end
-        (variables_words (map (word_text bytes.now) words.now) variables.now)) }
+        (variables_words (map (word_text bytes.now) words.now) values.now)) }
 {
     let mut at = at;
-    let data = variables.as_slice();
     for (index, word) in words.iter().enumerate() {
-        let Some(datum) = data.get(index) else {
+        let Some(datum) = values.get(index) else {
             return Some(at);
         };
-        at = put_word(to, at, bytes, word)?;
-        at = put_datum(to, at, datum)?;
+        at = put_variable(to, at, bytes, word, datum)?;
     }
     Some(at)
 }
@@ -214,8 +280,11 @@ fn put_one(
     let Some(word) = words.get(port) else {
         return Some(at);
     };
-    let at = put_few_bytes(to, at, b" >")?;
-    let at = put_word(to, at, bytes, word)?;
+    if to.len() - at < HEAD + 2 {
+        return None;
+    }
+    put_near_bytes(to, at, b" >");
+    let at = put_near_word(to, at + 2, bytes, word)?;
     put_number(to, at, value)
 }
 

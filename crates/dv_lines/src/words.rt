@@ -6,20 +6,13 @@ ghost use Rattle.dv_text.specs.Names.{tree_names, tree_ports};
 ghost use Rattle.dv_text.specs.Texts.{names_at};
 ghost use Rattle.dv_tree.specs.Instances.{instances};
 ghost use Rattle.dv_tree.specs.Paths.{texts_of};
-ghost use Rattle.dv_lines.specs.Tables.{AreWords, Extends, IsRow, IsWord, decorated, ports_found, rows_found, with_ends, words_at};
+ghost use Rattle.dv_lines.specs.Tables.{AreWords, Extends, IsRow, IsWord, decorated, leads_of, ports_found, rows_found, with_ends, words_at};
 ghost use Rattle.dv_lines.specs.Words.{port_at, word_text, words_found};
 
 use crate::line::ComponentWords;
 use crate::pieces::Word;
 use dv_tree::Tree;
 use std::alloc::{AllocError, Global};
-
-// The path of no component.
-static NO_PATH: Word = Word {
-    start: 0,
-    length: 2,
-    head: *b"                ",
-};
 
 // The word of no port.
 static NO_PORT: Word = Word {
@@ -28,13 +21,20 @@ static NO_PORT: Word = Word {
     head: *b" :              ",
 };
 
-// The words of a component, within the bytes of `Words`.
+/// The words of a component, within the bytes of `Words`.
 #[derive(Drop)]
-struct Row {
-    path: Word,
-    phases: Vec<Word>,
-    variables: Vec<Word>,
-    outputs: Vec<Word>,
+pub struct Row {
+    /// The path of the component, with a blank on both sides.
+    pub path: Word,
+    /// The names of its phases in the order of their declaration, each after a blank.
+    pub phases: Vec<Word>,
+    /// The names of its state variables in the order of their declaration, each as ` NAME=`.
+    pub variables: Vec<Word>,
+    /// For each phase ` PHASE NAME=` with the name of the first state variable. There are none if
+    /// there are no variables.
+    pub leads: Vec<Word>,
+    /// The names of its output ports in the order of their declaration, each as ` NAME:`.
+    pub outputs: Vec<Word>,
 }
 
 /// The words of all components of a tree, and of the output ports of its root. Their bytes are in
@@ -80,22 +80,18 @@ impl Words {
     pub fn component(&self, component: u32) -> ComponentWords<'_>
         ensures { words_found result ≡ words_at (rows_found self.now) component }
     {
-        match self.rows.get(component as usize) {
-            Some(row) => ComponentWords {
-                bytes: &self.bytes,
-                path: &row.path,
-                phases: &row.phases,
-                variables: &row.variables,
-                outputs: &row.outputs,
-            },
-            None => ComponentWords {
-                bytes: &[],
-                path: &NO_PATH,
-                phases: &[],
-                variables: &[],
-                outputs: &[],
-            },
+        ComponentWords {
+            all: self,
+            row: self.rows.get(component as usize),
         }
+    }
+
+    /// The bytes that all words are in.
+    #[inline(always)]
+    pub fn as_bytes(&self) -> &[u8]
+        ensures { result.now ≡ self.now.bytes.items }
+    {
+        &self.bytes
     }
 
     /// The word of an output port of the root, with the bytes that it is in.
@@ -157,6 +153,37 @@ fn push_words(
     Ok(words)
 }
 
+// A blank, a name, and `last`.
+fn word_of(alloc: Global, name: &str, last: u8) -> Result<Vec<u8>, AllocError>
+    ensures { IfOk result (λ word. word.items ≡ with_ends (last ∷ []) name.now) }
+{
+    let mut word = Vec::new(alloc);
+    word.push(b' ')?;
+    word.extend_from_slice(name.as_bytes())?;
+    word.push(last)?;
+    Ok(word)
+}
+
+// Appends for each phase a word that ends with the word of the first variable.
+fn push_leads(
+    alloc: Global,
+    bytes: &mut Vec<u8>,
+    tree: &Tree,
+    phases: &[u32],
+    variables: &[u32],
+) -> Result<Vec<Word>, AllocError>
+    ensures more { OnOk result (Extends bytes.old.items bytes.new.items) }
+    ensures words { IfOk result (λ words. AreWords bytes.new.items words.items
+        (leads_of (texts_of tree.now.names phases.now)
+        (texts_of tree.now.names variables.now))) }
+{
+    let Some(first) = variables.first() else {
+        return Ok(Vec::new(alloc));
+    };
+    let last = word_of(alloc, tree.name(*first), b'=')?;
+    push_words(alloc, bytes, tree, phases, &last)
+}
+
 // Appends the words of a component.
 fn row_of(
     alloc: Global,
@@ -174,11 +201,13 @@ fn row_of(
     let scope = tree.scope(component);
     let phases = push_words(alloc, bytes, tree, scope.phases(), b"")?;
     let variables = push_words(alloc, bytes, tree, scope.variables(), b"=")?;
+    let leads = push_leads(alloc, bytes, tree, scope.phases(), scope.variables())?;
     let outputs = push_words(alloc, bytes, tree, scope.outputs(), b":")?;
     Ok(Row {
         path,
         phases,
         variables,
+        leads,
         outputs,
     })
 }

@@ -91,9 +91,8 @@ impl<'w, N: OfJob> WrittenRecords<'w, N> {
         }) }
         ensures err { OnErr result (part.new ≡ part.old) }
     {
-        let words = self.component(component);
         let line = TransitionLine {
-            words: &words,
+            words: self.component(component),
             stamp: stamp.at(time),
             kind,
             state,
@@ -122,9 +121,8 @@ impl<'w, N: OfJob> WrittenRecords<'w, N> {
         }) }
         ensures err { OnErr result (part.new ≡ part.old) }
     {
-        let words = self.component(component);
         let line = FaultLine {
-            words: &words,
+            words: self.component(component),
             stamp: stamp.at(time),
             fault,
             sent,

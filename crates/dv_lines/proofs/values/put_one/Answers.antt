@@ -1,4 +1,4 @@
-use Rattle.std.proofs.Common.{◌∷◌, ◌++◌, [], List, ℕ, Option, ap, ◌∙◌, refl, length, rules, unwrap_or}
+use Rattle.std.proofs.Common.{◌∷◌, ◌++◌, ◌+◌, [], List, ℕ, Option, ap, ◌∙◌, refl, length, rules, unwrap_or}
 use Rattle.std.proofs.lemmas.Int.{to_z-of_z}
 use mir.Syntax.{w64}
 use mir.Val.{SFits}
@@ -21,5 +21,5 @@ returns-clause-text c =
     (slice_get-map text words c.args.port ∙ ap (option_map text) there) in
     let fits : SFits w64 c.args.value = search rules in
     let more = (simp to_z-of_z at c.put_number.ensures.text) in
-    put_behind c.put_number.result _ _ _ (32 ∷ 62 ∷ []) (word ++ value) _ c.args.at c.in_ok-at.at c.in_ok-at.ensures.text whole
-    (put_behind c.put_number.result _ _ _ word value (word ++ value) c.in_ok-at.at c.in_ok-at-2.at c.in_ok-at-2.ensures.text refl more)
+    put_behind c.put_number.result _ _ _ (32 ∷ 62 ∷ []) (word ++ value) _ c.args.at (c.args.at + 2) c.put_near_bytes.ensures.text whole
+    (put_behind c.put_number.result _ _ _ word value (word ++ value) (c.args.at + 2) c.in_ok-at.at c.in_ok-at.ensures.text refl more)

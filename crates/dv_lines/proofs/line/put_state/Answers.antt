@@ -1,0 +1,42 @@
+use Rattle.std.proofs.Common.{◌≡◌, ◌∷◌, ◌++◌, List, ℕ, ap₂, ◌∙◌, drop, length, map, refl, rules, subst, sym}
+use Rattle.std.specs.Prelude.{IfSome}
+use Rattle.std.proofs.lemmas.Option.{slice_get_read}
+use Rattle.dv_bag.specs.declared.state.Datum.{Datum}
+use Rattle.dv_text.specs.Texts.{datum_text}
+use Rattle.dv_written.specs.Rooms.{IsPut}
+use Rattle.dv_lines.specs.Words.{plain_words, row_words, variables_words, word_text}
+use Rattle.dv_lines.specs.declared.pieces.Word.{Word}
+use Rattle.dv_lines.proofs.Behind.{put_behind}
+use Rattle.dv_lines.proofs.Walks.{led_there}
+use Rattle.dv_lines.proofs.line.put_state.Goals as goal
+
+pub returns-clause-text : goal.returns-clause-text
+returns-clause-text c =
+    let row = c.args.row.now in
+    let values = c.args.state.now.variables in
+    let text = word_text c.args.words.now.bytes.items in
+    let leads = row.leads.items in
+    let others = row.variables.items in
+    let lead = c.in-Some-Some.lead.now in
+    let first = c.in-Some-Some.first.now in
+    let k = c.args.state.now.phase in
+    let there = slice_get_read leads (length leads) k lead refl (search rules) (search rules) in
+    let one : values ≡ first ∷ drop 1 values = search rules in
+    let words_left : c.rest_of.result.now ≡ drop 1 others = search rules in
+    let data_left : c.rest_of-2.result.now ≡ drop 1 values = search rules in
+    let front = text lead ++ datum_text first in
+    let is =
+    led_there text leads others k lead values first (plain_words (row_words c.args.words.now.bytes.items row) c.args.state.now) there one
+    ∙ ap₂ (λ (ws : List Word) (ds : List Datum). front ++ variables_words (map text ws) ds) (sym words_left) (sym data_left) in
+    let middle = c.put_near_variable.new.to in
+    let put =
+    subst (λ (bytes : List ℕ). IsPut c.args.to.now c.args.at middle c.in_ok-at.at (word_text bytes lead ++ datum_text first))
+    c.as_bytes.ensures c.in_ok-at.ensures.text in
+    let rest =
+    subst (λ (bytes : List ℕ).
+    IfSome c.put_variables.result (λ end.
+    IsPut middle c.in_ok-at.at c.put_variables.new.to end
+    (variables_words (map (word_text bytes) c.rest_of.result.now) c.rest_of-2.result.now)))
+    c.as_bytes-2.ensures c.put_variables.ensures.text in
+    put_behind c.put_variables.result _ _ _ front (variables_words (map text c.rest_of.result.now) c.rest_of-2.result.now) _ c.args.at
+    c.in_ok-at.at put is rest
