@@ -2,6 +2,7 @@
 
 use crate::line::LineLists;
 use crate::reach::End;
+use crate::refusal::{TraceError, TraceReason, TraceRefusal};
 use memchr::{memchr, memchr_iter};
 use std::alloc::{AllocError, Global};
 use std::io;
@@ -10,7 +11,7 @@ use std::io::{ErrorKind, Write};
 /// Takes the lines of a trace, one after the other.
 pub trait TakeLine {
     /// Why a line is not taken.
-    type Error: From<AllocError> + Drop;
+    type Error: From<TraceError> + From<AllocError> + Drop;
 
     /// Takes the next line, which is given without its line feed. `lists` may have those of another
     /// line, which are replaced.
@@ -34,6 +35,8 @@ pub struct LineCutter<L: TakeLine> {
     taker: L,
     // The beginning of the line that has not ended yet.
     line: Vec<u8>,
+    // The number of lines that have ended.
+    lines: u64,
     // The error of the line that was not taken.
     error: Option<L::Error>,
 }
@@ -45,33 +48,39 @@ impl<L: TakeLine> LineCutter<L> {
             alloc,
             taker,
             line: Vec::new(alloc),
+            lines: 0,
             error: None,
         }
     }
 
-    /// Ends the trace and returns what took its lines. If an end is required, what follows the last
-    /// line feed is given as a line, too.
+    /// Ends the trace and returns what took its lines. What follows the last line feed is not given:
+    /// it is a line that was cut.
     ///
     /// # Errors
     ///
-    /// The error of the first line that was not taken.
+    /// The error of the first line that was not taken; and `NoEnd` if an end is required, and the
+    /// last line has no line feed.
     pub fn finish(self, end: End) -> Result<L, L::Error>
     where
         L: Drop,
     {
         let LineCutter {
-            alloc,
-            mut taker,
+            alloc: _,
+            taker,
             line,
+            lines,
             error,
         } = self;
-        if let Some(error) = error {
-            return Err(error);
+        match error {
+            Some(error) => Err(error),
+            None if end == End::Required && !line.is_empty() => {
+                Err(L::Error::from(TraceError::Refused(TraceRefusal {
+                    reason: TraceReason::NoEnd,
+                    line: lines.saturating_add(1),
+                })))
+            }
+            None => Ok(taker),
         }
-        if end == End::Required {
-            taker.take_line(&line, &mut LineLists::new(alloc))?;
-        }
-        Ok(taker)
     }
 
     // Gives the lines that end in these bytes, and keeps the rest. The first line may have begun in
@@ -94,6 +103,7 @@ impl<L: TakeLine> LineCutter<L> {
         let mut rest: usize = 0;
         for end in memchr_iter(b'\n', bytes) {
             let line = bytes.get(rest..end).unwrap_or(&[]);
+            self.lines = self.lines.saturating_add(1);
             self.taker.take_line(line, &mut lists)?;
             rest = end.saturating_add(1);
         }
@@ -108,6 +118,7 @@ impl<L: TakeLine> LineCutter<L> {
 
     // Gives the line that was kept.
     fn take_kept(&mut self) -> Result<(), L::Error> {
+        self.lines = self.lines.saturating_add(1);
         self.taker
             .take_line(&self.line, &mut LineLists::new(self.alloc))
     }

@@ -7,7 +7,8 @@ use std::fmt;
 /// clocks.
 #[derive(Clone, Copy, PartialEq, Eq)]
 pub enum End {
-    /// The trace has to have an end, with its line feed.
+    /// The trace has to have an end, with its line feed: a line without one may have been cut, and an
+    /// end within its number.
     Required,
     /// The trace may have no end, because its run was stopped. It is read up to its last line feed.
     Optional,

@@ -1,10 +1,11 @@
 //! Reads the lines of a trace.
 
+use crate::cutter::{LineCutter, TakeLine};
 use crate::line::{EntryHead, Event, LineHead, LineLists, TraceLine};
 use crate::names::Directory;
 use crate::numbers::{number_in, tick_in, time_in};
 use crate::pieces::{Sender, phase_of, read_sendings, read_sent, split_state, split_word};
-use crate::reach::{End, Reach, read_part};
+use crate::reach::{End, Reach};
 use crate::recent::Recent;
 use crate::refusal::{LineError, TraceError, TraceReason, TraceRefusal};
 use dv_bag::{Fault, Kind};
@@ -12,6 +13,7 @@ use dv_eval::Scope;
 use dv_time::{GREATEST_TICK, Time};
 use dv_tree::Tree;
 use std::alloc::{AllocError, Global};
+use std::io::Write;
 
 /// The last line so far.
 #[derive(Clone, Copy)]
@@ -34,8 +36,6 @@ pub struct TraceReader<'t> {
     names: Directory<'t>,
     recent: Recent,
     last: Last,
-    // Whether an empty line was read after the end. There is none if the end has no line feed.
-    is_past_end: bool,
     lines: u64,
 }
 
@@ -52,7 +52,6 @@ impl<'t> TraceReader<'t> {
             names: Directory::of(alloc, tree)?,
             recent: Recent::new(alloc, tree.component_count())?,
             last: Last::Nothing,
-            is_past_end: false,
             lines: 0,
         })
     }
@@ -86,32 +85,29 @@ impl<'t> TraceReader<'t> {
         lists.clear();
         match self.head_of(line, lists) {
             Ok(head) => Ok(head),
-            Err(LineError::Refused(reason)) => Err(self.refused(reason)),
+            Err(LineError::Refused(reason)) => Err(TraceError::Refused(TraceRefusal {
+                reason,
+                line: self.lines,
+            })),
             Err(LineError::Memory) => Err(TraceError::Memory),
         }
     }
 
-    /// Ends the trace and returns how far it reaches. If an end is required, the text after the
-    /// last line feed has to be read as a line before, even if it is empty: an end without a line
-    /// feed may have been cut within its number.
+    /// Ends the trace and returns how far it reaches. Only lines that have a line feed may have been
+    /// read before.
     ///
     /// # Errors
     ///
-    /// `Refused`: an end is required, and the last line is no end, or is one without a line feed.
+    /// `Refused`: an end is required, and the last line is no end. The line after it is named.
     pub fn end(&self, end: End) -> Result<Reach, TraceError> {
         match (self.last, end) {
-            (Last::End(reach), End::Required) if self.is_past_end => Ok(reach),
-            (_, End::Required) => Err(self.refused(TraceReason::NoEnd)),
-            (Last::End(reach), End::Optional) => Ok(reach),
+            (Last::End(reach), _) => Ok(reach),
             (last, End::Optional) => Ok(Reach::NoEnd(last.time())),
+            (_, End::Required) => Err(TraceError::Refused(TraceRefusal {
+                reason: TraceReason::NoEnd,
+                line: self.lines.saturating_add(1),
+            })),
         }
-    }
-
-    fn refused(&self, reason: TraceReason) -> TraceError {
-        TraceError::Refused(TraceRefusal {
-            reason,
-            line: self.lines,
-        })
     }
 
     fn head_of<'a>(
@@ -124,7 +120,6 @@ impl<'t> TraceReader<'t> {
         };
         let text = text.strip_suffix('\r').unwrap_or(text);
         if text.is_empty() {
-            self.is_past_end = matches!(self.last, Last::End(_));
             return Ok(LineHead::Empty);
         }
         if text.ends_with(' ') {
@@ -380,6 +375,19 @@ impl Last {
     }
 }
 
+impl TakeLine for TraceReader<'_> {
+    type Error = TraceError;
+
+    fn take_line<'a>(
+        &mut self,
+        line: &'a [u8],
+        lists: &mut LineLists<'a>,
+    ) -> Result<(), TraceError> {
+        let _head = self.read_into(line, lists)?;
+        Ok(())
+    }
+}
+
 /// Tests a trace of the model of a tree, and returns how far it reaches.
 ///
 /// # Errors
@@ -392,10 +400,8 @@ pub fn check_trace(
     trace: &[u8],
     end: End,
 ) -> Result<Reach, TraceError> {
-    let mut reader = TraceReader::new(alloc, tree)?;
-    let mut lists = LineLists::new(alloc);
-    for line in read_part(trace, end).split(|byte| *byte == b'\n') {
-        reader.read_into(line, &mut lists)?;
-    }
-    reader.end(end)
+    let mut lines = LineCutter::new(alloc, TraceReader::new(alloc, tree)?);
+    // The error of a line that is not taken is that of `finish`.
+    let _written = lines.write(trace);
+    lines.finish(end)?.end(end)
 }

@@ -29,7 +29,8 @@ pub enum TraceReason {
     Order,
     /// The line comes after the end of the trace.
     AfterEnd,
-    /// The trace has no end: no line `whole` with the horizon, and no `partial`.
+    /// The trace has no end: no line `whole` with the horizon, and no `partial`; or its last line has
+    /// no line feed.
     NoEnd,
 }
 
