@@ -88,6 +88,41 @@ pub fn output_named(tree: &Tree<'_>, name: &str) -> Option<usize> {
     None
 }
 
+/// Adds the names of all output ports, those of components as `PATH.PORT`; with `has_state` also the
+/// paths of components and the names of their state variables, as `PATH.VARIABLE`.
+///
+/// # Errors
+///
+/// An allocation was refused. Some names may have been added.
+pub fn push_names(
+    alloc: Global,
+    tree: &Tree<'_>,
+    names: &mut Vec<String>,
+    has_state: bool,
+) -> Result<(), AllocError> {
+    push_outputs(alloc, tree, names)?;
+    push_names_of_components(alloc, tree, names, has_state)
+}
+
+fn push_names_of_components(
+    alloc: Global,
+    tree: &Tree<'_>,
+    names: &mut Vec<String>,
+    has_state: bool,
+) -> Result<(), AllocError> {
+    for component in 0..tree.component_count() {
+        let scope = tree.scope(component);
+        let path = tree.path_text(alloc, component)?;
+        let variables = if has_state { scope.variables() } else { &[] };
+        push_members(alloc, tree, names, path.as_str(), variables)?;
+        push_members(alloc, tree, names, path.as_str(), scope.outputs())?;
+        if has_state {
+            names.push(path)?;
+        }
+    }
+    Ok(())
+}
+
 /// Adds the names `PATH.MEMBER` of members of the component with a path.
 ///
 /// # Errors

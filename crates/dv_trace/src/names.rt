@@ -16,11 +16,22 @@ pub(crate) struct Directory<'t> {
 impl<'t> Directory<'t> {
     /// The names in a tree.
     pub(crate) fn of(alloc: Global, tree: &'t Tree<'t>) -> Result<Self, AllocError> {
-        Ok(Directory {
-            components: components_of(alloc, tree)?,
-            names: names_of(alloc, tree)?,
-            outputs: outputs_of(alloc, tree)?,
-        })
+        let mut directory = Directory {
+            components: IndexMap::with_capacity(alloc, tree.component_count())?,
+            names: IndexMap::new(alloc),
+            outputs: IndexMap::new(alloc),
+        };
+        directory.add_all(alloc, tree)?;
+        Ok(directory)
+    }
+
+    fn add_all(&mut self, alloc: Global, tree: &'t Tree<'t>) -> Result<(), AllocError> {
+        for component in 0..tree.component_count() {
+            let path = tree.path_text(alloc, component)?;
+            self.components.insert(path, component as u32)?;
+        }
+        add_names_of_scopes(tree, &mut self.names)?;
+        add_outputs(tree, &mut self.outputs)
     }
 
     /// The number of the component with a path.
@@ -47,21 +58,15 @@ impl<'t> Directory<'t> {
     }
 }
 
-fn components_of(alloc: Global, tree: &Tree) -> Result<IndexMap<String, u32>, AllocError> {
-    let mut components = IndexMap::with_capacity(alloc, tree.component_count())?;
-    for component in 0..tree.component_count() {
-        components.insert(tree.path_text(alloc, component)?, component as u32)?;
-    }
-    Ok(components)
-}
-
-fn names_of<'t>(alloc: Global, tree: &'t Tree<'t>) -> Result<IndexMap<&'t [u8], u32>, AllocError> {
-    let mut names = IndexMap::new(alloc);
+fn add_names_of_scopes<'t>(
+    tree: &'t Tree<'t>,
+    names: &mut IndexMap<&'t [u8], u32>,
+) -> Result<(), AllocError> {
     for scope in tree.scopes() {
-        add_names(tree, scope.phases(), &mut names)?;
-        add_names(tree, scope.outputs(), &mut names)?;
+        add_names(tree, scope.phases(), names)?;
+        add_names(tree, scope.outputs(), names)?;
     }
-    Ok(names)
+    Ok(())
 }
 
 fn add_names<'t>(
@@ -75,13 +80,12 @@ fn add_names<'t>(
     Ok(())
 }
 
-fn outputs_of<'t>(
-    alloc: Global,
+fn add_outputs<'t>(
     tree: &'t Tree<'t>,
-) -> Result<IndexMap<&'t [u8], usize>, AllocError> {
-    let mut outputs = IndexMap::new(alloc);
+    outputs: &mut IndexMap<&'t [u8], usize>,
+) -> Result<(), AllocError> {
     for port in 0..tree.output_count() {
         outputs.insert(tree.output_name(port).as_bytes(), port)?;
     }
-    Ok(outputs)
+    Ok(())
 }
