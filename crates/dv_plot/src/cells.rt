@@ -40,20 +40,13 @@ impl<T: Copy + Join> Cells<T> {
         self.put(column, Some(known));
     }
 
-    /// Makes one column of two each.
+    /// Makes one column of two each. Nothing is known of the columns behind them.
     pub(crate) fn fold(&mut self) {
-        for column in 0..COLUMNS / 2 {
-            let first = self.at(2 * column);
-            let second = self.at(2 * column + 1);
-            let both = match (first, second) {
-                (Some(first), Some(second)) => Some(first.join(second)),
-                (Some(first), None) => Some(first),
-                (None, second) => second,
-            };
-            self.put(column, both);
-        }
-        for column in COLUMNS / 2..COLUMNS {
-            self.put(column, None);
+        for column in 0..COLUMNS {
+            self.put(column, self.at(2 * column));
+            if let Some(later) = self.at(2 * column + 1) {
+                self.add(column, later);
+            }
         }
     }
 

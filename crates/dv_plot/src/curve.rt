@@ -2,7 +2,9 @@
 
 use crate::cells::{Cells, Join};
 use crate::grid::{COLUMNS, Moment};
-use crate::scale::{Area, Extent};
+use crate::label::push_extent;
+use crate::scale::{Area, CURVE, Extent};
+use dv_trace::{Datum, Event};
 use std::alloc::{AllocError, Global};
 
 /// The values that a curve takes in a column.
@@ -21,94 +23,90 @@ impl Join for Change {
     }
 }
 
-/// A value over time. It holds until the next one.
+/// A variable, a flag, a bag or a queue of a component.
+#[derive(Clone, Copy)]
+pub(crate) struct Source {
+    /// Its index in the state.
+    pub(crate) index: usize,
+    /// Its number at the start of the model.
+    pub(crate) start: i64,
+    pub(crate) is_flag: bool,
+}
+
+/// The number of a state variable over time. It holds until the next one.
 #[derive(Drop)]
 pub(crate) struct Curve {
+    source: Source,
     // The value at the first tick that is shown.
     start: i64,
     // The value now.
     now: i64,
+    // The least and the greatest value that is shown.
+    extent: Extent,
     changes: Cells<Change>,
-    // The column in which the value ceased, because the component had a fault.
-    end: Option<usize>,
+    // The tick at which the value ceased, because the component had a fault.
+    end: Option<u64>,
 }
 
 impl Curve {
-    /// A curve that begins with a value.
-    pub(crate) fn new(alloc: Global, start: i64) -> Result<Self, AllocError> {
+    /// A curve that begins with the value at the start of the model.
+    pub(crate) fn new(alloc: Global, source: Source) -> Result<Self, AllocError> {
+        let Source { start, .. } = source;
         Ok(Curve {
+            source,
             start,
             now: start,
+            extent: Extent::of(start),
             changes: Cells::new(alloc)?,
             end: None,
         })
     }
 
-    /// Takes a value.
-    pub(crate) fn set(&mut self, moment: Moment, value: i64) {
+    /// Takes what happened to the component, and the state after it.
+    pub(crate) fn follow(&mut self, moment: Moment, event: Event, state: &[Datum<'_>]) {
+        match (event, state.get(self.source.index)) {
+            (Event::Transition { .. }, Some(datum)) => self.set(moment, datum.number()),
+            (Event::Transition { .. }, None) => {}
+            (Event::Fault(_), _) => self.end = Some(moment.tick),
+        }
+    }
+
+    fn set(&mut self, moment: Moment, value: i64) {
         if value == self.now {
             return;
         }
         self.now = value;
-        let Some(column) = moment.column() else {
-            self.start = value;
-            return;
-        };
-        let change = Change {
-            extent: Extent::of(value),
-            last: value,
-        };
-        self.changes.add(column, change);
-    }
-
-    /// Ends the curve.
-    pub(crate) fn cease(&mut self, moment: Moment) {
-        if self.end.is_none() {
-            self.end = Some(moment.column().unwrap_or(0));
+        let extent = Extent::of(value);
+        match moment.column() {
+            Some(column) => {
+                self.extent = self.extent.with(extent);
+                let last = value;
+                self.changes.add(column, Change { extent, last });
+            }
+            None => {
+                self.extent = extent;
+                self.start = value;
+            }
         }
     }
 
     /// Makes one column of two each.
     pub(crate) fn fold(&mut self) {
         self.changes.fold();
-        self.end = self.end.map(|column| column / 2);
     }
 
-    /// The least and the greatest value.
-    pub(crate) fn extent(&self) -> Extent {
-        let mut extent = Extent::of(self.start);
+    /// Adds the curve below the upper edge of its panel, which is at 0.
+    pub(crate) fn push(&self, text: &mut String, area: Area) -> Result<(), AllocError> {
+        let (left, depth) = (area.place_of(0), self.extent.depth_of(self.start));
+        write!(text, "<path class=\"curve\" d=\"M{left} {depth}")?;
         for column in 0..COLUMNS {
             if let Some(change) = self.changes.at(column) {
-                extent = extent.with(change.extent);
+                push_change(text, area.place_of(column), change, self.extent)?;
             }
         }
-        extent
-    }
-
-    /// Adds the path of the curve in a panel of this height, whose upper edge is at 0.
-    pub(crate) fn push_path(
-        &self,
-        text: &mut String,
-        area: Area,
-        height: u64,
-    ) -> Result<(), AllocError> {
-        let extent = self.extent();
-        let start = extent.depth_of(self.start, height);
-        write!(text, "M{} {start}", area.place_of(0))?;
-        let end = self.end.unwrap_or(COLUMNS);
-        for column in 0..COLUMNS {
-            if column > end {
-                break;
-            }
-            if let Some(change) = self.changes.at(column) {
-                let x = area.place_of(column);
-                push_change(text, x, change, extent, height)?;
-            }
-        }
-        match self.end {
-            Some(column) => write!(text, "H{}", area.place_of(column)),
-            None => write!(text, "H{}", area.right()),
-        }
+        let right = area.ticks.place_of(self.end.unwrap_or(area.ticks.behind));
+        writeln!(text, "H{right}\"/>")?;
+        push_extent(text, self.extent, self.source.is_flag)
     }
 }
 
@@ -119,17 +117,13 @@ fn push_change(
     x: u64,
     change: Change,
     extent: Extent,
-    height: u64,
 ) -> Result<(), AllocError> {
-    let low = extent.depth_of(change.extent.least, height);
-    let high = extent.depth_of(change.extent.greatest, height);
-    let last = extent.depth_of(change.last, height);
-    write!(text, "H{x}")?;
-    if low != high {
-        write!(text, "V{low}V{high}")?;
+    let low = extent.depth_of(change.extent.least);
+    let high = extent.depth_of(change.extent.greatest);
+    let last = extent.depth_of(change.last);
+    if low == high {
+        write!(text, "H{x}V{last}")
+    } else {
+        write!(text, "H{x}V{low}V{high}V{last}")
     }
-    if last != high || low == high {
-        write!(text, "V{last}")?;
-    }
-    Ok(())
 }

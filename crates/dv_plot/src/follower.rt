@@ -1,12 +1,8 @@
 //! Follows a trace line by line.
 
 use crate::grid::{Grid, Moment};
-use crate::panel::Panel;
 use crate::subject::Subject;
-use dv_time::Time;
-use dv_trace::{EntryHead, LineHead, LineLists, Sending, TakeLine, TraceError, TraceReader};
-use dv_tree::Tree;
-use std::alloc::{AllocError, Global};
+use dv_trace::{LineHead, LineLists, TakeLine, TraceError, TraceReader};
 
 /// Columns are made twice as wide at most so often.
 const MOST_FOLDS: u32 = 64;
@@ -15,109 +11,50 @@ const MOST_FOLDS: u32 = 64;
 #[derive(Drop)]
 pub(crate) struct Follower<'t> {
     pub(crate) reader: TraceReader<'t>,
-    pub(crate) panels: Vec<Panel>,
+    pub(crate) subjects: Vec<Subject>,
     pub(crate) grid: Grid,
-    // The last tick that is shown.
-    last: Option<u64>,
-    // Whether something of a component is shown, by its number.
-    is_shown: Vec<bool>,
+    /// The last tick that is shown.
+    pub(crate) last: u64,
 }
 
-impl<'t> Follower<'t> {
-    /// A follower at the first line of a trace of the model of a tree.
-    pub(crate) fn new(
-        alloc: Global,
-        tree: &'t Tree<'t>,
-        subjects: Vec<Subject>,
-        first: u64,
-        last: Option<u64>,
-    ) -> Result<Self, AllocError> {
-        let mut is_shown = vec![in alloc; false; tree.component_count()]?;
-        let mut panels = Vec::with_capacity(alloc, subjects.len())?;
-        for subject in subjects {
-            if let Some(component) = subject.component
-                && let Some(is_shown) = is_shown.get_mut(component as usize)
-            {
-                *is_shown = true;
-            }
-            panels.push(Panel::of(alloc, subject)?)?;
-        }
-        Ok(Follower {
-            reader: TraceReader::new(alloc, tree)?,
-            panels,
-            grid: Grid::from(first),
-            last,
-            is_shown,
-        })
-    }
-
+impl Follower<'_> {
     // Takes a line.
     fn follow(&mut self, head: LineHead, lists: &LineLists<'_>) {
-        match head {
-            LineHead::Entry(entry) => self.entry(entry, lists),
-            LineHead::Outside(time) => self.outside(time, &lists.sent),
-            LineHead::Empty | LineHead::Whole(_) | LineHead::Clock(_) | LineHead::Partial => {}
-        }
-    }
-
-    fn entry(&mut self, entry: EntryHead, lists: &LineLists<'_>) {
-        if !self
-            .is_shown
-            .get(entry.component as usize)
-            .copied()
-            .unwrap_or(false)
-        {
-            return;
-        }
-        let Some(moment) = self.moment_at(entry.time.tick) else {
-            return;
+        let (time, component, event) = match head {
+            LineHead::Entry(entry) => (entry.time, Some(entry.component), Some(entry.event)),
+            LineHead::Outside(time) => (time, None, None),
+            LineHead::Empty | LineHead::Whole(_) | LineHead::Clock(_) | LineHead::Partial => return,
         };
-        for panel in &mut self.panels {
-            if panel.subject.component == Some(entry.component) {
-                panel.follow(moment, entry.event, &lists.state);
-                panel.send(moment, &lists.sent);
+        if time.tick > self.last {
+            return;
+        }
+        self.widen(time.tick);
+        let moment = Moment {
+            tick: time.tick,
+            grid: self.grid,
+        };
+        for subject in &mut self.subjects {
+            if subject.component == component {
+                subject.follow(moment, event, lists);
             }
         }
     }
 
-    // Takes what left the model.
-    fn outside(&mut self, time: Time, sent: &[Sending<'_>]) {
-        let Some(moment) = self.moment_at(time.tick) else {
-            return;
-        };
-        for panel in &mut self.panels {
-            if panel.subject.component.is_none() {
-                panel.send(moment, sent);
-            }
-        }
-    }
-
-    // A tick, with columns that are wide enough for it. `None` if it is behind the last tick that is
-    // shown.
-    fn moment_at(&mut self, tick: u64) -> Option<Moment> {
-        if let Some(last) = self.last
-            && tick > last
-        {
-            return None;
-        }
+    // Makes columns twice as wide until they reach as far as a tick.
+    fn widen(&mut self, tick: u64) {
         for _fold in 0..MOST_FOLDS {
             if self.grid.reaches(tick) {
                 break;
             }
-            self.fold();
+            self.grid = self.grid.wider();
+            fold_all(&mut self.subjects);
         }
-        Some(Moment {
-            tick,
-            grid: self.grid,
-        })
     }
+}
 
-    // Makes columns twice as wide.
-    fn fold(&mut self) {
-        self.grid = self.grid.wider();
-        for panel in &mut self.panels {
-            panel.fold();
-        }
+fn fold_all(subjects: &mut [Subject]) {
+    for subject in subjects {
+        subject.fold();
     }
 }
 

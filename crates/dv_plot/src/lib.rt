@@ -25,12 +25,12 @@ mod curve;
 mod follower;
 /// The columns of ticks.
 mod grid;
+/// Texts in the picture.
+mod label;
 /// The phases of a component.
 mod lanes;
 /// The values of a port.
 mod marks;
-/// A panel of the picture.
-mod panel;
 /// The picture.
 pub mod picture;
 /// From values to places in a panel.

@@ -2,8 +2,13 @@
 
 use crate::cells::{Cells, Join};
 use crate::grid::{COLUMNS, Moment};
+use crate::label::push_extent;
 use crate::scale::{Area, Extent};
+use dv_trace::Sending;
 use std::alloc::{AllocError, Global};
+
+/// The most values that are shown each by itself.
+const MOST_DOTS: usize = 2_048;
 
 impl Join for Extent {
     fn join(self, later: Self) -> Self {
@@ -11,70 +16,121 @@ impl Join for Extent {
     }
 }
 
-/// The values that passed by a port, by column.
+/// A value, and the column in which it passed.
+#[derive(Clone, Copy)]
+struct Dot {
+    column: usize,
+    value: i64,
+}
+
+/// The values that passed by a port.
 #[derive(Drop)]
 pub(crate) struct Marks {
+    // The index of the port.
+    port: usize,
+    // The least and the greatest value of each column, and of all columns.
     values: Cells<Extent>,
+    extent: Option<Extent>,
+    // The first values, and the number of all. As soon as a column has several ticks, the number
+    // is greater than that of any values.
+    dots: Vec<Dot>,
+    count: usize,
 }
 
 impl Marks {
-    /// No value has passed.
-    pub(crate) fn new(alloc: Global) -> Result<Self, AllocError> {
+    /// No value has passed by the port with this index.
+    pub(crate) fn new(alloc: Global, port: usize) -> Result<Self, AllocError> {
+        let nothing = Dot {
+            column: 0,
+            value: 0,
+        };
         Ok(Marks {
+            port,
             values: Cells::new(alloc)?,
+            extent: None,
+            dots: vec![in alloc; nothing; MOST_DOTS]?,
+            count: 0,
         })
     }
 
-    /// Takes values, which are given with commas between them, as in a trace.
-    pub(crate) fn add(&mut self, moment: Moment, values: &str) {
-        let Some(column) = moment.column() else {
-            return;
-        };
-        for piece in values.split(',') {
-            if let Ok(value) = piece.parse::<i64>() {
-                self.values.add(column, Extent::of(value));
+    /// Takes what was sent.
+    pub(crate) fn send(&mut self, moment: Moment, sent: &[Sending<'_>]) {
+        for sending in sent {
+            if sending.port == self.port
+                && let Some(column) = moment.column()
+            {
+                self.add_all(column, sending.values.text);
             }
         }
+    }
+
+    // Adds values, which are given with commas between them, as in a trace.
+    fn add_all(&mut self, column: usize, values: &str) {
+        for piece in values.split(',') {
+            if let Ok(value) = piece.parse::<i64>() {
+                self.add(column, value);
+            }
+        }
+    }
+
+    fn add(&mut self, column: usize, value: i64) {
+        let extent = Extent::of(value);
+        self.values.add(column, extent);
+        self.extent = Some(match self.extent {
+            Some(others) => others.with(extent),
+            None => extent,
+        });
+        if let Some(dot) = self.dots.get_mut(self.count) {
+            *dot = Dot { column, value };
+        }
+        self.count = self.count.saturating_add(1);
     }
 
     /// Makes one column of two each.
     pub(crate) fn fold(&mut self) {
         self.values.fold();
+        self.count = usize::MAX;
     }
 
-    /// The least and the greatest value, if a value has passed.
-    pub(crate) fn extent(&self) -> Option<Extent> {
-        let mut extent: Option<Extent> = None;
-        for column in 0..COLUMNS {
-            if let Some(values) = self.values.at(column) {
-                extent = match extent {
-                    Some(others) => Some(others.with(values)),
-                    None => Some(values),
-                };
-            }
-        }
-        extent
-    }
-
-    /// Adds the path of the marks in a panel of this height, whose upper edge is at 0: a dot for one
-    /// value, and a line from the least to the greatest one of several.
-    pub(crate) fn push_path(
-        &self,
-        text: &mut String,
-        area: Area,
-        height: u64,
-    ) -> Result<(), AllocError> {
-        let Some(extent) = self.extent() else {
+    /// Adds the marks below the upper edge of their panel, which is at 0: a dot for each value if a
+    /// column is a tick and the values are few; otherwise a dot for the value of a column, and a
+    /// line from the least to the greatest one of several.
+    pub(crate) fn push(&self, text: &mut String, area: Area) -> Result<(), AllocError> {
+        let Some(extent) = self.extent else {
             return Ok(());
         };
+        text.push_str("<path class=\"dots\" d=\"")?;
+        match self.dots.get(..self.count) {
+            Some(dots) => push_dots(text, area, extent, dots)?,
+            None => self.push_lines(text, area, extent)?,
+        }
+        text.push_str("\"/>\n")?;
+        push_extent(text, extent, false)
+    }
+
+    fn push_lines(&self, text: &mut String, area: Area, extent: Extent) -> Result<(), AllocError> {
         for column in 0..COLUMNS {
             if let Some(values) = self.values.at(column) {
                 let x = area.place_of(column);
-                let low = extent.depth_of(values.least, height);
-                let high = extent.depth_of(values.greatest, height);
+                let low = extent.depth_of(values.least);
+                let high = extent.depth_of(values.greatest);
                 write!(text, "M{x} {low}V{high}")?;
             }
         }
         Ok(())
     }
+}
+
+fn push_dots(
+    text: &mut String,
+    area: Area,
+    extent: Extent,
+    dots: &[Dot],
+) -> Result<(), AllocError> {
+    for dot in dots {
+        let x = area.place_of(dot.column);
+        let depth = extent.depth_of(dot.value);
+        write!(text, "M{x} {depth}V{depth}")?;
+    }
+    Ok(())
 }

@@ -2,11 +2,17 @@
 
 use crate::grid::Grid;
 
+/// The width of a picture.
+pub(crate) const PICTURE: u64 = 9_600;
+
 /// Where the area of the curves begins, from the left.
 pub(crate) const LEFT: u64 = 160;
 
 /// How wide the area of the curves is.
 pub(crate) const WIDTH: u64 = 8_160;
+
+/// The height of a curve or of marks.
+pub(crate) const CURVE: u64 = 700;
 
 /// The ticks from the left edge of the area to the right one.
 #[derive(Clone, Copy)]
@@ -73,14 +79,14 @@ impl Extent {
         }
     }
 
-    /// How far below the upper edge of a panel of this height a value is. If there is only one
-    /// value, it is in the middle.
-    pub(crate) fn depth_of(self, value: i64, height: u64) -> u64 {
+    /// How far below the upper edge of a panel a value is. If there is only one value, it is in the
+    /// middle.
+    pub(crate) fn depth_of(self, value: i64) -> u64 {
         if self.least >= self.greatest {
-            return height / 2;
+            return CURVE / 2;
         }
         let below = distance(value, self.greatest);
-        part_of(height, below, distance(self.least, self.greatest))
+        part_of(CURVE, below, distance(self.least, self.greatest))
     }
 }
 

@@ -1,62 +1,161 @@
-//! What names stand for.
+//! What names stand for, and what a trace shows of it.
 
+use crate::curve::{Curve, Source};
+use crate::grid::Moment;
+use crate::lanes::Lanes;
+use crate::marks::Marks;
+use crate::scale::{Area, CURVE};
 use dv_eval::{Domain, Scope};
 use dv_trace::model::{
-    component_in, index_of, output_named, push_members, push_outputs, start_number, start_phase,
+    component_in, index_of, output_named, push_names, start_number, start_phase,
 };
+use dv_trace::{Event, LineLists};
 use dv_tree::Tree;
 use std::alloc::{AllocError, Global};
 
-/// What is shown of a component, or of the root.
-#[derive(Clone, Copy)]
-pub(crate) enum What {
-    /// The phases of a component, which starts in this one.
-    Phases(u32),
-    /// The variable, the flag, the bag or the queue at an index, as a number, which is this one at
-    /// the start.
-    Value {
-        index: usize,
-        start: i64,
-        is_flag: bool,
-    },
-    /// The values that pass by the output port at an index.
-    Port(usize),
+/// How a trace is shown.
+#[derive(Drop)]
+enum Shown {
+    Lanes(Lanes),
+    Curve(Curve),
+    Marks(Marks),
 }
 
-/// What a name stands for: a component, one of its variables, flags, bags, queues or output ports,
-/// or an output of the root.
+/// A component, one of its variables, flags, bags, queues or output ports, or an output of the
+/// root; and what a trace shows of it.
 #[derive(Drop)]
 pub struct Subject {
     pub(crate) name: String,
     /// The component; `None` for the root.
     pub(crate) component: Option<u32>,
-    pub(crate) what: What,
+    shown: Shown,
 }
 
 impl Subject {
-    /// What a name stands for in a model. The name of a component is its path. That of a variable,
-    /// a flag, a bag, a queue or an output port is the path of its component, a dot, and its own
-    /// name. That of an output of the root is its own name. `None` if nothing has the name.
+    /// What a name stands for in a model. The name of a component is its path. That of
+    /// a variable, a flag, a bag, a queue or an output port is the path of its component, a dot, and
+    /// its own name. That of an output of the root is its own name. `None` if nothing has the name.
     ///
     /// # Errors
     ///
     /// An allocation was refused.
     pub fn named(alloc: Global, tree: &Tree<'_>, name: &str) -> Result<Option<Self>, AllocError> {
-        let found = match component_named(alloc, tree, name)? {
-            Some((component, what)) => Some((Some(component), what)),
-            None => match output_named(tree, name) {
-                Some(port) => Some((None, What::Port(port))),
-                None => None,
-            },
+        let (component, shown) = match component_in(alloc, tree, name)? {
+            Some((component, member)) => {
+                (
+                    u32::try_from(component).ok(),
+                    shown_of(alloc, tree, component, member)?,
+                )
+            }
+            None => (None, shown_port(alloc, output_named(tree, name))?),
         };
-        match found {
-            Some((component, what)) => Ok(Some(Subject {
+        match shown {
+            Some(shown) => Ok(Some(Subject {
                 name: String::from_str(alloc, name)?,
                 component,
-                what,
+                shown,
             })),
             None => Ok(None),
         }
+    }
+
+    /// Takes a line of the component, or of what left the model, for which there is no event.
+    pub(crate) fn follow(&mut self, moment: Moment, event: Option<Event>, lists: &LineLists<'_>) {
+        match (&mut self.shown, event) {
+            (Shown::Lanes(lanes), Some(event)) => lanes.follow(moment, event),
+            (Shown::Curve(curve), Some(event)) => curve.follow(moment, event, &lists.state),
+            (Shown::Marks(marks), _) => marks.send(moment, &lists.sent),
+            (Shown::Lanes(_) | Shown::Curve(_), None) => {}
+        }
+    }
+
+    /// Makes one column of two each.
+    pub(crate) fn fold(&mut self) {
+        match &mut self.shown {
+            Shown::Lanes(lanes) => lanes.fold(),
+            Shown::Curve(curve) => curve.fold(),
+            Shown::Marks(marks) => marks.fold(),
+        }
+    }
+
+    /// Ends the trace before a tick.
+    pub(crate) fn finish(&mut self, behind: Moment) {
+        if let Shown::Lanes(lanes) = &mut self.shown {
+            lanes.finish(behind);
+        }
+    }
+
+    /// The height below the name.
+    pub(crate) fn height(&self) -> u64 {
+        match &self.shown {
+            Shown::Lanes(lanes) => lanes.height(),
+            Shown::Curve(_) | Shown::Marks(_) => CURVE,
+        }
+    }
+
+    /// Adds what is shown below the name, whose lower edge is at 0.
+    pub(crate) fn push(
+        &self,
+        text: &mut String,
+        tree: &Tree<'_>,
+        area: Area,
+    ) -> Result<(), AllocError> {
+        match &self.shown {
+            Shown::Lanes(lanes) => lanes.push(text, tree, self.component, area),
+            Shown::Curve(curve) => curve.push(text, area),
+            Shown::Marks(marks) => marks.push(text, area),
+        }
+    }
+}
+
+// What is shown of a component, or of the member of it that has a name.
+fn shown_of(
+    alloc: Global,
+    tree: &Tree<'_>,
+    component: usize,
+    member: Option<&str>,
+) -> Result<Option<Shown>, AllocError> {
+    if component >= tree.component_count() {
+        return Ok(None);
+    }
+    let scope = tree.scope(component);
+    match member {
+        Some(member) => shown_member(alloc, tree, scope, member),
+        None => {
+            let start = start_phase(tree, component);
+            Ok(Some(Shown::Lanes(Lanes::new(alloc, start)?)))
+        }
+    }
+}
+
+fn shown_member(
+    alloc: Global,
+    tree: &Tree<'_>,
+    scope: &Scope,
+    member: &str,
+) -> Result<Option<Shown>, AllocError> {
+    if let Some(source) = source_named(tree, scope, member) {
+        return Ok(Some(Shown::Curve(Curve::new(alloc, source)?)));
+    }
+    shown_port(alloc, index_of(tree, scope.outputs(), member))
+}
+
+// The variable, the flag, the bag or the queue that has a name.
+fn source_named(tree: &Tree<'_>, scope: &Scope, name: &str) -> Option<Source> {
+    let index = index_of(tree, scope.variables(), name)?;
+    let domain = scope.domains().get(index)?;
+    Some(Source {
+        index,
+        start: start_number(*domain),
+        is_flag: matches!(domain, Domain::Flag { .. }),
+    })
+}
+
+// What is shown of the output port at an index.
+fn shown_port(alloc: Global, port: Option<usize>) -> Result<Option<Shown>, AllocError> {
+    match port {
+        Some(port) => Ok(Some(Shown::Marks(Marks::new(alloc, port)?))),
+        None => Ok(None),
     }
 }
 
@@ -67,49 +166,6 @@ impl Subject {
 /// An allocation was refused.
 pub fn all_names(alloc: Global, tree: &Tree<'_>) -> Result<Vec<String>, AllocError> {
     let mut names = Vec::new(alloc);
-    for component in 0..tree.component_count() {
-        let path = tree.path_text(alloc, component)?;
-        let scope = tree.scope(component);
-        push_members(alloc, tree, &mut names, path.as_str(), scope.variables())?;
-        push_members(alloc, tree, &mut names, path.as_str(), scope.outputs())?;
-        names.push(path)?;
-    }
-    push_outputs(alloc, tree, &mut names)?;
+    push_names(alloc, tree, &mut names, true)?;
     Ok(names)
-}
-
-// The component that a name is of, and what of it.
-fn component_named(
-    alloc: Global,
-    tree: &Tree<'_>,
-    name: &str,
-) -> Result<Option<(u32, What)>, AllocError> {
-    let Some((component, member)) = component_in(alloc, tree, name)? else {
-        return Ok(None);
-    };
-    if component >= tree.component_count() {
-        return Ok(None);
-    }
-    let what = match member {
-        None => Some(What::Phases(start_phase(tree, component))),
-        Some(member) => member_named(tree, tree.scope(component), member),
-    };
-    match what {
-        Some(what) => Ok(Some((component as u32, what))),
-        None => Ok(None),
-    }
-}
-
-// The variable, flag, bag, queue or output port of a component that has this name.
-fn member_named(tree: &Tree<'_>, scope: &Scope, name: &str) -> Option<What> {
-    if let Some(index) = index_of(tree, scope.variables(), name)
-        && let Some(domain) = scope.domains().get(index)
-    {
-        return Some(What::Value {
-            index,
-            start: start_number(*domain),
-            is_flag: matches!(domain, Domain::Flag { .. }),
-        });
-    }
-    Some(What::Port(index_of(tree, scope.outputs(), name)?))
 }

@@ -1,11 +1,11 @@
 //! A writer that takes a trace, and the picture of it.
 
 use crate::follower::Follower;
-use crate::grid::Moment;
+use crate::grid::{Grid, Moment};
 use crate::picture::Picture;
 use crate::scale::{Area, Ticks};
 use crate::subject::Subject;
-use dv_trace::{End, LineCutter, Reach, TraceError};
+use dv_trace::{End, LineCutter, Reach, TraceError, TraceReader};
 use dv_tree::Tree;
 use std::alloc::{AllocError, Global};
 use std::io;
@@ -46,8 +46,12 @@ impl<'t> PlotWriter<'t> {
         subjects: Vec<Subject>,
         options: PlotOptions,
     ) -> Result<Self, AllocError> {
-        let first = options.from.unwrap_or(0);
-        let follower = Follower::new(alloc, tree, subjects, first, options.to)?;
+        let follower = Follower {
+            reader: TraceReader::new(alloc, tree)?,
+            subjects,
+            grid: Grid::from(options.from.unwrap_or(0)),
+            last: options.to.unwrap_or(u64::MAX),
+        };
         Ok(PlotWriter {
             tree,
             options,
@@ -81,38 +85,42 @@ fn picture_of<'t>(
     reach: Reach,
 ) -> Picture<'t> {
     let Follower {
-        mut panels,
+        mut subjects,
         grid,
         ..
     } = follower;
+    let last = options.to.unwrap_or(u64::MAX).saturating_add(1);
     let ticks = Ticks {
         first: grid.first,
-        behind: behind(options, reach).max(grid.first.saturating_add(1)),
+        behind: behind(reach).min(last).max(grid.first.saturating_add(1)),
     };
     let end = Moment {
         tick: ticks.behind,
         grid,
     };
-    for panel in &mut panels {
-        panel.finish(end);
+    for subject in &mut subjects {
+        subject.finish(end);
     }
     Picture {
         tree,
-        panels,
+        subjects,
         area: Area { grid, ticks },
     }
 }
 
-// The tick behind the last one that is shown.
-fn behind(options: PlotOptions, reach: Reach) -> u64 {
-    let end = match reach {
+impl PlotOptions {
+    /// Whether no tick that is shown is in a trace that reaches as far as this.
+    pub fn is_behind(&self, reach: Reach) -> bool {
+        self.from.is_some_and(|from| from >= behind(reach))
+    }
+}
+
+// The tick behind the last one of a trace.
+fn behind(reach: Reach) -> u64 {
+    match reach {
         Reach::Whole(horizon) => horizon.saturating_add(1),
         Reach::Partial(Some(time)) | Reach::NoEnd(Some(time)) => time.tick,
         Reach::Partial(None) | Reach::NoEnd(None) => 0,
-    };
-    match options.to {
-        Some(to) => end.min(to.saturating_add(1)),
-        None => end,
     }
 }
 
