@@ -1,6 +1,7 @@
 //! Sums of batches, for the interval of a mean.
 
-use crate::spread::{Spread, half_root};
+use crate::cell::Cell;
+use crate::spread::half_root;
 use std::alloc::{AllocError, Global};
 
 /// The fewest batches of which an interval is made. There are always fewer than twice as many.
@@ -88,27 +89,23 @@ impl Batches {
 
     /// How far the mean of all numbers is from that of these, at most, with 95 % certainty, if the
     /// means of the batches are independent and normally distributed.
-    pub(crate) fn margin(&self) -> Spread {
+    pub(crate) fn margin(&self) -> Cell {
         let batches = self.sums.len();
-        let Some(student) = STUDENT.get(batches.wrapping_sub(FEW)) else {
-            return Spread::Nothing;
-        };
-        match self.quotient(*student, batches as u128) {
-            Some((dividend, divisor)) => Spread::Thousandths(half_root(dividend, divisor)),
-            None => Spread::Overflow,
+        match STUDENT.get(batches.wrapping_sub(FEW)) {
+            Some(student) => Cell::root(self.margin_by(*student, batches as u128)),
+            None => Cell::Nothing,
         }
     }
 
-    // Four times the square of the margin in thousandths, as a quotient. `None` if one of its parts
-    // has more than 128 bits.
-    fn quotient(&self, student: u128, batches: u128) -> Option<(u128, u128)> {
-        let distances = self.distances(batches)?;
-        let four = student.checked_mul(student)?.checked_mul(4)?;
-        let wide = u128::from(self.width).checked_mul(batches)?;
-        let divisor = wide
-            .checked_mul(wide)?
+    // The margin in thousandths, by that number of Student's distribution. `None` if what it is made
+    // of has more than 128 bits.
+    fn margin_by(&self, student: u128, batches: u128) -> Option<u128> {
+        let four = student.saturating_mul(student).saturating_mul(4);
+        let count = u128::from(self.width).saturating_mul(batches);
+        let divisor = count
+            .checked_mul(count)?
             .checked_mul(batches.saturating_sub(1))?;
-        Some((four.checked_mul(distances)?, divisor))
+        half_root(four, self.distances(batches)?, divisor)
     }
 
     // The number of batches times the square distances of their sums from the mean sum. It is made

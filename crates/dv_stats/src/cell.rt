@@ -1,6 +1,5 @@
 //! The values of a row.
 
-use crate::spread::Spread;
 use dv_bag::Fault;
 use dv_time::Time;
 use std::fmt;
@@ -50,16 +49,15 @@ impl Cell {
         }
     }
 
-    /// How far numbers are spread.
-    pub(crate) fn spread(spread: Spread) -> Cell {
-        match spread {
-            Spread::Nothing => Cell::Nothing,
-            Spread::Thousandths(number) => Cell::Ratio {
+    /// So many thousandths, or `Overflow` if what they are made of has more than 128 bits.
+    pub(crate) fn root(thousandths: Option<u128>) -> Cell {
+        match thousandths {
+            Some(number) => Cell::Ratio {
                 sign: "",
                 whole: number / 1000,
                 thousandths: number % 1000,
             },
-            Spread::Overflow => Cell::Overflow,
+            None => Cell::Overflow,
         }
     }
 

@@ -1,6 +1,6 @@
 //! The ports by which values come in or go out.
 
-use dv_trace::model::{component_in, index_of, output_named, push_members, push_outputs};
+use dv_trace::model::{component_in, index_of, output_named, push_names};
 use dv_tree::Tree;
 use std::alloc::{AllocError, Global};
 
@@ -75,11 +75,6 @@ fn input_named(alloc: Global, tree: &Tree<'_>, name: &str) -> Result<Option<Gate
 /// An allocation was refused.
 pub fn gate_names(alloc: Global, tree: &Tree<'_>) -> Result<Vec<String>, AllocError> {
     let mut names = tree.input_names(alloc)?;
-    push_outputs(alloc, tree, &mut names)?;
-    for component in 0..tree.component_count() {
-        let path = tree.path_text(alloc, component)?;
-        let outputs = tree.scope(component).outputs();
-        push_members(alloc, tree, &mut names, path.as_str(), outputs)?;
-    }
+    push_names(alloc, tree, &mut names, false)?;
     Ok(names)
 }

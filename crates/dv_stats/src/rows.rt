@@ -10,9 +10,9 @@ use crate::port::PortCount;
 use crate::section::{Kind, Named, Sample, Section};
 use crate::spread::deviation_of;
 use crate::summary::{Extremes, Summary};
-use crate::tally::Tally;
+use crate::tally::{PortTallies, Tally};
 use dv_eval::Scope;
-use dv_trace::model::{name_at, output_name};
+use dv_trace::model::output_name;
 use dv_tree::Tree;
 use std::alloc::{AllocError, Global};
 
@@ -62,90 +62,88 @@ impl<'t> Section<'t> {
         Ok(())
     }
 
-    fn add_component(&mut self, of: Subject<'t, '_>, ticks: u64) -> Result<(), AllocError> {
+    // Adds the rows of a component. `all` is the number of ticks that count. No name of a phase has
+    // a colon.
+    fn add_component(&mut self, of: Subject<'t, '_>, all: u64) -> Result<(), AllocError> {
+        if let Kind::Component = self.kind {
+            return self.push(of.path, "", &transition_cells(of.count));
+        }
+        for (index, name) in names_in(self.kind, of.scope).iter().enumerate() {
+            self.add_named(of, self.tree.name(*name), index, all)?;
+        }
+        if matches!(self.kind, Kind::Phase) && of.count.fault.is_some() {
+            return self.push(of.path, "fault:", &phase_cells(1, of.count.faulted, all));
+        }
+        Ok(())
+    }
+
+    // Adds the rows of what a component has at an index: a phase, a variable or a port. The ticks
+    // after a fault do not count for a variable.
+    fn add_named(
+        &mut self,
+        of: Subject<'t, '_>,
+        name: &'t str,
+        index: usize,
+        all: u64,
+    ) -> Result<(), AllocError> {
+        let (path, count) = (of.path, of.count);
         match self.kind {
-            Kind::Component => self.push(of.path, "", &transition_cells(of.count)),
-            Kind::Phase => self.add_phases(of, ticks),
-            Kind::Variable => self.add_variables(of, ticks),
-            Kind::Port | Kind::Output | Kind::Flow => self.add_ports(of),
-            Kind::Quantiles(sample) | Kind::Bins(sample) => self.add_tallies(of, sample),
-        }
-    }
-
-    // Adds a row for each phase of a component, and one for the ticks after its fault. No name of a
-    // phase has a colon.
-    fn add_phases(&mut self, of: Subject<'t, '_>, all: u64) -> Result<(), AllocError> {
-        for (index, phase) in of.count.phases.iter().enumerate() {
-            let name = name_at(self.tree, of.scope.phases(), index);
-            self.push(of.path, name, &phase_cells(phase.visits, phase.ticks, all))?;
-        }
-        if of.count.fault.is_some() {
-            self.push(of.path, "fault:", &phase_cells(1, of.count.faulted, all))?;
-        }
-        Ok(())
-    }
-
-    // Adds a row for each variable of a component. `all` is the number of ticks that count; those
-    // after a fault are subtracted.
-    fn add_variables(&mut self, of: Subject<'t, '_>, all: u64) -> Result<(), AllocError> {
-        let ticks = all.saturating_sub(of.count.faulted);
-        for (index, variable) in of.count.variables.iter().enumerate() {
-            let name = name_at(self.tree, of.scope.variables(), index);
-            self.push(of.path, name, &held_cells(variable.held, ticks))?;
-        }
-        Ok(())
-    }
-
-    fn add_ports(&mut self, of: Subject<'t, '_>) -> Result<(), AllocError> {
-        for (index, port) in of.count.ports.iter().enumerate() {
-            let name = name_at(self.tree, of.scope.outputs(), index);
-            self.push(of.path, name, &port_cells(*port))?;
-        }
-        Ok(())
-    }
-
-    fn add_tallies(&mut self, of: Subject<'t, '_>, sample: Sample) -> Result<(), AllocError> {
-        if let Sample::VariableValues = sample {
-            return self.add_values(of);
-        }
-        for (index, tallies) in of.count.tallies.iter().enumerate() {
-            let name = name_at(self.tree, of.scope.outputs(), index);
-            self.add_sample(of.path, name, sample.tally_of(tallies))?;
-        }
-        Ok(())
-    }
-
-    fn add_values(&mut self, of: Subject<'t, '_>) -> Result<(), AllocError> {
-        for (index, variable) in of.count.variables.iter().enumerate() {
-            if let Some(values) = &variable.values {
-                let name = name_at(self.tree, of.scope.variables(), index);
-                self.add_sample(of.path, name, values)?;
+            Kind::Phase => match count.phases.get(index) {
+                Some(phase) => self.push(path, name, &phase_cells(phase.visits, phase.ticks, all)),
+                None => Ok(()),
+            },
+            Kind::Variable => match count.variables.get(index) {
+                Some(variable) => {
+                    let ticks = all.saturating_sub(count.faulted);
+                    self.push(path, name, &held_cells(variable.held, ticks))
+                }
+                None => Ok(()),
+            },
+            Kind::Port => match count.ports.get(index) {
+                Some(port) => self.push(path, name, &port_cells(*port)),
+                None => Ok(()),
+            },
+            Kind::Quantiles(sample) | Kind::Bins(sample) => {
+                match tally_at(count, sample, index) {
+                    Some(tally) => self.add_sample(path, name, tally),
+                    None => Ok(()),
+                }
             }
+            Kind::Component | Kind::Output | Kind::Flow => Ok(()),
         }
-        Ok(())
     }
 
     fn add_outputs(&mut self, counts: &Counts<'t>) -> Result<(), AllocError> {
-        match self.kind {
-            Kind::Quantiles(sample) | Kind::Bins(sample) => {
-                for (port, tallies) in counts.tallies.iter().enumerate() {
-                    let tally = sample.tally_of(tallies);
-                    self.add_sample(&[], output_name(self.tree, port), tally)?;
-                }
+        for (port, count) in counts.outputs.iter().enumerate() {
+            let name = output_name(self.tree, port);
+            self.add_output(name, *count, counts.tallies.get(port), counts.span.ticks())?;
+        }
+        match &counts.flow {
+            Some(flow) if matches!(self.kind, Kind::Flow) => {
+                self.push(&[], flow.name, &flow_cells(flow))
             }
-            Kind::Flow => {
-                if let Some(flow) = &counts.flow {
-                    self.push(&[], flow.name, &flow_cells(flow))?;
-                }
+            Some(_) | None => Ok(()),
+        }
+    }
+
+    // Adds the rows of an output of the root.
+    fn add_output(
+        &mut self,
+        name: &'t str,
+        count: OutputCount,
+        tallies: Option<&PortTallies>,
+        ticks: u64,
+    ) -> Result<(), AllocError> {
+        match (self.kind, tallies) {
+            (Kind::Output, _) => self.push(&[], name, &output_cells(count, ticks)),
+            (Kind::Quantiles(sample) | Kind::Bins(sample), Some(tallies)) => {
+                self.add_sample(&[], name, sample.tally_of(tallies))
             }
-            Kind::Component | Kind::Phase | Kind::Variable | Kind::Port | Kind::Output => {
-                for (port, count) in counts.outputs.iter().enumerate() {
-                    let cells = output_cells(*count, counts.span.ticks());
-                    self.push(&[], output_name(self.tree, port), &cells)?;
-                }
+            (Kind::Quantiles(_) | Kind::Bins(_), None)
+            | (Kind::Component | Kind::Phase | Kind::Variable | Kind::Port | Kind::Flow, _) => {
+                Ok(())
             }
         }
-        Ok(())
     }
 
     // Adds the row of the quantiles of a sample, or a row for each bin.
@@ -167,6 +165,28 @@ impl<'t> Section<'t> {
             self.push(component, name, &cells)?;
         }
         Ok(())
+    }
+}
+
+// The numbers of the names in a component that have rows of a kind.
+fn names_in(kind: Kind, scope: &Scope) -> &[u32] {
+    match kind {
+        Kind::Component | Kind::Output | Kind::Flow => &[],
+        Kind::Phase => scope.phases(),
+        Kind::Variable
+        | Kind::Quantiles(Sample::VariableValues)
+        | Kind::Bins(Sample::VariableValues) => scope.variables(),
+        Kind::Port | Kind::Quantiles(_) | Kind::Bins(_) => scope.outputs(),
+    }
+}
+
+// The tally of a variable or a port at an index, if there are tallies.
+fn tally_at(count: &ComponentCount, sample: Sample, index: usize) -> Option<&Tally> {
+    match sample {
+        Sample::VariableValues => count.variables.get(index)?.values.as_ref(),
+        Sample::PortValues | Sample::PortGaps | Sample::OutputValues | Sample::OutputGaps => {
+            Some(sample.tally_of(count.tallies.get(index)?))
+        }
     }
 }
 
@@ -271,8 +291,8 @@ fn quantile_cells(tally: &Tally) -> [Cell; 11] {
         Cell::number(tally.quantile(99)),
         Cell::number(tally.greatest()),
         Cell::ratio(tally.sum(), tally.count),
-        Cell::spread(deviation_of(tally)),
-        Cell::spread(tally.batches.margin()),
+        deviation_of(tally),
+        tally.batches.margin(),
     ]
 }
 

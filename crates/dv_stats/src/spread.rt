@@ -1,34 +1,24 @@
 //! How far numbers are spread.
 
+use crate::cell::Cell;
 use crate::tally::Tally;
 
-/// How far numbers are spread.
-#[derive(Clone, Copy)]
-pub(crate) enum Spread {
-    /// There are too few numbers.
-    Nothing,
-    /// So many thousandths, rounded to the nearest number, halves to even.
-    Thousandths(u128),
-    /// The sums that it is made of have more than 128 bits.
-    Overflow,
-}
-
 /// The standard deviation: the root of the mean square distance from the mean.
-pub(crate) fn deviation_of(tally: &Tally) -> Spread {
+pub(crate) fn deviation_of(tally: &Tally) -> Cell {
     if tally.count == 0 {
-        return Spread::Nothing;
+        return Cell::Nothing;
     }
     let count = u128::from(tally.count);
-    match four_squares(tally, count) {
-        Some(four) => Spread::Thousandths(half_root(four, count.saturating_mul(count))),
-        None => Spread::Overflow,
+    match squares_of(tally, count) {
+        // Four times the square of the deviation in thousandths.
+        Some(squares) => Cell::root(half_root(4_000_000, squares, count.saturating_mul(count))),
+        None => Cell::Overflow,
     }
 }
 
-// Four times the square of the deviation in thousandths, times the square of the count. `None` if
-// it has more than 128 bits. Distances are taken from the least number, since that changes no
-// deviation.
-fn four_squares(tally: &Tally, count: u128) -> Option<u128> {
+// The square of the deviation, times the square of the count. `None` if it has more than 128 bits.
+// Distances are taken from the least number, since that changes no deviation.
+fn squares_of(tally: &Tally, count: u128) -> Option<u128> {
     let least = tally.least()?;
     let mut sum: u128 = 0;
     let mut squares: u128 = 0;
@@ -42,20 +32,22 @@ fn four_squares(tally: &Tally, count: u128) -> Option<u128> {
     let square = count
         .checked_mul(squares)?
         .saturating_sub(sum.checked_mul(sum)?);
-    square.checked_mul(4_000_000)
+    Some(square)
 }
 
-/// Half the root of a quotient, rounded to the nearest number, halves to even.
-pub(crate) fn half_root(dividend: u128, divisor: u128) -> u128 {
-    let quotient = dividend.checked_div(divisor).unwrap_or(0);
-    let root = quotient.isqrt();
+/// Half the root of a quotient that is multiplied by a factor, rounded to the nearest number,
+/// halves to even. `None` if the product, or that of the factor and the divisor, has more than 128
+/// bits; the dividend is divided first, so that it may have 128 bits.
+pub(crate) fn half_root(factor: u128, dividend: u128, divisor: u128) -> Option<u128> {
+    let rest = dividend.checked_rem(divisor)?.checked_mul(factor)?;
+    let whole = dividend.checked_div(divisor)?.checked_mul(factor)?;
+    let square = whole.checked_add(rest.checked_div(divisor)?)?;
+    let root = square.isqrt();
+    let is_exact = rest.checked_rem(divisor) == Some(0) && root.saturating_mul(root) == square;
     let half = root / 2;
-    let is_tie = root
-        .checked_mul(root)
-        .is_some_and(|square| square.checked_mul(divisor) == Some(dividend));
-    if root % 2 == 1 && (!is_tie || half % 2 == 1) {
-        half.saturating_add(1)
+    if root % 2 == 1 && (!is_exact || half % 2 == 1) {
+        Some(half.saturating_add(1))
     } else {
-        half
+        Some(half)
     }
 }
