@@ -20,9 +20,9 @@ pub(crate) struct Label {
 }
 
 impl Label {
-    /// Adds the text. No letter is wider than 120 tenths of a pixel, and most are not wider than 75.
-    /// A text that may have no room is made as wide as most letters are, and smaller if that is
-    /// wider than its room. The size is given, too, for programs that don't know `textLength`.
+    /// Adds the text. No letter is wider than 120 tenths of a pixel, and most have at most 75. A
+    /// text that may have no room is made as wide as most letters are, and smaller if that is wider
+    /// than its room. The size is given, too, for programs that don't know `textLength`.
     pub(crate) fn push(self, text: &mut String, words: &str) -> Result<(), AllocError> {
         let Label { class, x, y, room } = self;
         write!(text, "<text class=\"{class}\" x=\"{x}\" y=\"{y}\"")?;
@@ -35,7 +35,8 @@ impl Label {
             let size = size.unwrap_or(120);
             write!(
                 text,
-                " textLength=\"{length}\" lengthAdjust=\"spacingAndGlyphs\" style=\"font-size:{size}px\""
+                " textLength=\"{length}\" lengthAdjust=\"spacingAndGlyphs\" \
+                 style=\"font-size:{size}px\""
             )?;
         }
         writeln!(text, ">{words}</text>")

@@ -33,7 +33,7 @@ pub struct Subject {
 
 impl Subject {
     /// What a name stands for in a model. The name of a component is its path. That of
-    /// a variable, a flag, a bag, a queue or an output port is the path of its component, a dot, and
+    /// a variable, a flag, a bag, a queue or an output port is the path of its component, a dot and
     /// its own name. That of an output of the root is its own name. `None` if nothing has the name.
     ///
     /// # Errors

@@ -20,6 +20,8 @@ pub mod error;
 pub mod faults;
 /// The graph of a model.
 pub mod graph;
+/// What has a name that a view does not take.
+mod others;
 /// Curves of a trace.
 pub mod plot;
 /// The numbers of a trace.

@@ -2,6 +2,7 @@
 
 use crate::chosen::no_name;
 use crate::error::ViewError;
+use crate::others::not_taken;
 use dv_job::load::{accept, load};
 use dv_plot::subject::all_names;
 use dv_plot::{PlotOptions, PlotWriter, Subject};
@@ -19,7 +20,9 @@ use std::io::{Read, Write};
 /// - `Unread`: the trace can't be read. This is also the answer if its first piece can't be read
 ///   and the model would be refused.
 /// - `Job` with `Text`: the model is refused. `NoPath`: the model is accepted, and nothing has a
-///   name that is given. `Trace`: both are accepted, and the trace is refused.
+///   name that is given. `Trace`: both are accepted, and the trace is refused. `NoPath` is also the
+///   answer if all of these are accepted, and the trace ends before the first tick that is asked
+///   for.
 /// - `Job` with `Write`: a write failed. `Job` with `Memory`: an allocation was refused. The writer
 ///   holds a beginning of the picture, for `Memory` perhaps nothing. For all other errors nothing
 ///   was written.
@@ -51,6 +54,10 @@ fn plot_trace<T: Read, W: Write>(
     let mut curves = PlotWriter::new(alloc, tree, subjects, options)?;
     pieces.give_all(&mut curves)?;
     let (picture, reach) = curves.finish()?;
+    if options.is_behind(reach) {
+        let words = format!(in alloc; "nothing is behind the end: {reach}")?;
+        return Err(ViewError::NoPath(words));
+    }
     picture.write(alloc, writer)?;
     Ok(reach)
 }
@@ -65,13 +72,20 @@ fn subjects_of(
     for name in names {
         match Subject::named(alloc, tree, name.as_str())? {
             Some(subject) => keep(&mut subjects, subject)?,
-            None => {
-                let names = all_names(alloc, tree)?;
-                return Err(no_name(alloc, "nothing of this name", name.as_str(), &names)?);
-            }
+            None => return Err(no_subject(alloc, tree, name.as_str())?),
         }
     }
     Ok(subjects)
+}
+
+// The error for a name that nothing has which can be shown.
+fn no_subject(alloc: Global, tree: &Tree<'_>, name: &str) -> Result<ViewError, AllocError> {
+    let shown = "components, their variables and output ports, and outputs of the root are shown";
+    if let Some(error) = not_taken(alloc, tree, name, shown)? {
+        return Ok(error);
+    }
+    let names = all_names(alloc, tree)?;
+    no_name(alloc, "nothing of this name", name, &names)
 }
 
 fn keep(subjects: &mut Vec<Subject>, subject: Subject) -> Result<(), AllocError> {

@@ -2,12 +2,13 @@
 
 use crate::chosen::{chosen_of, no_name};
 use crate::error::ViewError;
+use crate::others::not_taken;
 use dv_job::load::{accept, load};
 use dv_stats::{Flow, FlowOptions, Gate, StatsOptions, StatsWriter, gate_names};
 use dv_table::inputs_of;
 use dv_trace::{PieceReader, Reach, Span};
 use dv_tree::Tree;
-use std::alloc::Global;
+use std::alloc::{AllocError, Global};
 use std::io::{Read, Write};
 
 /// Writes the numbers of each component and each output of the root in a trace of a model, and
@@ -118,9 +119,17 @@ fn gate_of(
         Some(_) => Err(ViewError::NoPath(format!(in alloc;
             "nothing goes out by the input `{name}`"
         )?)),
-        None => {
-            let names = gate_names(alloc, tree)?;
-            Err(no_name(alloc, "no port of this name", name, &names)?)
-        }
+        None => Err(no_gate(alloc, tree, name)?),
     }
+}
+
+// The error for a name that no port has by which values come in or go out.
+fn no_gate(alloc: Global, tree: &Tree<'_>, name: &str) -> Result<ViewError, AllocError> {
+    let paired =
+        "values are paired at output ports of components, and inputs and outputs of the root";
+    if let Some(error) = not_taken(alloc, tree, name, paired)? {
+        return Ok(error);
+    }
+    let names = gate_names(alloc, tree)?;
+    no_name(alloc, "no port of this name", name, &names)
 }
