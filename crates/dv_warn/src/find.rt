@@ -1,5 +1,6 @@
 //! Finds the warnings of a model.
 
+use crate::alike::{Told, told_once};
 use crate::atomic::AtomicModel;
 use crate::constants::Nowhere;
 use crate::divisors::find_zero_divisors;
@@ -20,16 +21,16 @@ use dv_syntax::Model;
 use dv_tree::{Tree, level_at};
 use std::alloc::{AllocError, Global};
 
-/// The warnings about the model of a tree, in the order of the text. A model that the root does not
-/// lead to gets only the warning that says so.
+/// The warnings about the model of a tree, in the order of the text; of those that say the same of
+/// several models or parts the first one. A model that the root does not lead to gets only the warning that says so.
 ///
 /// # Errors
 ///
 /// Memory is refused.
-pub fn find_warnings<'t>(alloc: Global, tree: &'t Tree<'t>) -> Result<Vec<Found<'t>>, AllocError> {
+pub fn find_warnings<'t>(alloc: Global, tree: &'t Tree<'t>) -> Result<Vec<Told<'t>>, AllocError> {
     let mut findings = Findings::new(alloc, tree);
     find_all(alloc, tree, &mut findings)?;
-    findings.in_order()
+    told_once(alloc, &tree.file().models, findings.in_order()?)
 }
 
 fn find_all<'t>(

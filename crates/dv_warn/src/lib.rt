@@ -3,13 +3,16 @@
 //! `find_warnings` looks for names that nothing uses, phases that nothing reaches or that time does
 //! not leave, rules that never run, values that are lost, statements behind a `goto`, numbers
 //! outside of their ranges, and divisors that may be 0. Each `Warning` comes with the offset of the
-//! token to which it belongs. `write_warnings` prints them in the order of the text, one a line.
+//! token to which it belongs; of those that say the same of several models or parts the first one is
+//! told, with how many more there are. `write_warnings` prints them in the order of the text, one a line.
 //!
 //! `dv_views` calls it for `check --warn`. It is proved that these calls are safe and return, and
 //! nothing about the warnings themselves: a model without warnings may have mistakes, and a model
 //! with some may be right.
 #![tactic(auto)]
 
+/// Warnings that say the same of several copies of a model or of a part.
+pub mod alike;
 /// An atomic model, with what is known of it.
 mod atomic;
 /// The values of expressions without names.
@@ -49,6 +52,7 @@ pub mod text;
 /// The warnings and their sentences.
 pub mod warning;
 
+pub use alike::Told;
 pub use find::find_warnings;
 pub use text::write_warnings;
 pub use warning::{Direction, Found, NeverRuns, StateSort, Warning};

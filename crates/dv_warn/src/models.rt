@@ -37,7 +37,8 @@ fn names_of(alloc: Global, models: &[&Model]) -> Result<HashSet<u32>, AllocError
     Ok(names)
 }
 
-fn name_of(model: &Model) -> Name {
+/// The name of a model.
+pub(crate) fn name_of(model: &Model) -> Name {
     match model {
         Model::Atomic(atomic) => atomic.name,
         Model::Coupled(coupled) => coupled.name,

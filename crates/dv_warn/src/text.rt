@@ -1,7 +1,7 @@
 //! Writes warnings as lines.
 
+use crate::alike::Told;
 use crate::find::find_warnings;
-use crate::warning::Found;
 use dv_text::{WriteError, hand_over, hand_over_if_long};
 use dv_tree::Tree;
 use std::alloc::Global;
@@ -43,7 +43,7 @@ fn is_continuation(byte: u8) -> bool {
 }
 
 /// Writes the warnings about the model of a text, in the order of the text, and returns how many
-/// there are. A line is `FILE:LINE:COLUMN: warning: SENTENCE`, where `FILE` is `name`; lines and
+/// lines there are. A line is `FILE:LINE:COLUMN: warning: SENTENCE`, where `FILE` is `name`; lines and
 /// columns count from 1, columns in characters.
 ///
 /// # Errors
@@ -67,14 +67,14 @@ fn write_lines<W: Write>(
     lines: &mut String,
     name: &str,
     text: &[u8],
-    warnings: &[Found<'_>],
+    warnings: &[Told<'_>],
     writer: &mut W,
 ) -> Result<(), WriteError> {
     let mut spot = Spot::START;
-    for found in warnings {
-        spot.advance(text, found.offset as usize);
+    for told in warnings {
+        spot.advance(text, told.found.offset as usize);
         let Spot { line, column, .. } = spot;
-        writeln!(lines, "{name}:{line}:{column}: warning: {}", found.warning)?;
+        writeln!(lines, "{name}:{line}:{column}: warning: {told}")?;
         hand_over_if_long(lines, writer)?;
     }
     hand_over(writer, lines.as_bytes())
