@@ -47,11 +47,11 @@ def real(word):
 
 
 def gap_law(word):
-    """A function that draws a gap: a real number that is not below 0, since time does not go back."""
-    draw = real(word)
-    if min(parts_of(word)[1]) < 0:
+    """A function that draws a gap, a real number that is not below 0, since time does not go back; and whether time goes on by some."""
+    draw, numbers = real(word), parts_of(word)[1]
+    if min(numbers) < 0:
         raise argparse.ArgumentTypeError(f"`{word}` has gaps below 0")
-    return draw
+    return draw, max(numbers) > 0
 
 
 def value_law(word):
@@ -79,17 +79,18 @@ def main():
     """Reads the words and prints the inputs."""
     parser = argparse.ArgumentParser(description="Prints inputs at random times for a seed.", epilog=f"LAW is {LAWS}.")
     parser.add_argument("port", help="the input port of the root")
-    gap = "the ticks between two arrivals: real numbers, which are added up; each sum is rounded to a tick"
-    parser.add_argument("--gap", type=gap_law, metavar="LAW", required=True, help=gap)
-    value = "the values (fixed:1): of uniform, whole numbers that are equally likely; what another law draws is rounded"
-    parser.add_argument("--value", type=value_law, metavar="LAW", default="fixed:1", help=value)
+    gaps = "the ticks between two arrivals: real numbers, which are added up; each sum is rounded to a tick"
+    parser.add_argument("--gap", type=gap_law, metavar="LAW", required=True, help=gaps)
+    values = "the values (fixed:1): of uniform, whole numbers that are equally likely; what another law draws is rounded"
+    parser.add_argument("--value", type=value_law, metavar="LAW", default="fixed:1", help=values)
     parser.add_argument("--until", type=int, default=10**15, help="the last tick at which a value may come")
     parser.add_argument("--count", type=int, help="how many values come, at most")
     parser.add_argument("--seed", default="1", help="any word; the same word gives the same inputs (1)")
     words = parser.parse_args()
-    if words.count is None and words.until == 10**15:
-        parser.error("--count or --until says where the inputs end")
-    coming = itertools.takewhile(lambda arrival: arrival[0] <= words.until, arrivals(words.gap, words.value, words.seed))
+    gap, goes_on = words.gap
+    if words.count is None and (words.until == 10**15 or not goes_on):
+        parser.error("--count or --until says where the inputs end; where all gaps are 0, --count does")
+    coming = itertools.takewhile(lambda arrival: arrival[0] <= words.until, arrivals(gap, words.value, words.seed))
     for tick, value in itertools.islice(coming, words.count):
         print(tick, words.port, value)
 

@@ -67,9 +67,10 @@ def stats(model, horizon, **options):
     return {(row["kind"], row["component"], row["name"], row["measure"]): cell(row["measure"], row["value"]) for row in rows}
 
 
-def table(model, horizon, inputs=None, **options):
+def table(model, horizon, inputs=None, begin=None, end=None, only=None, **options):
     """The rows of a run, as `table --json` prints them: one dictionary for each transition, value that was sent and value that came."""
+    shown = words_of({"inputs": inputs, "begin": begin, "end": end, "only": only})
     with tempfile.NamedTemporaryFile("w", suffix=".trace", encoding="utf-8") as trace:
         trace.write(run(model, horizon, inputs=inputs, **options))
         trace.flush()
-        return [json.loads(line) for line in call("table", model, trace.name, "--json", *words_of({"inputs": inputs})).splitlines()]
+        return [json.loads(line) for line in call("table", model, trace.name, "--json", *shown).splitlines()]
