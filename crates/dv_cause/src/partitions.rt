@@ -59,7 +59,10 @@ impl fmt::Display for Words<'_> {
             }
             Reason::Repeated(path) => write!(f, "{} is named again", Quoted(path.as_str())),
             Reason::Missing(path) => write!(f, "{} is in no process", Quoted(path.as_str())),
-            Reason::Empty(process) => write!(f, "the process {process} has no component"),
+            Reason::Empty(process) => write!(
+                f,
+                "the process {process} has no component (the first one is 0)"
+            ),
             Reason::Count(0) => f.write_str("there is no process"),
             Reason::Count(count) => write!(f, "{count} processes, more than {GREATEST_PROCESSES}"),
             Reason::Crowded {

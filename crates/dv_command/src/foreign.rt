@@ -54,6 +54,20 @@ pub(crate) fn foreign_reason(words: &[String]) -> Option<&'static str> {
         .find_map(|word| reason_of(word.as_str()))
 }
 
+/// Why words are refused of which one has a single dash and then at least two letters, as
+/// `-horizon`.
+pub(crate) fn dash_reason(words: &[String]) -> Option<&'static str> {
+    let is_long = words
+        .iter()
+        .skip(1)
+        .any(|word| is_long_behind_one_dash(word.as_str()));
+    if is_long {
+        Some("an option has two dashes before it, as in --horizon 10")
+    } else {
+        None
+    }
+}
+
 // What stands for an option of another program, with or without a value behind `=`.
 fn reason_of(word: &str) -> Option<&'static str> {
     let (name, _) = word.split_once('=').unwrap_or((word, ""));
@@ -61,4 +75,12 @@ fn reason_of(word: &str) -> Option<&'static str> {
         .iter()
         .find(|foreign| foreign.words.contains(&name))?;
     Some(foreign.reason)
+}
+
+// Whether a word is one dash and at least two letters.
+fn is_long_behind_one_dash(word: &str) -> bool {
+    match word.as_bytes() {
+        [b'-', first, second, ..] => first.is_ascii_alphabetic() && second.is_ascii_alphabetic(),
+        _ => false,
+    }
 }

@@ -1,7 +1,7 @@
 //! The text of help and of errors.
 
 use crate::command::command;
-use crate::foreign::foreign_reason;
+use crate::foreign::{dash_reason, foreign_reason};
 use crate::help::{Form, Value, WordHelp, subcommands};
 use crate::part::is_value;
 use clap::ArgMatches;
@@ -38,13 +38,19 @@ pub(crate) fn usage_text(alloc: Global, words: &[String]) -> Result<String, Allo
         Err(error) => match error.kind() {
             ErrorKind::OutOfMemory => Err(AllocError),
             ErrorKind::DisplayHelp | ErrorKind::DisplayHelpOnMissingArgumentOrSubcommand => {
-                error.to_string(alloc)
+                match dash_reason(words) {
+                    Some(reason) => refused(alloc, reason),
+                    None => error.to_string(alloc),
+                }
             }
             ErrorKind::DisplayVersion => refused(
                 alloc,
                 "the version is asked for by the word --version, or -V",
             ),
-            _ => match (first_misfit(words), foreign_reason(words)) {
+            _ => match (
+                first_misfit(words),
+                dash_reason(words).or(foreign_reason(words)),
+            ) {
                 (Some(misfit), _) => refused_misfit(alloc, &misfit),
                 (None, Some(reason)) => refused(alloc, reason),
                 (None, None) => error.to_string(alloc),

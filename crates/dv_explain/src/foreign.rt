@@ -72,6 +72,12 @@ fn sentence_on(word: &str) -> &'static str {
     }
 }
 
+/// Words by which other languages take in another file.
+pub const IMPORTS: &[&str] = &["import", "include", "use", "require", "using"];
+
+/// On those words.
+pub const NO_IMPORT: &str = "There is no import: all models are in one text, before `root`.\n";
+
 /// Words of other languages with one meaning, and the sentence on them, with a line feed.
 struct Foreign {
     words: &'static [&'static str],
@@ -90,8 +96,8 @@ const FOREIGN: &[Foreign] = &[
         sentence: "A variable is declared among the items of its model, by `var n: 0..9 = 0;`, and a rule assigns to it by `n := 1;`.\n",
     },
     Foreign {
-        words: &["import", "include", "use", "require", "using"],
-        sentence: "There is no import: all models are in one text, before `root`.\n",
+        words: IMPORTS,
+        sentence: NO_IMPORT,
     },
     Foreign {
         words: &[
@@ -157,6 +163,10 @@ const FOREIGN: &[Foreign] = &[
         sentence: "There is no `while`: a rule runs once, `for v in b { .. }` goes through a bag, and a phase with `hold z: 0;` repeats at once.\n",
     },
     Foreign {
+        words: &["range"],
+        sentence: "A loop goes through the values of a bag, as `for v in b { .. }`; a phase with `hold z: 0;` repeats at once.\n",
+    },
+    Foreign {
         words: &["switch", "case", "match", "when", "select"],
         sentence: "There is no `switch`: write `if n = 1 { .. } else { .. }`.\n",
     },
@@ -214,6 +224,18 @@ const FOREIGN: &[Foreign] = &[
     Foreign {
         words: &["len", "length", "count"],
         sentence: "`size(b)` is the number of values in a bag.\n",
+    },
+    Foreign {
+        words: &["empty", "is_empty", "isempty"],
+        sentence: "`size(b) = 0` is true if there is no value in a bag.\n",
+    },
+    Foreign {
+        words: &["clear", "reset"],
+        sentence: "A bag loses all its values by `for v in b { drop v from b; }`.\n",
+    },
+    Foreign {
+        words: &["wait", "delay", "sleep", "timeout"],
+        sentence: "How long a phase lasts is declared by `hold z: 5;`.\n",
     },
     Foreign {
         words: &["next", "transition"],

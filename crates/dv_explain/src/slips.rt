@@ -1,5 +1,7 @@
 //! Signs and habits of other languages, recognized at the offset of a refusal.
 
+use crate::foreign::{IMPORTS, NO_IMPORT};
+
 /// A slip: how the text before the offset ends, how the text from it on begins, and a sentence.
 struct Slip {
     before: &'static str,
@@ -31,6 +33,9 @@ pub fn slip_at(text: &[u8], offset: usize) -> &'static str {
     }
     if is_list_of_parts(before, after) {
         return "There are no lists of parts: write an item for each, as `part a1: A; part a2: A;`.\n";
+    }
+    if is_import(before, after) {
+        return NO_IMPORT;
     }
     match slips().iter().find(|slip| is_at(slip, before, after)) {
         Some(slip) => slip.words,
@@ -128,6 +133,21 @@ fn slips() -> &'static [Slip] {
             before: ">",
             after: ">",
             words: "There are no operations on bits: divide by a power of 2.\n",
+        },
+        Slip {
+            before: "",
+            after: "−",
+            words: "A minus sign is `-`.\n",
+        },
+        Slip {
+            before: "",
+            after: "×",
+            words: "`*` multiplies.\n",
+        },
+        Slip {
+            before: "",
+            after: "÷",
+            words: "`/` divides and drops the remainder.\n",
         },
         Slip {
             before: "",
@@ -292,6 +312,12 @@ fn is_list_of_parts(before: &[u8], after: &[u8]) -> bool {
         .get(before.len().saturating_sub(words)..)
         .unwrap_or(&[]);
     after.starts_with(b"[") && item.trim_ascii_start().starts_with(b"part ")
+}
+
+/// Whether the name of a file follows a word that takes in another file.
+fn is_import(before: &[u8], after: &[u8]) -> bool {
+    let before = without_blanks(before);
+    after.starts_with(b"\"") && IMPORTS.iter().any(|word| before.ends_with(word.as_bytes()))
 }
 
 /// Whether an `if` follows an `else`.

@@ -112,13 +112,13 @@ fn lacks_version(expected: &Expectations, read: &Tokens, number: usize) -> bool 
 /// A sentence with a line feed on what is probably meant by the token at index `number`, or an
 /// empty text.
 fn hint_at(read: &Tokens, number: usize, expected: &Expectations) -> &'static str {
-    let foreign = foreign_at(read, number, expected);
-    if !foreign.is_empty() {
-        return foreign;
-    }
     let earlier = hint_after(read, number, expected);
     if !earlier.is_empty() {
         return earlier;
+    }
+    let foreign = foreign_at(read, number, expected);
+    if !foreign.is_empty() {
+        return foreign;
     }
     let is_assigned = symbol_at(read, number.saturating_add(1)) == Some(Symbol::Assign);
     match read.tokens.get(number) {
@@ -137,12 +137,57 @@ fn hint_after(read: &Tokens, number: usize, expected: &Expectations) -> &'static
         "The port comes first, and then the value: `send y 1;`.\n"
     } else if earlier == Some(Keyword::Goto) && expected.have(SEMICOLON) {
         "`goto` names a phase alone; how long it lasts is declared by `hold z: 5;`.\n"
+    } else if begins_rule(earlier) && symbol_at(read, number) == Some(Symbol::OpenParen) {
+        "A rule has no parameters: what has arrived is read by `sum(x)`, or by `for v in x { .. }`.\n"
+    } else if symbol_at(read, number) == Some(Symbol::Comma) {
+        hint_on_arguments(keyword_at(read, number.checked_sub(3)))
+    } else if before == Some(Keyword::Else) {
+        BRACES
+    } else if wants_number(expected) && is_name_behind_value(read, number) {
+        NAMED_NUMBER
     } else if number == 0 && symbol_at(read, 1) == Some(Symbol::Dot) {
         "This looks like a trace: a model begins with `atomic`, `coupled` or `version`.\n"
     } else {
         ""
     }
 }
+
+/// A sentence on values and a collection in parentheses behind a word that changes one.
+fn hint_on_arguments(word: Option<Keyword>) -> &'static str {
+    match word {
+        Some(Keyword::Push) => "The value comes first, and then the queue: `push 1 to q;`.\n",
+        Some(Keyword::Add) => "The value comes first, and then the bag: `add 1 to b;`.\n",
+        Some(Keyword::Drop) => "The value comes first, and then the bag: `drop 1 from b;`.\n",
+        _ => "",
+    }
+}
+
+/// On a name where a number is expected.
+const NAMED_NUMBER: &str =
+    "A number is wanted here, and not a name: there are no constants, so write the number itself.\n";
+
+/// Whether the token at index `number` is a name that no colon precedes, where other languages have
+/// a type.
+fn is_name_behind_value(read: &Tokens, number: usize) -> bool {
+    let is_type = symbol_at(read, number.saturating_sub(1)) == Some(Symbol::Colon);
+    !name_at(read, number).is_empty() && !is_type
+}
+
+/// Whether a number is expected that has to be written out.
+fn wants_number(expected: &Expectations) -> bool {
+    expected.have(Part::Number) || expected.have(Part::Bound)
+}
+
+/// Whether a word begins a rule.
+fn begins_rule(word: Option<Keyword>) -> bool {
+    matches!(
+        word,
+        Some(Keyword::Output | Keyword::Internal | Keyword::External | Keyword::Confluent)
+    )
+}
+
+/// On a statement without the braces around it.
+const BRACES: &str = "Statements stand in braces, as `{ n := 1; }`.\n";
 
 /// The reserved word that the token at an index is, if it is one.
 fn keyword_at(read: &Tokens, number: Option<usize>) -> Option<Keyword> {
@@ -172,6 +217,8 @@ fn hint_on(expected: &Expectations, kind: TokenKind, is_assigned: bool) -> &'sta
         TokenKind::Keyword(word) => hint_on_word(expected, word, is_assigned),
         TokenKind::Symbol(symbol) => hint_on_sign(expected, symbol),
         TokenKind::Name(_) if expected.have(Part::Items) && is_assigned => OUTSIDE,
+        TokenKind::Name(_) if expected.have(OPEN_BRACE) && is_assigned => BRACES,
+        TokenKind::Name(_) if wants_number(expected) => NAMED_NUMBER,
         TokenKind::Name(_) | TokenKind::Number(_) => "",
     }
 }
@@ -186,6 +233,10 @@ const RESERVED: &str = "It is a reserved word, and can't be a name.\n";
 fn hint_on_word(expected: &Expectations, word: Keyword, is_assigned: bool) -> &'static str {
     if expected.have(Part::Operand) && word == Keyword::Not {
         "Put `not` and its operand in parentheses.\n"
+    } else if expects_value(expected) && word == Keyword::If {
+        "`if` is a statement and has no value: assign in each of its blocks, as `if n > 3 { m := 1; } else { m := 2; }`.\n"
+    } else if expects_value(expected) && word == Keyword::Pop {
+        "`pop q;` is a statement and has no value: read it before, as `n := front(q); pop q;`.\n"
     } else if expects_name(expected) || is_assigned {
         RESERVED
     } else if expected.have(Part::End) {
@@ -235,6 +286,8 @@ fn hint_on_sign(expected: &Expectations, symbol: Symbol) -> &'static str {
         "`*` is not a wildcard: write a rule for each phase, and a link for each port.\n"
     } else if is_arithmetic(symbol) && expected.have(EQUAL) {
         "A bound is a number, with or without `-`: work it out.\n"
+    } else if symbol == Symbol::Dot && expected.have(Part::Operators) {
+        "There are no fields and no methods: the number of values in a bag is `size(b)`.\n"
     } else if symbol == Symbol::Comma && !expected.have(Part::Operators) {
         hint_on_comma(expected)
     } else if symbol == Symbol::Semicolon && expected.have(ASSIGN) {
@@ -265,11 +318,12 @@ fn hint_on_comma(expected: &Expectations) -> &'static str {
 
 /// Whether a name is expected, alone or in an expression.
 fn expects_name(expected: &Expectations) -> bool {
-    expected.have(Part::Name)
-        || expected.have(Part::LinkEnd)
-        || expected.have(Part::Expression)
-        || expected.have(Part::Ticks)
-        || expected.have(Part::Operand)
+    expected.have(Part::Name) || expected.have(Part::LinkEnd) || expects_value(expected)
+}
+
+/// Whether an expression is expected, or the rest of one.
+fn expects_value(expected: &Expectations) -> bool {
+    expected.have(Part::Expression) || expected.have(Part::Ticks) || expected.have(Part::Operand)
 }
 
 /// Whether a brace is expected that closes a model or a block.

@@ -51,11 +51,12 @@ pub fn hint_on(alloc: Global, text: &[u8], refusal: &TextError) -> Result<Cause,
     }
 }
 
-/// Whether a text begins with a number, as a trace does and a model never.
+/// Whether a text begins with a time, `TICK.MICROSTEP`, as a trace does and a model never.
 fn begins_like_trace(text: &[u8]) -> bool {
-    match text.first() {
-        Some(byte) => byte.is_ascii_digit(),
-        None => false,
+    let digits = text.iter().take_while(|byte| byte.is_ascii_digit()).count();
+    match text.get(digits..) {
+        Some([b'.', next, ..]) => digits > 0 && next.is_ascii_digit(),
+        _ => false,
     }
 }
 

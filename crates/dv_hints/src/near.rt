@@ -85,8 +85,8 @@ struct Near<'a> {
 
 impl<'a> Near<'a> {
     /// No near names yet. A name is near if at most one edit, or one for each three characters of
-    /// the text, turns one into the other. An edit inserts, deletes or replaces a character, or
-    /// swaps two neighbours. ASCII case does not count.
+    /// the text, turns one into the other, and a character stays. An edit inserts, deletes or
+    /// replaces a character, or swaps two neighbours. ASCII case does not count.
     fn to(alloc: Global, text: &str) -> Self {
         let edits = text.chars().count() / 3;
         Near {
@@ -101,6 +101,9 @@ impl<'a> Near<'a> {
             return Ok(());
         }
         let distance = distance_of(alloc, text, name)?;
+        if distance >= text.chars().count().max(name.chars().count()) {
+            return Ok(());
+        }
         if distance < self.distance {
             self.names.clear();
         }

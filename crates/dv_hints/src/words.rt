@@ -62,7 +62,7 @@ fn unknown(
         name: text,
         sort: sort_elsewhere(known, name, wanted, around),
     };
-    let meant = foreign_value(text, wanted, around);
+    let meant = foreign_name(text, wanted, around);
     let sentence = wanted_here(read, wanted, around, &names);
     cause_of_unknown(
         alloc,
@@ -99,12 +99,30 @@ impl fmt::Display for Elsewhere<'_> {
     }
 }
 
-/// A sentence with a line feed on a name that is a value in other languages, or an empty text.
-fn foreign_value(text: &str, wanted: Wanted, around: &Around) -> &'static str {
-    if wanted != Wanted::Value {
-        return "";
+/// A sentence with a line feed on a name that has a meaning in other languages, or an empty text.
+fn foreign_name(text: &str, wanted: Wanted, around: &Around) -> &'static str {
+    match wanted {
+        Wanted::Value => foreign_value(text, around),
+        Wanted::Assigned => foreign_target(text),
+        _ => "",
     }
+}
+
+/// A sentence on a name that is assigned in other languages.
+fn foreign_target(text: &str) -> &'static str {
     match text {
+        "phase" | "state" | "next" => "The next phase is chosen by `goto z;`.\n",
+        "sigma" | "ta" => "How long a phase lasts is declared by `hold z: 5;`.\n",
+        _ => "",
+    }
+}
+
+/// A sentence on a name that is a value in other languages.
+fn foreign_value(text: &str, around: &Around) -> &'static str {
+    match text {
+        "phase" | "state" => {
+            "A rule belongs to one phase: what differs by phase is written in rules of their own.\n"
+        }
         "inf" | "INF" | "Inf" | "infinity" | "INFINITY" | "Infinity" | "never"
             if around.rule.is_none() => {
             "A hold without an end is `forever`, by itself: `hold z: forever;`.\n"
