@@ -30,6 +30,8 @@ pub mod entry;
 pub mod fault;
 /// Inputs from outside.
 pub mod inputs;
+/// What the variables of states were.
+pub mod kept;
 /// Laws of bags and of parts of a trace.
 pub mod laws;
 /// Tests of limits.
@@ -59,6 +61,7 @@ pub use discipline::{Change, Discipline};
 pub use entry::{Entry, Kind, NoKind, Outer, What};
 pub use fault::{Fault, NoFault, RuleError};
 pub use inputs::{Input, Inputs};
+pub use kept::KeptVariables;
 pub use part::{Part, Trace};
 pub use queue::Queue;
 pub use response::Response;

@@ -43,7 +43,7 @@ impl Datum {
     // Makes this a copy of another one. A collection keeps its memory if the other is a collection
     // too.
     #[inline(always)]
-    fn copy_from(&mut self, other: &Datum) -> Result<(), AllocError>
+    pub(crate) fn copy_from(&mut self, other: &Datum) -> Result<(), AllocError>
         ensures { OnOk result (self.new ≡ other.now) }
     {
         match other {
@@ -145,7 +145,7 @@ impl Eq for Datum {
 /// made once and then changed in place, so that its memory serves a whole run.
 #[derive(Drop)]
 pub struct Variables {
-    data: Vec<Datum>,
+    pub(crate) data: Vec<Datum>,
 }
 
 impl Model for Variables {
@@ -293,34 +293,6 @@ impl Variables {
         }
     }
 
-    /// Makes these a copy of others. Memory is used again, that of a collection if the other has a
-    /// collection at the same index.
-    ///
-    /// # Errors
-    ///
-    /// No memory for more than these have. Their contents are then unspecified.
-    #[inline(always)]
-    pub fn copy_from(&mut self, other: &Variables) -> Result<(), AllocError>
-        ensures { OnOk result (self.new ≡ other.now) }
-    {
-        if self.data.len() == other.data.len() {
-            copy_all(self.data.as_mut_slice(), other.data.as_slice())
-        } else {
-            self.copy_resized(other)
-        }
-    }
-
-    // The same for others that are more or fewer.
-    #[inline(never)]
-    fn copy_resized(&mut self, other: &Variables) -> Result<(), AllocError>
-        ensures { OnOk result (self.new ≡ other.now) }
-    {
-        self.data.truncate(other.data.len());
-        let (first, rest) = other.data.as_slice().split_at(self.data.len());
-        copy_all(self.data.as_mut_slice(), first)?;
-        push_all(&mut self.data, rest)
-    }
-
     /// States that each number of the variables, bags and queues is a number of the language. Does
     /// nothing.
     pub fn holds_numbers(&self)
@@ -330,28 +302,6 @@ impl Variables {
             datum.holds_numbers();
         }
     }
-}
-
-// Makes each datum a copy of the other one at its index.
-#[inline(always)]
-fn copy_all(to: &mut [Datum], from: &[Datum]) -> Result<(), AllocError>
-    requires { length to.old ≡ length from.now }
-    ensures { OnOk result (to.new ≡ from.now) }
-{
-    for index in 0..from.len() {
-        to[index].copy_from(&from[index])?;
-    }
-    Ok(())
-}
-
-// Appends copies of data.
-fn push_all(to: &mut Vec<Datum>, more: &[Datum]) -> Result<(), AllocError>
-    ensures { OnOk result (to.new.items ≡ to.old.items ++ more.now) }
-{
-    for datum in more {
-        to.push(datum.clone()?)?;
-    }
-    Ok(())
 }
 
 impl Clone for Variables {

@@ -7,7 +7,7 @@ use Rattle.std.proofs.lemmas.Bool.{eqb-true}
 use Rattle.std.proofs.lemmas.List.{drop-append-le, length-append, length-drop, length-set, length-take-le, take-append-le}
 use Rattle.std.proofs.lemmas.List.{get_or-set_other, get_or-set_same, set-get_or, set-set}
 use Rattle.dv_share.proofs.Indices.{itself, yes_or_no}
-use Rattle.dv_local.specs.Orders.{AreCounted, in_order, times_of}
+use Rattle.dv_local.specs.Orders.{AreCounted, in_order, in_turn, times_of}
 use Rattle.dv_local.proofs.Undoing.{all_end, all_last, all_others}
 
 -- what is put at two places may be put there in either order
@@ -232,3 +232,12 @@ pushed {X} order lists n l k x lt counted at is =
       counted = counted_more order lists n x lt counted;
       items = in_order_more order lists n x lt (counted.each n lt);
     })
+
+-- several lists have their items in an order
+pub several_in_turn : {X : Type 0} (order : List ℕ) (lists : List (List X))
+    → 1 < length lists → in_turn order lists ≡ in_order order lists
+several_in_turn {X} order lists several =
+    elim (yes_or_no (nat_eq (length lists) 1)) [
+      | inl y ↦ absurd (omega (arith, several, eqb-true (length lists) 1 y))
+      | inr f ↦ ap (λ b. cond b (get_or lists 0 []) (in_order order lists)) f
+    ]

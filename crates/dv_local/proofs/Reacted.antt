@@ -1,6 +1,7 @@
 -- A component that reacts where it stands.
 use Rattle.std.proofs.Common.{◌≡◌, ◌∙◌, ◌+◌, ◌<◌, ℕ, [], ◌∷◌, ◌++◌, List, Option, Some, None, Result, length, get_or, slice_get, slice_set}
-use Rattle.std.proofs.Common.{append-nil, refl, sym, ap, subst}
+use Rattle.std.proofs.Common.{append-nil, refl, sym, ap, subst, true}
+use Rattle.std.specs.Option.{is_some}
 use Rattle.std.proofs.lemmas.List.{get_or-set_same, length-append, length-set, set-get_or}
 use Rattle.std.proofs.lemmas.Option.{get_or_from_slice_get, same_Some, slice_get_within}
 use Rattle.dv_bag.specs.Bag.{Counts}
@@ -17,7 +18,7 @@ use Rattle.dv_share.specs.Share.{AreComponents, FitsAt, given_at}
 use Rattle.dv_share.specs.declared.index.Indexed.{Indexed}
 use Rattle.dv_share.specs.declared.tables.Tables.{Tables}
 use Rattle.dv_local.specs.Commits.{what_by}
-use Rattle.dv_local.specs.Reacting.{ReactsAt}
+use Rattle.dv_local.specs.Reacting.{ReactsAt, former_of}
 use Rattle.dv_local.specs.Undoing.{AreWithin, time_of_wait, undone, waits_of}
 use Rattle.dv_local.proofs.Commits.{put_stays}
 use Rattle.dv_local.proofs.Undoing.{all_end, undone-exchange, waits-set}
@@ -105,3 +106,9 @@ module _ {S : Type 0} (behaviour : S → Behaviour) (fits : S → State → Type
 
       pub same_former : new ≡ old
       same_former = reacts.former ∙ append-nil old
+
+-- what a component was is logged if something happened to it
+pub one_former : (p : ℕ) (r : Running) (h : Option Happened)
+    → is_some h ≡ true → former_of p r h ≡ (record { index = p; what = r }) ∷ []
+one_former p r None is = absurd (cc)
+one_former p r (Some h) is = refl

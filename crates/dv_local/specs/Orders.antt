@@ -8,6 +8,10 @@ in_order [] lists = []
 in_order (n ∷ order) lists =
     take 1 (slice_index_or lists n []) ++ in_order order (slice_set lists n (drop 1 (slice_index_or lists n [])))
 
+-- the items of the only list, or of several in an order
+abbrev pub in_turn : {X : Type 0} → List ℕ → List (List X) → List X
+in_turn order lists = if nat_eq (length lists) 1 then slice_index_or lists 0 [] else in_order order lists
+
 -- how often a number occurs
 abbrev pub times_of : ℕ → List ℕ → ℕ
 times_of n [] = 0

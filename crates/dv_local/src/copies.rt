@@ -1,4 +1,4 @@
-//! Copies of components of one model, as they were before they reacted.
+//! Copies of components, as they were before they reacted.
 
 ghost use Rattle.std.specs.Prelude.{◌≡◌, ◌-◌, ◌<◌, ◌≤◌, ◌↔◌, ◌++◌, [], List, Some, IfOk, IsSome, OnErr, OnOk, option_to_list, length, slice_get, take};
 ghost use Rattle.dv_bag.specs.Bag.{Counts};
@@ -12,18 +12,17 @@ ghost use Rattle.dv_share.specs.declared.tables.Member.{Member};
 ghost use Rattle.dv_local.specs.Reacting.{former_of};
 
 use crate::moment::Moment;
-use dv_bag::{State, Variables};
-use dv_react::{Atomic, Happened, Running, Wait};
+use dv_react::{Atomic, Happened, Kept, Running};
 use dv_share::{Indexed, Visit, react_member};
 use std::alloc::{AllocError, Global};
 use std::marker::Model;
 
-/// Copies of components of one model before they reacted, each with its index, the last one last. A
-/// discarded copy keeps its memory for the next one: states of one model need the same.
+/// Copies of components before they reacted, each with its index, the last one last. A discarded
+/// copy keeps its memory for the next one, so a list is for components whose states need the same.
 #[derive(Drop)]
 pub struct Copies {
     // The copies, and after them those that were discarded.
-    items: Vec<Indexed<Running>>,
+    items: Vec<Indexed<Kept>>,
     // How many were not discarded.
     count: usize,
     alloc: Global,
@@ -60,6 +59,14 @@ impl Copies {
         self.count = self.count.saturating_sub(1);
     }
 
+    /// Discards all copies, but keeps their memory.
+    #[inline]
+    pub fn clear(&mut self)
+        ensures { self.new ≡ [] }
+    {
+        self.count = 0;
+    }
+
     /// Moves out the last copy.
     pub fn pop(&mut self) -> Option<Indexed<Running>>
         ensures items { self.old ≡ self.new ++ option_to_list result }
@@ -68,7 +75,13 @@ impl Copies {
         self.items.truncate(self.count);
         let last = self.items.pop();
         self.count = self.items.len();
-        last
+        match last {
+            Some(copy) => Some(Indexed {
+                index: copy.index,
+                what: copy.what.into_running(),
+            }),
+            None => None,
+        }
     }
 
     /// Lets a component react in place, and returns what happened, if anything did; then the last
@@ -112,47 +125,67 @@ impl Copies {
         ensures same { OnErr result (component.new ≡ component.old) }
         ensures none { OnErr result (self.new ≡ self.old) }
     {
-        make_room(self.alloc, &mut self.items, self.count)?;
-        let copy = &mut self.items[self.count];
+        let index = visit.arrival.index;
+        keep(self.alloc, &mut self.items, self.count, index, component)?;
         let happened = react_member(
             moment.tables,
             work,
             moment.instant,
             component,
-            &mut copy.what,
+            &mut self.items[self.count].what,
             moment.emitted,
             visit,
         )?;
         if happened.is_some() {
-            copy.index = visit.arrival.index;
             self.count += 1;
         }
         Ok(happened)
     }
 }
 
-// Makes room for a copy after so many.
-fn make_room(
+// Copies a component, with its index, behind so many others. All that it calls comes last, so that
+// it keeps no registers for later.
+#[inline(never)]
+fn keep(
     alloc: Global,
-    items: &mut Vec<Indexed<Running>>,
+    items: &mut Vec<Indexed<Kept>>,
     count: usize,
+    index: u32,
+    component: &Running,
 ) -> Result<(), AllocError>
     requires { count ≤ length items.old.items }
+    ensures kept { OnOk result (slice_get items.new.items count
+        ≡ Some (record { index = index; what = component.now })) }
     ensures room { OnOk result (count < length items.new.items) }
     ensures same { take count items.new.items ≡ take count items.old.items }
-    ensures kept { length items.old.items ≤ length items.new.items }
+    ensures more { length items.old.items ≤ length items.new.items }
 {
-    if count < items.len() {
-        return Ok(());
+    if count == items.len() {
+        return keep_more(alloc, items, count, index, component);
     }
-    let state = State {
-        phase: 0,
-        variables: Variables::new(alloc),
-    };
-    let what = Running {
-        state,
-        last: 0,
-        wait: Wait::Quiet,
-    };
-    Ok(items.push(Indexed { index: 0, what })?)
+    let copy = &mut items[count];
+    copy.index = index;
+    copy.what.copy_from(component)
+}
+
+// The same where there is no room for one more.
+#[cold]
+#[inline(never)]
+fn keep_more(
+    alloc: Global,
+    items: &mut Vec<Indexed<Kept>>,
+    count: usize,
+    index: u32,
+    component: &Running,
+) -> Result<(), AllocError>
+    requires { count ≡ length items.old.items }
+    ensures kept { OnOk result (slice_get items.new.items count
+        ≡ Some (record { index = index; what = component.now })) }
+    ensures room { OnOk result (count < length items.new.items) }
+    ensures same { take count items.new.items ≡ take count items.old.items }
+    ensures more { length items.old.items ≤ length items.new.items }
+{
+    let mut what = Kept::new(alloc);
+    what.copy_from(component)?;
+    Ok(items.push(Indexed { index, what })?)
 }

@@ -9,25 +9,28 @@ ghost use Rattle.dv_share.specs.Outcomes.{IsOutcomeOf, behaviour_in};
 ghost use Rattle.dv_share.specs.Indices.{AreRising, IsNext, indices_of};
 ghost use Rattle.dv_share.specs.Share.{AreTables, FitsAt, given_at};
 ghost use Rattle.dv_share.specs.declared.tables.Member.{Member};
+ghost use Rattle.dv_local.specs.Orders.{AreCounted, in_order};
 ghost use Rattle.dv_local.specs.Reacting.{former_of};
 
 use crate::copies::Copies;
 use crate::moment::Moment;
+use dv_bag::Datum;
 use dv_react::{Atomic, Happened, Running};
 use dv_share::{Indexed, Tables, Visit};
 use std::alloc::{AllocError, Global};
 use std::marker::Model;
 
-// So many models have their copies apart. If a share has more, the last ones have theirs together.
+// So many models have their copies apart. If there are more, the last ones have theirs together.
 const MODELS_APART: usize = 256;
 
 /// Components as they were before they reacted, each with its index, the last one last. The copies
-/// of each model are kept apart, so that the memory of a discarded one fits the next one.
+/// of each model may be kept apart, so that the memory of a discarded one fits the next one.
 #[derive(Drop)]
 pub struct Former {
-    // The copies, by model.
+    // The copies: one list of all, or a list for each model.
     copies: Vec<Copies>,
-    // Which of these has each copy, in the order in which they were made.
+    // Where there are several lists, which of them has each copy, in the order in which they were
+    // made.
     order: Vec<usize>,
 }
 
@@ -35,13 +38,14 @@ impl Model for Former {
     ghost use Rattle.std.specs.Prelude.{List, ◌<◌, length};
     ghost use Rattle.dv_react.specs.declared.running.Running.{Running};
     ghost use Rattle.dv_share.specs.declared.index.Indexed.{Indexed};
-    ghost use Rattle.dv_local.specs.Orders.{AreCounted, in_order};
+    ghost use Rattle.dv_local.specs.Orders.{AreCounted, in_turn};
 
     ghost Value = { List (Indexed Running) };
 
-    ghost view = { λ f. in_order f.order.items f.copies.items };
+    ghost view = { λ f. in_turn f.order.items f.copies.items };
 
-    ghost invariant = { λ f. (0 < length f.copies.items) × AreCounted f.order.items f.copies.items };
+    ghost invariant = { λ f. (0 < length f.copies.items)
+        × (1 < length f.copies.items → AreCounted f.order.items f.copies.items) };
 }
 
 // Empty lists of copies, for so many models.
@@ -62,9 +66,36 @@ fn model_of<A>(tables: &Tables<A>, index: u32) -> usize
     tables.members[index as usize].model as usize
 }
 
+// Discards the copies of several lists.
+fn let_go_all(order: &mut Vec<usize>, copies: &mut Vec<Copies>)
+    requires { AreCounted order.old.items copies.old.items }
+    ensures none { order.new.items ≡ [] }
+    ensures counted { AreCounted order.new.items copies.new.items }
+    ensures lists { length copies.new.items ≡ length copies.old.items }
+{
+    while let Some(list) = order.pop() {
+        copies[list].let_go();
+    }
+}
+
+// Moves out the last copy of several lists.
+fn pop_in_order(order: &mut Vec<usize>, copies: &mut Vec<Copies>) -> Option<Indexed<Running>>
+    requires { AreCounted order.old.items copies.old.items }
+    ensures counted { AreCounted order.new.items copies.new.items }
+    ensures lists { length copies.new.items ≡ length copies.old.items }
+    ensures items { in_order order.old.items copies.old.items
+        ≡ in_order order.new.items copies.new.items ++ option_to_list result }
+    ensures some { IsSome result ↔ (0 < length (in_order order.old.items copies.old.items)) }
+{
+    match order.pop() {
+        Some(list) => copies[list].pop(),
+        None => None,
+    }
+}
+
 impl Former {
-    /// An empty log for components of so many models. It has room for the order of `count` copies;
-    /// room for a copy is made with it.
+    /// An empty log for components of so many models, whose copies are kept apart. It has room for
+    /// the order of `count` copies; room for a copy is made with it.
     ///
     /// # Errors
     ///
@@ -82,8 +113,10 @@ impl Former {
     pub fn clear(&mut self)
         ensures { self.new ≡ [] }
     {
-        while let Some(model) = self.order.pop() {
-            self.copies[model].let_go();
+        if self.copies.len() == 1 {
+            self.copies[0].clear();
+        } else {
+            let_go_all(&mut self.order, &mut self.copies);
         }
     }
 
@@ -92,9 +125,10 @@ impl Former {
         ensures items { self.old ≡ self.new ++ option_to_list result }
         ensures some { IsSome result ↔ (0 < length self.old) }
     {
-        match self.order.pop() {
-            Some(model) => self.copies[model].pop(),
-            None => None,
+        if self.copies.len() == 1 {
+            self.copies[0].pop()
+        } else {
+            pop_in_order(&mut self.order, &mut self.copies)
         }
     }
 
@@ -139,13 +173,38 @@ impl Former {
         ensures same { OnErr result (component.new ≡ component.old) }
         ensures none { OnErr result (self.new ≡ self.old) }
     {
-        self.order.reserve(1)?;
         let last = self.copies.len() - 1;
-        let model = model_of(moment.tables, visit.arrival.index).min(last);
-        let happened = self.copies[model].react_copied(moment, work, component, visit)?;
-        if happened.is_some() {
-            self.order.push_reserved(model);
+        let list = if last == 0 {
+            0
+        } else {
+            self.order.reserve(1)?;
+            model_of(moment.tables, visit.arrival.index).min(last)
+        };
+        let happened = self.copies[list].react_copied(moment, work, component, visit)?;
+        if last > 0 && happened.is_some() {
+            self.order.push_reserved(list);
         }
         Ok(happened)
     }
+}
+
+/// How many lists the copies of components of so many models need. Where no state has a bag or a
+/// queue, the memory of a copy fits each component, so one list has them all.
+pub(crate) fn lists_for(running: &[Running], models: usize) -> usize {
+    for component in running {
+        if has_collection(component.state.variables.as_slice()) {
+            return models;
+        }
+    }
+    1
+}
+
+// Whether one of these data is a bag or a queue.
+fn has_collection(data: &[Datum]) -> bool {
+    for datum in data {
+        if let Datum::Held(_) = datum {
+            return true;
+        }
+    }
+    false
 }

@@ -25,7 +25,7 @@ use crate::components::Components;
 use crate::emission::emit_all;
 use crate::emitted::Emitted;
 use crate::events::{add_events, bringing};
-use crate::former::Former;
+use crate::former::{Former, lists_for};
 use crate::inbox::Inbox;
 use crate::moment::Moment;
 use crate::scratch::Scratch;
@@ -105,7 +105,8 @@ impl<A: Atomic + Drop, R: Record> LocalState<A, R> {
         ensures record { IfOk result (λ x. x.record ≡ to) }
     {
         let room = running.len().min(ROOM_AT_FIRST);
-        let before = Former::with_room(alloc, share.tables.models.len(), room)?;
+        let lists = lists_for(&running, share.tables.models.len());
+        let before = Former::with_room(alloc, lists, room)?;
         let emitted = Emitted::with_room(alloc, room)?;
         let agenda = agenda_of(alloc, &running)?;
         let components = Components::new(running);

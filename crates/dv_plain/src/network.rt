@@ -13,8 +13,8 @@ ghost use Rattle.dv_plain.specs.Outputs.{outputs_at, reactions_at};
 ghost use Rattle.dv_plain.specs.Source.{behaviour_of, network_of};
 
 use crate::atom::Atom;
-use dv_bag::{Bags, Entry, Fault, Part, Sent, State, Variables, What};
-use dv_react::{Happened, Instant, Running, Wait, commit_outer};
+use dv_bag::{Bags, Entry, Fault, Part, Sent, What};
+use dv_react::{Happened, Instant, Kept, Running, commit_outer};
 use dv_tree::Tree;
 use dv_tree::laws::each_component_receives;
 use std::alloc::{AllocError, Global};
@@ -110,7 +110,8 @@ fn react_atom(
     ensures wait { IfOk result (λ what. IsWaitOfRun instant.now.limit component.new.wait) }
 {
     let mut work = alloc;
-    let mut before = empty_component(alloc);
+    let mut before = Kept::new(alloc);
+    before.copy_from(component)?;
     let happened = dv_react::react_component(
         atom,
         &mut work,
@@ -121,18 +122,6 @@ fn react_atom(
         fault,
     )?;
     what_of(component, happened)
-}
-
-// A component without variables, in whose place another one is copied before it reacts.
-fn empty_component(alloc: Global) -> Running {
-    Running {
-        state: State {
-            phase: 0,
-            variables: Variables::new(alloc),
-        },
-        last: 0,
-        wait: Wait::Quiet,
-    }
 }
 
 // What happened to a component, with a copy of its state after that.

@@ -27,6 +27,9 @@ pub mod happened;
 /// An instant of a run.
 pub mod instant;
 
+/// What a component was before it reacted.
+pub mod kept;
+
 /// The output lines of an instant.
 pub mod leaving;
 
@@ -49,6 +52,7 @@ pub use atomic::Atomic;
 pub use goto::go_to;
 pub use happened::Happened;
 pub use instant::Instant;
+pub use kept::Kept;
 pub use leaving::commit_outer;
 pub use reaction::react_component;
 pub use running::Running;

@@ -14,11 +14,11 @@ use crate::index::{Indexed, item_at};
 use crate::tables::Tables;
 use crate::visit::Visit;
 use dv_bag::{Fault, Sent};
-use dv_react::{Atomic, Happened, Instant, Running};
+use dv_react::{Atomic, Happened, Instant, Kept, Running};
 use std::alloc::AllocError;
 
-/// Lets the visited member react in place, and returns what happened, if anything did; then
-/// `before` is the component as it was.
+/// Lets the visited member react in place, and returns what happened, if anything did. `before` is
+/// the component as it is; after the reaction it is the component as it was.
 ///
 /// # Errors
 ///
@@ -29,7 +29,7 @@ pub fn react_member<A: Atomic>(
     work: &mut A::Work,
     instant: &Instant,
     component: &mut Running,
-    before: &mut Running,
+    before: &mut Kept,
     emitted: &[Indexed<Result<Sent, Fault>>],
     visit: &Visit<'_>,
 ) -> Result<Option<Happened>, AllocError>
@@ -41,6 +41,7 @@ pub fn react_member<A: Atomic>(
         → slice_get tables.now.members.items visit.now.arrival.now.index ≡ Some m
         → FitsAt A.fits tables.now.models.items m.model component.old.state }
     requires comes { (a : A) (bags : List Counts) → A.comes a bags }
+    requires before { before.old ≡ component.old }
     requires rise { AreRising (indices_of emitted.now) }
     requires next { IsNext visit.now.arrival.now.index emitted.now visit.now.cursor }
     requires given { (m : Member)

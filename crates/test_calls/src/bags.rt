@@ -2,8 +2,8 @@
 
 use crate::compare::same;
 use dv_bag::{
-    Bag, Bags, Collection, Datum, DatumView, Entry, Held, Kind, Outer, Part, Sent, State,
-    Variables, What,
+    Bag, Bags, Collection, Datum, DatumView, Entry, Held, KeptVariables, Kind, Outer, Part, Sent,
+    State, Variables, What,
 };
 use dv_time::Time;
 use std::process::Abort;
@@ -149,17 +149,20 @@ fn variables_stand_in_order(rt: HostRuntime) {
 fn variables_become_copies(rt: HostRuntime) {
     let from = state_of(&rt, 7);
     let mut to = state_of(&rt, 8);
-    to.variables
-        .copy_from(&from.variables)
-        .expect(&rt, "memory");
+    let mut kept = KeptVariables::new(rt.alloc());
+    kept.copy_from(&from.variables).expect(&rt, "memory");
+    kept.swap(&mut to.variables);
     same!(rt; to == from, true);
-    let mut fewer = Variables::new(rt.alloc());
-    fewer.copy_from(&from.variables).expect(&rt, "memory");
-    same!(rt; fewer == from.variables, true);
-    to.variables
+    kept.copy_from(&Variables::new(rt.alloc()))
+        .expect(&rt, "memory");
+    same!(rt; kept.into_variables().is_empty(), true);
+    let mut shorter = KeptVariables::new(rt.alloc());
+    shorter.copy_from(&from.variables).expect(&rt, "memory");
+    shorter
         .copy_from(&Variables::new(rt.alloc()))
         .expect(&rt, "memory");
-    same!(rt; to.variables.is_empty(), true);
+    shorter.copy_from(&from.variables).expect(&rt, "memory");
+    same!(rt; shorter.into_variables() == from.variables, true);
 }
 
 // A part of transitions of three components, and of one value that leaves by port 4.

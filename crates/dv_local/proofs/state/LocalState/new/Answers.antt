@@ -19,7 +19,7 @@ returns-clause-kept g c =
       share = c.requires.share;
       all_come = c.requires.comes;
       components = subst (λ (ss : List Running). AreComponents g.A.Atomic.fits t ss) same c.requires.components;
-      agenda = c.in_ok-agenda.ensures ∙ ap (λ (ss : List Running). waits_of ss) (c.deref.ensures.value ∙ same);
+      agenda = c.in_ok-agenda.ensures ∙ ap (λ (ss : List Running). waits_of ss) (c.deref-2.ensures.value ∙ same);
       arrive = none_arrive t.limit t.members.items c.new.result c.new.ensures.empty;
       within = subst (λ (xs : List (Indexed Running)). AreWithin (length rs) xs) (sym c.in_ok-before.ensures)
           (all_none (λ (p : Indexed Running). p.index < length rs));
