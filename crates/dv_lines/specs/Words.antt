@@ -1,5 +1,5 @@
 -- The words of a component: each name with the signs around it in a line.
-use Rattle.std.specs.Prelude.{ℕ, ℤ, nat_eq, nat_le, Bool, true, false, if◌then◌else◌, List, [], ◌∷◌, ◌++◌}
+use Rattle.std.specs.Prelude.{ℕ, ℤ, ◌+◌, ◌-◌, ◌≤◌, nat_eq, nat_le, Bool, true, false, if◌then◌else◌, List, [], ◌∷◌, ◌++◌, length}
 use Rattle.std.specs.Prelude.{map, take, drop, slice_get, unwrap_or, codes, Option, None, Some}
 use Rattle.std.specs.Borrow.{Bor}
 use Rattle.std.specs.Fmt.{signed_decimal}
@@ -16,7 +16,6 @@ use Rattle.dv_time.specs.declared.time.Time.{Time}
 use Rattle.dv_time.specs.Time.{time_text}
 use Rattle.dv_text.specs.Texts.{datum_text, values_text}
 use Rattle.dv_lines.specs.declared.pieces.Word.{Word}
-use Rattle.dv_lines.specs.declared.line.ComponentWords.{ComponentWords}
 use Rattle.dv_lines.specs.declared.words.Row.{Row}
 
 -- the bytes of a word: its head if it is short, else a part of other bytes
@@ -65,27 +64,64 @@ pub record WordTexts : Type 0 where
   pub leads : List (List ℕ)
   pub outputs : List (List ℕ)
 
--- the words that the code made of a component
-abbrev pub row_words : List ℕ → Row → WordTexts
-row_words bytes r = record {
-  path = word_text bytes r.path;
-  phases = map (word_text bytes) r.phases.items;
-  variables = map (word_text bytes) r.variables.items;
-  leads = map (word_text bytes) r.leads.items;
-  outputs = map (word_text bytes) r.outputs.items;
-}
-
 -- the words where there is no such component
 abbrev pub no_words : WordTexts
 no_words = record { path = 32 ∷ 32 ∷ []; phases = []; variables = []; leads = []; outputs = [] }
 
-abbrev pub row_found : List ℕ → Option (Bor Row) → WordTexts
-row_found bytes None = no_words
-row_found bytes (Some r) = row_words bytes r.now
+-- a text without as many bytes at its end as another one has
+abbrev pub without : List ℕ → List ℕ → List ℕ
+without end text = take (length text - length end) text
 
--- the words of the code
-abbrev pub words_found : ComponentWords → WordTexts
-words_found w = row_found w.all.now.bytes.items w.row
+-- the phases alone, by the words of phases and variables: where there are variables, the word of a phase ends with that of the first one
+abbrev pub phases_alone : (phases variables : List (List ℕ)) → List (List ℕ)
+phases_alone phases [] = phases
+phases_alone phases (first ∷ variables) = map (without first) phases
+
+-- the phases with the name of the first variable, if there is one
+abbrev pub phases_led : (phases variables : List (List ℕ)) → List (List ℕ)
+phases_led phases [] = []
+phases_led phases (first ∷ variables) = phases
+
+-- the words of a component by the texts that the code has
+abbrev pub texts_by : (path : List ℕ) → (phases variables outputs : List (List ℕ)) → WordTexts
+texts_by path phases variables outputs = record {
+  path = path;
+  phases = phases_alone phases variables;
+  variables = variables;
+  leads = phases_led phases variables;
+  outputs = outputs;
+}
+
+-- the words of a component, of each sort, among those of all models
+abbrev pub own_phases : List Word → Row → List Word
+own_phases words r = take r.place.phases (drop r.place.first words)
+
+abbrev pub own_variables : List Word → Row → List Word
+own_variables words r = take r.place.variables (drop (r.place.first + r.place.phases) words)
+
+abbrev pub own_outputs : List Word → Row → List Word
+own_outputs words r = take r.place.outputs (drop (r.place.first + r.place.phases + r.place.variables) words)
+
+-- the words that the code made of a component
+abbrev pub row_words : List ℕ → List Word → Row → WordTexts
+row_words bytes words r =
+    texts_by (word_text bytes r.path) (map (word_text bytes) (own_phases words r)) (map (word_text bytes) (own_variables words r))
+    (map (word_text bytes) (own_outputs words r))
+
+abbrev pub row_found : List ℕ → List Word → Option (Bor Row) → WordTexts
+row_found bytes words None = no_words
+row_found bytes words (Some r) = row_words bytes words r.now
+
+-- all words of a row are among so many
+abbrev pub IsWithin : ℕ → Row → Type 0
+IsWithin count r = r.place.first + r.place.phases + r.place.variables + r.place.outputs ≤ count
+
+-- the words of all models with their bytes; the texts of the words of all components, and of the output ports of the root
+pub record AllWords : Type 0 where
+  pub bytes : List ℕ
+  pub words : List Word
+  pub rows : List WordTexts
+  pub ports : List (List ℕ)
 
 -- the word of a phase; a blank past the last
 abbrev pub phase_at : List (List ℕ) → ℕ → List ℕ

@@ -8,9 +8,11 @@
 //!
 //! A line is made of words. `Words` has the path, phases, state variables and outputs of each
 //! component as bytes, each with the signs around it, as ` PATH ` and ` NAME=`. They are laid out
-//! once, in one vector that all records share. A word of at most 16 bytes holds them itself too, as
-//! its head, and is put in one step. A `Stamp` keeps the text of a time for all lines of that time;
-//! the next time mostly renews its last digits alone.
+//! once, in one vector that all records share; components of one model share its words. A phase and
+//! the name of the first variable, which mostly stand side by side, are one word. A word of at most
+//! 16 bytes holds them itself too, as its head, and is put in one step. A text asks for some room
+//! behind it, so that one test serves several words. A `Stamp` keeps the text of a time for all
+//! lines of that time; the next time mostly renews its last digits alone.
 //!
 //! Lines are put into a `Room` of `dv_written`, one after the other: that of the text of a process
 //! that is alone, or that of a part of the trace. A line is made where it stays.

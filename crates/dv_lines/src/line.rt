@@ -5,9 +5,11 @@ ghost use Rattle.dv_bag.specs.Words.{fault_word, kind_word};
 ghost use Rattle.dv_bag.specs.declared.entry.What.TheVariants as what;
 ghost use Rattle.dv_time.specs.Time.{time_text};
 ghost use Rattle.dv_written.specs.Rooms.{IsPut};
-ghost use Rattle.dv_lines.specs.Words.{line_words, no_words, phase_at, plain_words, row_words, sent_words, state_words, word_text};
+ghost use Rattle.dv_lines.specs.Components.{words_found};
+ghost use Rattle.dv_lines.specs.Tables.{rows_found, words_at};
+ghost use Rattle.dv_lines.specs.Words.{IsWithin, line_words, no_words, phase_at, plain_words, row_words, sent_words, state_words, without, word_text};
 
-use crate::pieces::{Word, put_byte, put_near_byte, put_path, put_word};
+use crate::pieces::{Word, bytes_of, put_byte, put_near_byte, put_path, put_word};
 use crate::stamp::Stamp;
 use crate::values::{put_near_variable, put_sent, put_values, put_variables, rest_of};
 use crate::words::{Row, Words};
@@ -19,8 +21,19 @@ use dv_written::{Text, put_bytes};
 pub struct ComponentWords<'w> {
     /// The words of all components.
     pub all: &'w Words,
-    /// The words of the component, or `None` if there is no such component.
-    pub row: Option<&'w Row>,
+    /// The number of the component. There may be no such component.
+    pub component: u32,
+}
+
+impl<'w> ComponentWords<'w> {
+    /// The words of a component. If there is no component of this number, it has an empty path and
+    /// no names.
+    #[inline(always)]
+    pub fn of(all: &'w Words, component: u32) -> Self
+        ensures { words_found result ≡ words_at (rows_found all.now) component }
+    {
+        ComponentWords { all, component }
+    }
 }
 
 // Puts the front of a line: the time and the path of a component. Behind it there is room for 19
@@ -30,7 +43,7 @@ fn put_front(to: &mut [u8], stamp: &Stamp, words: &Words, path: &Word) -> Option
     ensures size { length to.new ≡ length to.old }
     ensures room { IfSome result (λ end. end + 19 ≤ length to.new) }
     ensures text { IfSome result (λ end. IsPut to.old 0 to.new end
-        (time_text stamp.now ++ word_text words.now.bytes.items path.now)) }
+        (time_text stamp.now ++ word_text words.now.bytes path.now)) }
 {
     let at = stamp.put_first(to)?;
     put_path(to, at, words.as_bytes(), path)
@@ -44,16 +57,32 @@ fn letter_of(kind: Kind) -> u8
     kind.word().as_bytes()[0]
 }
 
-// Puts the word of a phase, or a blank if there is no such phase.
-fn put_phase(to: &mut [u8], at: usize, words: &Words, phases: &[Word], phase: u32) -> Option<usize>
+// Puts the word of a phase without as many bytes at its end as another word has.
+fn put_without(to: &mut [u8], at: usize, bytes: &[u8], phase: &Word, end: &Word) -> Option<usize>
     requires { at ≤ length to.old }
     ensures size { length to.new ≡ length to.old }
-    ensures text { IfSome result (λ end. IsPut to.old at to.new end
-        (phase_at (map (word_text words.now.bytes.items) phases.now) phase)) }
+    ensures text { IfSome result (λ after. IsPut to.old at to.new after
+        (without (word_text bytes.now end.now) (word_text bytes.now phase.now))) }
 {
-    match phases.get(phase as usize) {
-        Some(word) => put_word(to, at, words.as_bytes(), word),
-        None => put_byte(to, at, b' '),
+    let phase = bytes_of(bytes, phase);
+    let alone = phase.len().saturating_sub(bytes_of(bytes, end).len());
+    put_bytes(to, at, &phase[..alone])
+}
+
+// Puts a phase alone, or a blank if there is no such phase.
+fn put_phase(to: &mut [u8], at: usize, words: &Words, row: &Row, phase: u32) -> Option<usize>
+    requires at { at ≤ length to.old }
+    requires within { IsWithin (length words.now.words) row.now }
+    ensures size { length to.new ≡ length to.old }
+    ensures text { IfSome result (λ end. IsPut to.old at to.new end
+        (phase_at (row_words words.now.bytes words.now.words row.now).phases phase)) }
+{
+    let Some(word) = words.phases(row).get(phase as usize) else {
+        return put_byte(to, at, b' ');
+    };
+    match words.variables(row).first() {
+        Some(first) => put_without(to, at, words.as_bytes(), word, first),
+        None => put_word(to, at, words.as_bytes(), word),
     }
 }
 
@@ -66,47 +95,49 @@ fn put_plain_state(
     row: &Row,
     state: &State,
 ) -> Option<usize>
-    requires { at ≤ length to.old }
+    requires at { at ≤ length to.old }
+    requires within { IsWithin (length words.now.words) row.now }
     ensures size { length to.new ≡ length to.old }
     ensures text { IfSome result (λ end. IsPut to.old at to.new end
-        (plain_words (row_words words.now.bytes.items row.now) state.now)) }
+        (plain_words (row_words words.now.bytes words.now.words row.now) state.now)) }
 {
-    let at = put_phase(to, at, words, &row.phases, state.phase)?;
+    let at = put_phase(to, at, words, row, state.phase)?;
     let values = state.variables.as_slice();
-    put_variables(to, at, words.as_bytes(), &row.variables, values)
+    put_variables(to, at, words.as_bytes(), words.variables(row), values)
 }
 
 // Puts a phase and the variables. The phase and the name of the first variable are put at once.
 #[inline(always)]
 fn put_state(to: &mut [u8], at: usize, words: &Words, row: &Row, state: &State) -> Option<usize>
-    requires { at + 18 ≤ length to.old }
+    requires at { at + 18 ≤ length to.old }
+    requires within { IsWithin (length words.now.words) row.now }
     ensures size { length to.new ≡ length to.old }
     ensures text { IfSome result (λ end. IsPut to.old at to.new end
-        (state_words (row_words words.now.bytes.items row.now) state.now)) }
+        (state_words (row_words words.now.bytes words.now.words row.now) state.now)) }
 {
-    let values = state.variables.as_slice();
-    let (Some(lead), Some(first)) = (row.leads.get(state.phase as usize), values.first()) else {
+    let (names, values) = (words.variables(row), state.variables.as_slice());
+    if names.is_empty() {
+        return put_plain_state(to, at, words, row, state);
+    }
+    let (Some(lead), Some(first)) = (words.phases(row).get(state.phase as usize), values.first())
+    else {
         return put_plain_state(to, at, words, row, state);
     };
     let at = put_near_variable(to, at, words.as_bytes(), lead, first)?;
-    put_variables(
-        to,
-        at,
-        words.as_bytes(),
-        rest_of(&row.variables),
-        rest_of(values),
-    )
+    put_variables(to, at, words.as_bytes(), rest_of(names), rest_of(values))
 }
 
 // Puts what was sent, and the end of the line.
 #[inline(always)]
 fn put_rest(to: &mut [u8], at: usize, words: &Words, row: &Row, sent: &Sent) -> Option<usize>
-    requires { at ≤ length to.old }
+    requires at { at ≤ length to.old }
+    requires within { IsWithin (length words.now.words) row.now }
     ensures size { length to.new ≡ length to.old }
     ensures text { IfSome result (λ end. IsPut to.old at to.new end
-        (sent_words (row_words words.now.bytes.items row.now).outputs sent.now ++ (10 ∷ []))) }
+        (sent_words (row_words words.now.bytes words.now.words row.now).outputs sent.now
+        ++ (10 ∷ []))) }
 {
-    let at = put_sent(to, at, words.as_bytes(), &row.outputs, sent)?;
+    let at = put_sent(to, at, words.as_bytes(), words.outputs(row), sent)?;
     put_byte(to, at, b'\n')
 }
 
@@ -143,7 +174,8 @@ impl<'l> TransitionLine<'l> {
 
 impl<'l> Text for TransitionLine<'l> {
     ghost use Rattle.dv_bag.specs.declared.entry.What.TheVariants as what;
-    ghost use Rattle.dv_lines.specs.Words.{line_words, words_found};
+    ghost use Rattle.dv_lines.specs.Components.{words_found};
+    ghost use Rattle.dv_lines.specs.Words.{line_words};
 
     ghost bytes = { λ l. line_words (words_found l.words) l.stamp.now
         (what.Transition l.kind l.state.now) l.sent.now };
@@ -151,7 +183,7 @@ impl<'l> Text for TransitionLine<'l> {
     #[inline(always)]
     fn put(&self, to: &mut [u8]) -> Option<usize> {
         let words = self.words.all;
-        let Some(row) = self.words.row else {
+        let Some(row) = words.row(self.words.component) else {
             return self.put_unknown(to);
         };
         let at = put_front(to, self.stamp, words, &row.path)?;
@@ -190,7 +222,8 @@ impl<'l> FaultLine<'l> {
     fn put_unknown(&self, to: &mut [u8]) -> Option<usize>
         ensures size { length to.new ≡ length to.old }
         ensures text { IfSome result (λ end. IsPut to.old 0 to.new end
-            (line_words no_words self.now.stamp.now (what.Fault self.now.fault) self.now.sent.now)) }
+            (line_words no_words self.now.stamp.now
+            (what.Fault self.now.fault) self.now.sent.now)) }
     {
         let at = self.stamp.put_first(to)?;
         let at = put_bytes(to, at, b"  ")?;
@@ -201,14 +234,15 @@ impl<'l> FaultLine<'l> {
 
 impl<'l> Text for FaultLine<'l> {
     ghost use Rattle.dv_bag.specs.declared.entry.What.TheVariants as what;
-    ghost use Rattle.dv_lines.specs.Words.{line_words, words_found};
+    ghost use Rattle.dv_lines.specs.Components.{words_found};
+    ghost use Rattle.dv_lines.specs.Words.{line_words};
 
     ghost bytes = { λ l. line_words (words_found l.words) l.stamp.now
         (what.Fault l.fault) l.sent.now };
 
     fn put(&self, to: &mut [u8]) -> Option<usize> {
         let words = self.words.all;
-        let Some(row) = self.words.row else {
+        let Some(row) = words.row(self.words.component) else {
             return self.put_unknown(to);
         };
         let at = put_front(to, self.stamp, words, &row.path)?;

@@ -3,7 +3,8 @@
 ghost use Rattle.std.specs.Prelude.{◌≡◌, ◌++◌, ◌∷◌, [], codes, length, take, OnOk, OnErr};
 ghost use Rattle.dv_bag.specs.declared.entry.What.TheVariants as what;
 ghost use Rattle.dv_time.specs.Time.{time_text};
-ghost use Rattle.dv_lines.specs.Words.{line_words, port_words, word_text, words_found};
+ghost use Rattle.dv_lines.specs.Components.{words_found};
+ghost use Rattle.dv_lines.specs.Words.{line_words, port_words, word_text};
 
 use crate::line::{ComponentWords, FaultLine, OutFront, OutPort, TransitionLine};
 use crate::pieces::Word;

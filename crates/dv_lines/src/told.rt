@@ -7,6 +7,7 @@ ghost use Rattle.dv_text.specs.Texts.{ComponentNames, entry_text, names_at};
 ghost use Rattle.dv_lines.specs.Tables.{decorated, rows_found};
 
 use crate::laws::words_say_the_names;
+use crate::line::ComponentWords;
 use crate::lines::Lines;
 use crate::words::Words;
 use dv_bag::{Fault, Kind, Sent, State};
@@ -35,7 +36,13 @@ pub fn transition(
 {
     // For the prover alone.
     words_say_the_names();
-    lines.transition(&words.component(component), now, kind, state, sent)
+    lines.transition(
+        &ComponentWords::of(words, component),
+        now,
+        kind,
+        state,
+        sent,
+    )
 }
 
 /// Appends the line of a fault of a component, with what it sent.
@@ -58,5 +65,5 @@ pub fn faulted(
 {
     // For the prover alone.
     words_say_the_names();
-    lines.faulted(&words.component(component), now, fault, sent)
+    lines.faulted(&ComponentWords::of(words, component), now, fault, sent)
 }

@@ -7,9 +7,10 @@ ghost use Rattle.dv_bag.specs.declared.entry.Outer.{Outer as OuterOfCode};
 ghost use Rattle.dv_bag.specs.declared.entry.What.{What};
 ghost use Rattle.dv_bag.specs.declared.entry.What.TheVariants as what;
 ghost use Rattle.dv_record.specs.Told.{entry, lines_from, with_lines};
+ghost use Rattle.dv_lines.specs.Components.{words_found};
 ghost use Rattle.dv_lines.specs.Entries.{line_by};
 ghost use Rattle.dv_lines.specs.Tables.{rows_found};
-ghost use Rattle.dv_lines.specs.Words.{line_words, words_found};
+ghost use Rattle.dv_lines.specs.Words.{line_words};
 
 use crate::line::{ComponentWords, FaultLine, TransitionLine};
 use crate::stamp::Stamp;
@@ -65,7 +66,7 @@ impl<'w, N: OfJob> WrittenRecords<'w, N> {
         ensures { (t : Time) (w : What) (sent : List Counts)
             → line_words (words_found result) t w sent ≡ N.line (entry t component w sent) }
     {
-        self.words.component(component)
+        ComponentWords::of(self.words, component)
     }
 
     /// Appends a transition of a component to a part, with the state after it and what it sent.

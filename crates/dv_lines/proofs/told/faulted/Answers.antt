@@ -9,7 +9,7 @@ use Rattle.dv_lines.proofs.told.faulted.Goals as goal
 pub returns-clause-ok : goal.returns-clause-ok
 returns-clause-ok c = λ all named.
     let told = entry c.args.now c.args.component (what.Fault c.args.fault) c.args.sent.now in
-    let words = c.component.ensures ∙ ap (λ (rows : List WordTexts). words_at rows c.args.component) named in
+    let words = c.of.ensures ∙ ap (λ (rows : List WordTexts). words_at rows c.args.component) named in
     subst (λ (t : List ℕ). OnOk c.faulted.result (c.faulted.new.self ≡ c.args.lines.now ++ t))
     (ap (λ (w : WordTexts). line_words w told.time told.what told.sent) words ∙ c.words_say_the_names.ensures.entry all told)
     c.faulted.ensures.ok

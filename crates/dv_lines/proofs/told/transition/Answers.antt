@@ -9,7 +9,7 @@ use Rattle.dv_lines.proofs.told.transition.Goals as goal
 pub returns-clause-ok : goal.returns-clause-ok
 returns-clause-ok c = λ all named.
     let told = entry c.args.now c.args.component (what.Transition c.args.kind c.args.state.now) c.args.sent.now in
-    let words = c.component.ensures ∙ ap (λ (rows : List WordTexts). words_at rows c.args.component) named in
+    let words = c.of.ensures ∙ ap (λ (rows : List WordTexts). words_at rows c.args.component) named in
     subst (λ (t : List ℕ). OnOk c.transition.result (c.transition.new.self ≡ c.args.lines.now ++ t))
     (ap (λ (w : WordTexts). line_words w told.time told.what told.sent) words ∙ c.words_say_the_names.ensures.entry all told)
     c.transition.ensures.ok
