@@ -115,8 +115,8 @@ fn put_state(to: &mut [u8], at: usize, words: &Words, row: &Row, state: &State) 
     ensures text { IfSome result (λ end. IsPut to.old at to.new end
         (state_words (row_words words.now.bytes words.now.words row.now) state.now)) }
 {
-    let (names, values) = (words.variables(row), state.variables.as_slice());
-    if names.is_empty() {
+    let values = state.variables.as_slice();
+    if row.place.variables == 0 {
         return put_plain_state(to, at, words, row, state);
     }
     let (Some(lead), Some(first)) = (words.phases(row).get(state.phase as usize), values.first())
@@ -124,7 +124,13 @@ fn put_state(to: &mut [u8], at: usize, words: &Words, row: &Row, state: &State) 
         return put_plain_state(to, at, words, row, state);
     };
     let at = put_near_variable(to, at, words.as_bytes(), lead, first)?;
-    put_variables(to, at, words.as_bytes(), rest_of(names), rest_of(values))
+    put_variables(
+        to,
+        at,
+        words.as_bytes(),
+        rest_of(words.variables(row)),
+        rest_of(values),
+    )
 }
 
 // Puts what was sent, and the end of the line.
@@ -137,7 +143,7 @@ fn put_rest(to: &mut [u8], at: usize, words: &Words, row: &Row, sent: &Sent) -> 
         (sent_words (row_words words.now.bytes words.now.words row.now).outputs sent.now
         ++ (10 ∷ []))) }
 {
-    let at = put_sent(to, at, words.as_bytes(), words.outputs(row), sent)?;
+    let at = put_sent(to, at, words, row, sent)?;
     put_byte(to, at, b'\n')
 }
 

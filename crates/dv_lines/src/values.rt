@@ -10,10 +10,11 @@ ghost use Rattle.dv_bag.specs.Sent.{RiseFrom, pairs_at};
 ghost use Rattle.dv_text.specs.Texts.{datum_text, numbers_text, values_text};
 ghost use Rattle.dv_text.specs.Writing.{values_from};
 ghost use Rattle.dv_written.specs.Rooms.{IsPut};
-ghost use Rattle.dv_lines.specs.Words.{word_text, variables_words, one_words, sent_words};
+ghost use Rattle.dv_lines.specs.Words.{IsWithin, row_words, word_text, variables_words, one_words, sent_words};
 
 use crate::numbers::{put_near_number, put_number};
 use crate::pieces::{HEAD, Word, put_byte, put_near_bytes, put_near_word, put_sixteen, put_word};
+use crate::words::{Row, Words};
 use dv_bag::sent::Sending;
 use dv_bag::{Bag, Collection, Datum, Queue, Sent};
 use dv_written::put_few_bytes;
@@ -238,24 +239,20 @@ fn put_sendings(to: &mut [u8], at: usize, sendings: &[Sending], port: usize) -> 
     Some(at)
 }
 
-/// Puts what was sent: ` >`, and each port at which something was sent with its values.
+/// Puts what a component sent: ` >`, and each port at which something was sent with its values.
 #[inline(always)]
-pub fn put_sent(
-    to: &mut [u8],
-    at: usize,
-    bytes: &[u8],
-    words: &[Word],
-    sent: &Sent,
-) -> Option<usize>
-    requires { at ≤ length to.old }
+pub fn put_sent(to: &mut [u8], at: usize, all: &Words, row: &Row, sent: &Sent) -> Option<usize>
+    requires at { at ≤ length to.old }
+    requires within { IsWithin (length all.now.words) row.now }
     ensures size { length to.new ≡ length to.old }
     ensures text { IfSome result (λ end. IsPut to.old at to.new end
-        (sent_words (map (word_text bytes.now) words.now) sent.now)) }
+        (sent_words (row_words all.now.bytes all.now.words row.now).outputs sent.now)) }
 {
     let sendings = sent.as_slice();
     if sendings.is_empty() {
         return Some(at);
     }
+    let (bytes, words) = (all.as_bytes(), all.outputs(row));
     if sendings.len() == 1 && sendings[0].copies == 1 {
         return put_one(to, at, bytes, words, sendings[0].port, sendings[0].value);
     }

@@ -1,6 +1,6 @@
-use Rattle.std.proofs.Common.{◌≡◌, ◌<◌, ◌∷◌, ◌++◌, List, ℕ, Some, ap, ap₂, arith, ◌∙◌, drop, length, map, refl, rules, slice_get, subst, sym}
+use Rattle.std.proofs.Common.{◌≡◌, ◌+◌, ◌<◌, ◌∷◌, ◌++◌, List, ℕ, Some, ap, ap₂, arith, ◌∙◌, drop, length, length-drop, map, refl, rules, slice_get, subst, sym}
 use Rattle.std.specs.Prelude.{IfSome}
-use Rattle.std.proofs.lemmas.List.{length-map}
+use Rattle.std.proofs.lemmas.List.{length-map, length-take}
 use Rattle.std.proofs.lemmas.Option.{slice_get_read}
 use Rattle.dv_bag.specs.declared.state.Datum.{Datum}
 use Rattle.dv_text.specs.Texts.{datum_text}
@@ -26,11 +26,14 @@ returns-clause-text c =
     let phases = c.phases.result.now in
     let there = subst (λ (ws : List Word). slice_get ws k ≡ Some lead) c.phases.ensures
     (slice_get_read phases (length phases) k lead refl found.3.0 found.1) in
-    let few : 0 < length c.variables-names.result.now = search rules in
-    let many = subst (λ (ws : List Word). 0 < length ws) c.variables-names.ensures few in
+    let count = row.place.variables in
+    let start = row.place.first + row.place.phases in
+    let named : 0 < count = search rules in
+    let many : 0 < length names =
+    omega (arith, named, length-take count (drop start words.words), length-drop start words.words, c.requires.within) in
     let some : 0 < length (map text names) = omega (arith, many, length-map names text) in
     let one : values ≡ first ∷ drop 1 values = search rules in
-    let words_left : c.rest_of.result.now ≡ drop 1 names = c.rest_of.ensures ∙ ap (λ (ws : List Word). drop 1 ws) c.variables-names.ensures in
+    let words_left : c.rest_of.result.now ≡ drop 1 names = c.rest_of.ensures ∙ ap (λ (ws : List Word). drop 1 ws) c.variables.ensures in
     let data_left : c.rest_of-2.result.now ≡ drop 1 values = search rules in
     let front = text lead ++ datum_text first in
     let plain = plain_words (row_words words.bytes words.words row) c.args.state.now in
