@@ -9,7 +9,7 @@ use dv_eval::phase_hold;
 use dv_flat::LinkLists;
 use dv_table::{Arrival, Routes, arrivals_to};
 use dv_time::Time;
-use dv_trace::{Entry, Happening, TraceLine};
+use dv_trace::{EntryHead, LineHead, LineLists};
 use dv_tree::Tree;
 use std::alloc::{AllocError, Global};
 use std::mem;
@@ -70,8 +70,8 @@ impl<'t> Follower<'t> {
     /// # Errors
     ///
     /// No memory for what is kept, or for the paragraphs.
-    pub(crate) fn add(&mut self, line: &TraceLine<'_>) -> Result<(), AllocError> {
-        let TraceLine::Entry(entry) = line else {
+    pub(crate) fn add(&mut self, head: LineHead, lists: &LineLists<'_>) -> Result<(), AllocError> {
+        let LineHead::Entry(entry) = head else {
             return Ok(());
         };
         if self.time != entry.time {
@@ -82,7 +82,7 @@ impl<'t> Follower<'t> {
             self.count(entry);
             return Ok(());
         }
-        self.keep(entry)
+        self.keep(entry, lists)
     }
 
     /// The text on all faults, after the last line.
@@ -97,23 +97,24 @@ impl<'t> Follower<'t> {
     }
 
     // Counts a fault that is not explained.
-    fn count(&mut self, entry: &Entry<'_>) {
-        if let Happening::Fault(_) = entry.happening {
+    fn count(&mut self, entry: EntryHead) {
+        if let dv_trace::Event::Fault(_) = entry.event {
             self.paragraphs.count_one();
         }
     }
 
     // Keeps what happened to a component, and where the values that it sent arrive.
-    fn keep(&mut self, entry: &Entry<'_>) -> Result<(), AllocError> {
-        self.routes.add_sent(entry, &mut self.arrivals)?;
+    fn keep(&mut self, entry: EntryHead, lists: &LineLists<'_>) -> Result<(), AllocError> {
+        self.routes
+            .add_sent(entry.component, &lists.sent, &mut self.arrivals)?;
         let Some(atom) = Atom::of(self.alloc, self.tree, entry.component) else {
             return Ok(());
         };
-        let what = match &entry.happening {
-            Happening::Fault(fault) => What::Fault(*fault),
-            Happening::Transition { kind, phase, state } => What::Transition {
-                kind: *kind,
-                state: state_shown(self.alloc, atom.scope, *phase, state)?,
+        let what = match entry.event {
+            dv_trace::Event::Fault(fault) => What::Fault(fault),
+            dv_trace::Event::Transition { kind, phase } => What::Transition {
+                kind,
+                state: state_shown(self.alloc, atom.scope, phase, &lists.state)?,
             },
         };
         self.events.push(Event {

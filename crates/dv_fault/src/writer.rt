@@ -21,21 +21,20 @@ pub struct FaultWriter<'t> {
 /// Reads the lines of a trace, and follows the run by them.
 #[derive(Drop)]
 struct Following<'t> {
-    reader: TraceReader<'t>,
+    reader: Box<TraceReader<'t>>,
     follower: Follower<'t>,
 }
 
 impl TakeLine for Following<'_> {
     type Error = TraceError;
 
-    // The lists are not needed: the follower reads the whole line.
     fn take_line<'a>(
         &mut self,
         line: &'a [u8],
-        _lists: &mut LineLists<'a>,
+        lists: &mut LineLists<'a>,
     ) -> Result<(), TraceError> {
-        let line = self.reader.read_line(line)?;
-        self.follower.add(&line)?;
+        let head = self.reader.read_into(line, lists)?;
+        self.follower.add(head, lists)?;
         Ok(())
     }
 }

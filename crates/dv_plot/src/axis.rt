@@ -1,8 +1,9 @@
 //! The numbers on the axis of ticks.
 
 use crate::label::Label;
-use crate::scale::{PICTURE, Ticks, WIDTH};
-use std::alloc::AllocError;
+use crate::path::{down, go_to};
+use crate::scale::{Area, PICTURE, WIDTH};
+use dv_trace::Text;
 
 /// The most numbers on the axis, beside one more.
 const MOST: u64 = 10;
@@ -12,8 +13,8 @@ const DIGIT: u64 = 80;
 
 // How many steps there may be on the axis, so that numbers have room. The first number may be moved
 // to the right by half of its width.
-fn most_steps(ticks: Ticks) -> u64 {
-    let digits = itoa::Buffer::new().format(ticks.behind).len() as u64;
+fn most_steps(area: Area) -> u64 {
+    let digits = itoa::Buffer::new().format(area.behind).len() as u64;
     let room = digits
         .saturating_mul(DIGIT + DIGIT / 2)
         .saturating_add(DIGIT);
@@ -22,13 +23,13 @@ fn most_steps(ticks: Ticks) -> u64 {
 
 // The ticks from one number on the axis to the next: 1, 2 or 5, or one of these with zeros behind
 // it.
-fn step_of(ticks: Ticks) -> u64 {
-    let most = most_steps(ticks);
+fn step_of(area: Area) -> u64 {
+    let most = most_steps(area);
     let mut power: u64 = 1;
     for _digit in 0..20 {
         for multiple in [1_u64, 2, 5] {
             let step = power.saturating_mul(multiple);
-            if ticks.count().checked_div(step).unwrap_or(0) <= most {
+            if area.ticks().checked_div(step).unwrap_or(0) <= most {
                 return step;
             }
         }
@@ -39,46 +40,37 @@ fn step_of(ticks: Ticks) -> u64 {
 
 // A number on the axis, counted from 0. The first one is the least multiple of the step that is not
 // before the first tick.
-fn number_at(ticks: Ticks, index: u64) -> Option<u64> {
-    let step = step_of(ticks).max(1);
-    let steps = ticks.first.div_ceil(step).saturating_add(index);
+fn number_at(area: Area, index: u64) -> Option<u64> {
+    let step = step_of(area).max(1);
+    let steps = area.grid.first.div_ceil(step).saturating_add(index);
     let tick = steps.saturating_mul(step);
-    if tick < ticks.behind {
-        Some(tick)
-    } else {
-        None
-    }
+    if tick < area.behind { Some(tick) } else { None }
 }
 
-/// Adds the path of lines that lead down from the numbers on the axis, at this height.
-pub(crate) fn push_lines(text: &mut String, ticks: Ticks, height: u64) -> Result<(), AllocError> {
+/// Adds lines that lead down from the numbers on the axis, of this height, to a path.
+pub(crate) fn add_lines(text: &mut Text, area: Area, height: u64) {
     for index in 0..MOST + 1 {
-        if let Some(tick) = number_at(ticks, index) {
-            write!(text, "M{} 0V{height}", ticks.place_of(tick))?;
+        if let Some(tick) = number_at(area, index) {
+            go_to(text, area.place_of(tick), 0);
+            down(text, height);
         }
     }
-    Ok(())
 }
 
 /// Adds the numbers on the axis, at this depth. All of them are within the picture.
-pub(crate) fn push_numbers(text: &mut String, ticks: Ticks, depth: u64) -> Result<(), AllocError> {
+pub(crate) fn add_numbers(text: &mut Text, area: Area, depth: u64) {
     for index in 0..MOST + 1 {
-        if let Some(tick) = number_at(ticks, index) {
-            push_number(text, ticks.place_of(tick), depth, tick)?;
+        if let Some(tick) = number_at(area, index) {
+            let mut digits = itoa::Buffer::new();
+            let words = digits.format(tick);
+            let half = (words.len() as u64).saturating_mul(DIGIT / 2);
+            let label = Label {
+                class: "tick",
+                x: area.place_of(tick).max(half),
+                y: depth,
+                room: PICTURE,
+            };
+            label.add(text, words);
         }
     }
-    Ok(())
-}
-
-fn push_number(text: &mut String, x: u64, y: u64, tick: u64) -> Result<(), AllocError> {
-    let mut digits = itoa::Buffer::new();
-    let words = digits.format(tick);
-    let half = (words.len() as u64).saturating_mul(DIGIT / 2);
-    let label = Label {
-        class: "tick",
-        x: x.max(half),
-        y,
-        room: PICTURE,
-    };
-    label.push(text, words)
 }

@@ -2,9 +2,10 @@
 
 use crate::cells::{Cells, Join};
 use crate::grid::{COLUMNS, Moment};
-use crate::label::push_extent;
-use crate::scale::{Area, CURVE, Extent};
-use dv_trace::{Datum, Event};
+use crate::label::add_extent;
+use crate::path::{across, begin_path, down, end_path, go_to};
+use crate::scale::{Area, Extent};
+use dv_trace::{Datum, Event, Text};
 use std::alloc::{AllocError, Global};
 
 /// The values that a curve takes in a column.
@@ -77,7 +78,7 @@ impl Curve {
         }
         self.now = value;
         let extent = Extent::of(value);
-        match moment.column() {
+        match moment.grid.column_of(moment.tick) {
             Some(column) => {
                 self.extent = self.extent.with(extent);
                 let last = value;
@@ -96,34 +97,28 @@ impl Curve {
     }
 
     /// Adds the curve below the upper edge of its panel, which is at 0.
-    pub(crate) fn push(&self, text: &mut String, area: Area) -> Result<(), AllocError> {
-        let (left, depth) = (area.place_of(0), self.extent.depth_of(self.start));
-        write!(text, "<path class=\"curve\" d=\"M{left} {depth}")?;
+    pub(crate) fn add_to(&self, text: &mut Text, area: Area) {
+        begin_path(text, "curve");
+        go_to(text, area.place_at(0), self.extent.depth_of(self.start));
         for column in 0..COLUMNS {
             if let Some(change) = self.changes.at(column) {
-                push_change(text, area.place_of(column), change, self.extent)?;
+                across(text, area.place_at(column));
+                add_change(text, change, self.extent);
             }
         }
-        let right = area.ticks.place_of(self.end.unwrap_or(area.ticks.behind));
-        writeln!(text, "H{right}\"/>")?;
-        push_extent(text, self.extent, self.source.is_flag)
+        across(text, area.place_of(self.end.unwrap_or(area.behind)));
+        end_path(text);
+        add_extent(text, self.extent, self.source.is_flag);
     }
 }
 
-// Adds a change at a place from the left: to the least and the greatest value if there are several,
-// and to the last one.
-fn push_change(
-    text: &mut String,
-    x: u64,
-    change: Change,
-    extent: Extent,
-) -> Result<(), AllocError> {
+// Adds a change: to the least and the greatest value if there are several, and to the last one.
+fn add_change(text: &mut Text, change: Change, extent: Extent) {
     let low = extent.depth_of(change.extent.least);
     let high = extent.depth_of(change.extent.greatest);
-    let last = extent.depth_of(change.last);
-    if low == high {
-        write!(text, "H{x}V{last}")
-    } else {
-        write!(text, "H{x}V{low}V{high}V{last}")
+    if low != high {
+        down(text, low);
+        down(text, high);
     }
+    down(text, extent.depth_of(change.last));
 }

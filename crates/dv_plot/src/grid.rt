@@ -13,11 +13,6 @@ pub(crate) struct Grid {
 }
 
 impl Grid {
-    /// Columns of one tick.
-    pub(crate) fn from(first: u64) -> Self {
-        Grid { first, width: 1 }
-    }
-
     /// Whether the columns reach as far as a tick.
     pub(crate) fn reaches(self, tick: u64) -> bool {
         let ticks = tick.saturating_sub(self.first);
@@ -31,20 +26,6 @@ impl Grid {
         let column = ticks.checked_div(self.width).unwrap_or(0);
         Some(usize::try_from(column).unwrap_or(COLUMNS).min(COLUMNS - 1))
     }
-
-    /// Columns that are twice as wide.
-    pub(crate) fn wider(self) -> Self {
-        Grid {
-            first: self.first,
-            width: self.width.saturating_mul(2),
-        }
-    }
-
-    /// The first tick of a column.
-    pub(crate) fn tick_of(self, column: usize) -> u64 {
-        let ticks = self.width.saturating_mul(column as u64);
-        self.first.saturating_add(ticks)
-    }
 }
 
 /// A tick at which something happens, and the columns, which reach as far.
@@ -52,11 +33,4 @@ impl Grid {
 pub(crate) struct Moment {
     pub(crate) tick: u64,
     pub(crate) grid: Grid,
-}
-
-impl Moment {
-    /// The column. `None` if the tick is before the first one that is shown.
-    pub(crate) fn column(self) -> Option<usize> {
-        self.grid.column_of(self.tick)
-    }
 }

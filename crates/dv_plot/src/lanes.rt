@@ -2,10 +2,11 @@
 
 use crate::cells::{Cells, Join};
 use crate::grid::{COLUMNS, Moment};
-use crate::label::push_beside;
-use crate::scale::Area;
-use dv_trace::Event;
+use crate::label::add_beside;
+use crate::path::{across, begin_path, end_path, go_to};
+use crate::scale::{Area, RIGHT};
 use dv_trace::model::phase_name;
+use dv_trace::{Event, Text};
 use dv_tree::Tree;
 use std::alloc::{AllocError, Global};
 
@@ -15,8 +16,10 @@ const LANES: u32 = 64;
 /// The height of a lane.
 const LANE: u64 = 160;
 
-/// How many colors the lanes have, one after the other. They stand in the style of the picture.
-const COLORS: u32 = 6;
+/// The classes of the bands, one after the other. Their colors stand in the style of the picture.
+const BANDS: [&str; 6] = [
+    "band b0", "band b1", "band b2", "band b3", "band b4", "band b5",
+];
 
 /// The lanes in which a component was in a column, as bits.
 #[derive(Clone, Copy)]
@@ -86,7 +89,7 @@ impl Lanes {
         if self.fault.is_some() {
             return;
         }
-        let bit = 1_u64.checked_shl(lane_of(self.phase)).unwrap_or(0);
+        let bit = 1_u64.checked_shl(self.phase.min(LANES - 1)).unwrap_or(0);
         let (last, visits) = if self.since < moment.tick {
             (
                 moment.tick.saturating_sub(1),
@@ -128,79 +131,59 @@ impl Lanes {
 
     /// Adds a band for each phase in which the component was, with its name beside it, and one for
     /// the time after its fault. The upper edge of the first one is at 0.
-    pub(crate) fn push(
+    pub(crate) fn add_to(
         &self,
-        text: &mut String,
+        text: &mut Text,
         tree: &Tree<'_>,
         component: Option<u32>,
         area: Area,
-    ) -> Result<(), AllocError> {
+    ) {
         let mut depth = LANE / 2;
         for lane in 0..LANES {
             if has(self.visited, lane) {
-                self.push_band(text, area, lane, depth)?;
-                push_beside(text, depth, lane_name(tree, component, lane))?;
+                self.add_band(text, area, lane, depth);
+                add_beside(text, depth, lane_name(tree, component, lane));
                 depth = depth.saturating_add(LANE);
             }
         }
-        match self.fault {
-            Some(tick) => push_fault(text, area, tick, depth),
-            None => Ok(()),
+        if let Some(tick) = self.fault {
+            add_fault(text, area.place_of(tick), depth);
         }
     }
 
     // Adds the band of a lane at this depth.
-    fn push_band(
-        &self,
-        text: &mut String,
-        area: Area,
-        lane: u32,
-        depth: u64,
-    ) -> Result<(), AllocError> {
-        write!(text, "<path class=\"band b{}\" d=\"", lane % COLORS)?;
-        self.push_stays(text, area, lane, depth)?;
-        self.push_passes(text, area, lane, depth)?;
-        text.push_str("\"/>\n")
+    fn add_band(&self, text: &mut Text, area: Area, lane: u32, depth: u64) {
+        begin_path(text, BANDS[lane as usize % BANDS.len()]);
+        self.add_stays(text, area, lane, depth);
+        self.add_passes(text, area, lane, depth);
+        end_path(text);
     }
 
     // Adds a line for each time in a phase of a lane.
-    fn push_stays(
-        &self,
-        text: &mut String,
-        area: Area,
-        lane: u32,
-        depth: u64,
-    ) -> Result<(), AllocError> {
+    fn add_stays(&self, text: &mut Text, area: Area, lane: u32, depth: u64) {
         let mut is_open = false;
         for column in 0..COLUMNS + 1 {
             let is_in = has(self.at(column).stays, lane);
-            let x = area.place_of(column);
+            let x = area.place_at(column);
             if is_in && !is_open {
-                write!(text, "M{x} {depth}")?;
+                go_to(text, x, depth);
             } else if is_open && !is_in {
-                write!(text, "H{x}")?;
+                across(text, x);
             }
             is_open = is_in;
         }
-        Ok(())
     }
 
     // Adds a thin line for each column in which a phase of a lane was entered and left at one tick,
     // and no such phase lasted.
-    fn push_passes(
-        &self,
-        text: &mut String,
-        area: Area,
-        lane: u32,
-        depth: u64,
-    ) -> Result<(), AllocError> {
+    fn add_passes(&self, text: &mut Text, area: Area, lane: u32, depth: u64) {
         for column in 0..COLUMNS {
             let visits = self.at(column);
             if has(visits.passes, lane) && !has(visits.stays, lane) {
-                write!(text, "M{} {depth}h8", area.place_of(column))?;
+                go_to(text, area.place_at(column), depth);
+                text.add("h8");
             }
         }
-        Ok(())
     }
 
     fn at(&self, column: usize) -> Visits {
@@ -224,19 +207,13 @@ fn lane_name<'t>(tree: &'t Tree<'_>, component: Option<u32>, lane: u32) -> &'t s
     }
 }
 
-// Adds the band of the time after a fault.
-fn push_fault(text: &mut String, area: Area, tick: u64, depth: u64) -> Result<(), AllocError> {
-    let (left, right) = (area.ticks.place_of(tick), area.right());
-    writeln!(
-        text,
-        "<path class=\"band fault\" d=\"M{left} {depth}H{right}\"/>"
-    )?;
-    push_beside(text, depth, "fault")
-}
-
-// The lane of a phase.
-fn lane_of(phase: u32) -> u32 {
-    phase.min(LANES - 1)
+// Adds the band of the time after a fault, which begins at a place from the left.
+fn add_fault(text: &mut Text, x: u64, depth: u64) {
+    begin_path(text, "band fault");
+    go_to(text, x, depth);
+    across(text, RIGHT);
+    end_path(text);
+    add_beside(text, depth, "fault");
 }
 
 // Whether a lane is among these, which are given as bits.

@@ -21,8 +21,6 @@ mod axis;
 mod cells;
 /// Step curves.
 mod curve;
-/// Follows a trace line by line.
-mod follower;
 /// The columns of ticks.
 mod grid;
 /// Texts in the picture.
@@ -31,7 +29,9 @@ mod label;
 mod lanes;
 /// The values of a port.
 mod marks;
-/// The picture.
+/// The pieces of paths.
+mod path;
+/// What a trace shows, and the picture of it.
 pub mod picture;
 /// From values to places in a panel.
 mod scale;

@@ -2,9 +2,10 @@
 
 use crate::cells::{Cells, Join};
 use crate::grid::{COLUMNS, Moment};
-use crate::label::push_extent;
+use crate::label::add_extent;
+use crate::path::{begin_path, down, end_path, go_to};
 use crate::scale::{Area, Extent};
-use dv_trace::Sending;
+use dv_trace::{Sending, Text};
 use std::alloc::{AllocError, Global};
 
 /// The most values that are shown each by itself.
@@ -57,7 +58,7 @@ impl Marks {
     pub(crate) fn send(&mut self, moment: Moment, sent: &[Sending<'_>]) {
         for sending in sent {
             if sending.port == self.port
-                && let Some(column) = moment.column()
+                && let Some(column) = moment.grid.column_of(moment.tick)
             {
                 self.add_all(column, sending.values.text);
             }
@@ -95,42 +96,33 @@ impl Marks {
     /// Adds the marks below the upper edge of their panel, which is at 0: a dot for each value if a
     /// column is a tick and the values are few; otherwise a dot for the value of a column, and a
     /// line from the least to the greatest one of several.
-    pub(crate) fn push(&self, text: &mut String, area: Area) -> Result<(), AllocError> {
+    pub(crate) fn add_to(&self, text: &mut Text, area: Area) {
         let Some(extent) = self.extent else {
-            return Ok(());
+            return;
         };
-        text.push_str("<path class=\"dots\" d=\"")?;
+        begin_path(text, "dots");
         match self.dots.get(..self.count) {
-            Some(dots) => push_dots(text, area, extent, dots)?,
-            None => self.push_lines(text, area, extent)?,
+            Some(dots) => add_dots(text, area, extent, dots),
+            None => self.add_columns(text, area, extent),
         }
-        text.push_str("\"/>\n")?;
-        push_extent(text, extent, false)
+        end_path(text);
+        add_extent(text, extent, false);
     }
 
-    fn push_lines(&self, text: &mut String, area: Area, extent: Extent) -> Result<(), AllocError> {
+    fn add_columns(&self, text: &mut Text, area: Area, extent: Extent) {
         for column in 0..COLUMNS {
             if let Some(values) = self.values.at(column) {
-                let x = area.place_of(column);
-                let low = extent.depth_of(values.least);
-                let high = extent.depth_of(values.greatest);
-                write!(text, "M{x} {low}V{high}")?;
+                go_to(text, area.place_at(column), extent.depth_of(values.least));
+                down(text, extent.depth_of(values.greatest));
             }
         }
-        Ok(())
     }
 }
 
-fn push_dots(
-    text: &mut String,
-    area: Area,
-    extent: Extent,
-    dots: &[Dot],
-) -> Result<(), AllocError> {
+fn add_dots(text: &mut Text, area: Area, extent: Extent, dots: &[Dot]) {
     for dot in dots {
-        let x = area.place_of(dot.column);
         let depth = extent.depth_of(dot.value);
-        write!(text, "M{x} {depth}V{depth}")?;
+        go_to(text, area.place_at(dot.column), depth);
+        down(text, depth);
     }
-    Ok(())
 }

@@ -1,13 +1,19 @@
-//! The picture.
+//! What a trace shows, and the picture of it.
 
-use crate::axis::{push_lines, push_numbers};
+use crate::axis::{add_lines, add_numbers};
+use crate::grid::{Grid, Moment};
 use crate::label::Label;
-use crate::scale::{Area, LEFT, PICTURE};
+use crate::path::{begin_path, end_path};
+use crate::scale::{Area, LEFT, PICTURE, RIGHT};
 use crate::subject::Subject;
 use dv_text::{WriteError, hand_over};
+use dv_trace::{LineHead, LineLists, Reach, TakeLine, Text, TraceError, TraceReader};
 use dv_tree::Tree;
-use std::alloc::{AllocError, Global};
+use std::alloc::Global;
 use std::io::Write;
+
+/// Columns are made twice as wide at most so often.
+const MOST_FOLDS: u32 = 64;
 
 /// The room above the first panel and below each panel.
 const GAP: u64 = 120;
@@ -30,15 +36,66 @@ text{font-family:sans-serif;font-size:120px}\
 .b3{stroke:#7b3f98}.b4{stroke:#00838f}.b5{stroke:#8d5524}\
 .fault{stroke:#c00000}</style>\n";
 
-/// What a trace shows, ready to be written.
+/// What a trace shows. It takes the lines of the trace, and is then ready to be written.
 #[derive(Drop)]
 pub struct Picture<'t> {
     pub(crate) tree: &'t Tree<'t>,
+    pub(crate) reader: Box<TraceReader<'t>>,
     pub(crate) subjects: Vec<Subject>,
-    pub(crate) area: Area,
+    pub(crate) grid: Grid,
+    /// The tick behind the last one that is shown.
+    pub(crate) behind: u64,
 }
 
 impl Picture<'_> {
+    // Follows a line.
+    fn follow(&mut self, head: LineHead, lists: &LineLists<'_>) {
+        let (time, component, event) = match head {
+            LineHead::Entry(entry) => (entry.time, Some(entry.component), Some(entry.event)),
+            LineHead::Outside(time) => (time, None, None),
+            LineHead::Empty | LineHead::Whole(_) | LineHead::Clock(_) | LineHead::Partial => return,
+        };
+        if time.tick >= self.behind {
+            return;
+        }
+        self.widen(time.tick);
+        let moment = Moment {
+            tick: time.tick,
+            grid: self.grid,
+        };
+        for subject in &mut self.subjects {
+            if subject.component == component {
+                subject.follow(moment, event, lists);
+            }
+        }
+    }
+
+    // Makes columns twice as wide until they reach as far as a tick.
+    fn widen(&mut self, tick: u64) {
+        for _fold in 0..MOST_FOLDS {
+            if self.grid.reaches(tick) {
+                break;
+            }
+            self.grid.width = self.grid.width.saturating_mul(2);
+            fold_all(&mut self.subjects);
+        }
+    }
+
+    /// Ends the trace, which reaches this far. One tick at least is shown.
+    pub(crate) fn end(&mut self, reach: Reach) {
+        let first = self.grid.first;
+        self.behind = tick_behind(reach)
+            .min(self.behind)
+            .max(first.saturating_add(1));
+        let end = Moment {
+            tick: self.behind,
+            grid: self.grid,
+        };
+        for subject in &mut self.subjects {
+            subject.finish(end);
+        }
+    }
+
     /// Writes the picture as an SVG file.
     ///
     /// # Errors
@@ -46,70 +103,90 @@ impl Picture<'_> {
     /// A write failed, or an allocation was refused. The writer holds a beginning of the picture,
     /// perhaps nothing.
     pub fn write<W: Write>(&self, alloc: Global, writer: &mut W) -> Result<(), WriteError> {
-        let mut text = String::new(alloc);
-        self.push_all(&mut text)?;
-        hand_over(writer, text.as_bytes())
+        let mut text = Text::new(alloc);
+        self.add_to(&mut text);
+        hand_over(writer, text.whole()?.as_bytes())
     }
 
-    fn push_all(&self, text: &mut String) -> Result<(), AllocError> {
-        self.push_start(text)?;
+    fn add_to(&self, text: &mut Text) {
+        let area = Area {
+            grid: self.grid,
+            behind: self.behind,
+        };
+        self.add_start(text);
         let mut top = GAP;
         for subject in &self.subjects {
-            self.push_panel(text, subject, top)?;
+            self.add_panel(text, subject, area, top);
             top = top.saturating_add(step_below(subject));
         }
-        push_numbers(text, self.area.ticks, top.saturating_add(60))?;
-        text.push_str("</svg>\n")
+        add_numbers(text, area, top.saturating_add(60));
+        text.add("</svg>\n");
     }
 
-    // The height of the picture.
-    fn height(&self) -> u64 {
+    fn add_start(&self, text: &mut Text) {
         let mut height = GAP.saturating_add(AXIS);
         for subject in &self.subjects {
             height = height.saturating_add(step_below(subject));
         }
-        height
-    }
-
-    fn push_start(&self, text: &mut String) -> Result<(), AllocError> {
-        let height = self.height();
         let (width, low) = (PICTURE / 10, height / 10);
-        writeln!(
-            text,
+        text.show(format_args!(
             "<svg xmlns=\"http://www.w3.org/2000/svg\" width=\"{width}\" height=\"{low}\" \
              viewBox=\"0 0 {PICTURE} {height}\">\n\
-             {STYLE}<rect width=\"{PICTURE}\" height=\"{height}\" fill=\"#ffffff\"/>"
-        )
+             {STYLE}<rect width=\"{PICTURE}\" height=\"{height}\" fill=\"#ffffff\"/>\n"
+        ));
     }
 
-    // Adds a panel: its name, lines that lead down from the numbers on the axis, and what it shows.
-    fn push_panel(&self, text: &mut String, subject: &Subject, top: u64) -> Result<(), AllocError> {
+    // Adds a panel: its name, a frame with lines that lead down from the numbers on the axis, and
+    // what it shows.
+    fn add_panel(&self, text: &mut Text, subject: &Subject, area: Area, top: u64) {
         let label = Label {
             class: "name",
             x: LEFT,
             y: top.saturating_add(130),
             room: PICTURE - LEFT,
         };
-        label.push(text, subject.name.as_str())?;
-        self.push_frame(text, top.saturating_add(NAME), subject.height())?;
-        subject.push(text, self.tree, self.area)?;
-        text.push_str("</g>\n")
+        label.add(text, subject.name.as_str());
+        let (top, height) = (top.saturating_add(NAME), subject.height());
+        text.show(format_args!("<g transform=\"translate(0 {top})\">\n"));
+        begin_path(text, "frame");
+        text.show(format_args!("M{LEFT} 0H{RIGHT}V{height}H{LEFT}Z"));
+        add_lines(text, area, height);
+        end_path(text);
+        subject.add_to(text, self.tree, area);
+        text.add("</g>\n");
     }
+}
 
-    // Begins what is below a name: a frame of this height, with lines from the numbers on the axis.
-    fn push_frame(&self, text: &mut String, top: u64, height: u64) -> Result<(), AllocError> {
-        let right = self.area.right();
-        write!(
-            text,
-            "<g transform=\"translate(0 {top})\">\n\
-             <path class=\"frame\" d=\"M{LEFT} 0H{right}V{height}H{LEFT}Z"
-        )?;
-        push_lines(text, self.area.ticks, height)?;
-        text.push_str("\"/>\n")
+fn fold_all(subjects: &mut [Subject]) {
+    for subject in subjects {
+        subject.fold();
     }
 }
 
 // From the upper edge of a panel to that of the next one.
 fn step_below(subject: &Subject) -> u64 {
     NAME.saturating_add(subject.height()).saturating_add(GAP)
+}
+
+/// The tick behind the last one of a trace.
+pub(crate) fn tick_behind(reach: Reach) -> u64 {
+    match reach {
+        Reach::Whole(horizon) => horizon.saturating_add(1),
+        Reach::Partial(Some(time)) | Reach::NoEnd(Some(time)) => time.tick,
+        Reach::Partial(None) | Reach::NoEnd(None) => 0,
+    }
+}
+
+impl TakeLine for Picture<'_> {
+    type Error = TraceError;
+
+    fn take_line<'a>(
+        &mut self,
+        line: &'a [u8],
+        lists: &mut LineLists<'a>,
+    ) -> Result<(), TraceError> {
+        let head = self.reader.read_into(line, lists)?;
+        self.follow(head, lists);
+        Ok(())
+    }
 }

@@ -11,47 +11,36 @@ pub(crate) const LEFT: u64 = 160;
 /// How wide the area of the curves is.
 pub(crate) const WIDTH: u64 = 8_160;
 
+/// Where the area of the curves ends, from the left.
+pub(crate) const RIGHT: u64 = LEFT + WIDTH;
+
 /// The height of a curve or of marks.
 pub(crate) const CURVE: u64 = 700;
 
-/// The ticks from the left edge of the area to the right one.
+/// The columns and the ticks that are shown, from the left edge of the area to the right one.
 #[derive(Clone, Copy)]
-pub(crate) struct Ticks {
-    /// The first tick.
-    pub(crate) first: u64,
+pub(crate) struct Area {
+    pub(crate) grid: Grid,
     /// The tick behind the last one.
     pub(crate) behind: u64,
 }
 
-impl Ticks {
+impl Area {
     /// The number of ticks, at least one.
-    pub(crate) fn count(self) -> u64 {
-        self.behind.saturating_sub(self.first).max(1)
+    pub(crate) fn ticks(self) -> u64 {
+        self.behind.saturating_sub(self.grid.first).max(1)
     }
 
     /// Where a tick begins, from the left.
     pub(crate) fn place_of(self, tick: u64) -> u64 {
-        let ticks = tick.saturating_sub(self.first).min(self.count());
-        LEFT.saturating_add(part_of(WIDTH, u128::from(ticks), u128::from(self.count())))
+        let ticks = tick.saturating_sub(self.grid.first).min(self.ticks());
+        LEFT.saturating_add(part_of(WIDTH, ticks, self.ticks()))
     }
-}
 
-/// The columns, and the ticks that are shown.
-#[derive(Clone, Copy)]
-pub(crate) struct Area {
-    pub(crate) grid: Grid,
-    pub(crate) ticks: Ticks,
-}
-
-impl Area {
     /// Where a column begins, from the left.
-    pub(crate) fn place_of(self, column: usize) -> u64 {
-        self.ticks.place_of(self.grid.tick_of(column))
-    }
-
-    /// Where the last tick ends, from the left.
-    pub(crate) fn right(self) -> u64 {
-        self.ticks.place_of(self.ticks.behind)
+    pub(crate) fn place_at(self, column: usize) -> u64 {
+        let ticks = self.grid.width.saturating_mul(column as u64);
+        self.place_of(self.grid.first.saturating_add(ticks))
     }
 }
 
@@ -85,20 +74,14 @@ impl Extent {
         if self.least >= self.greatest {
             return CURVE / 2;
         }
-        let below = distance(value, self.greatest);
-        part_of(CURVE, below, distance(self.least, self.greatest))
+        let below = self.greatest.abs_diff(value);
+        part_of(CURVE, below, self.greatest.abs_diff(self.least))
     }
 }
 
-// How far the greater one of two values is from the other one.
-fn distance(value: i64, greater: i64) -> u128 {
-    let difference = i128::from(greater).saturating_sub(i128::from(value));
-    difference.unsigned_abs()
-}
-
 // `length` times `part` divided by `whole`, at most `length`.
-fn part_of(length: u64, part: u128, whole: u128) -> u64 {
-    let scaled = u128::from(length).saturating_mul(part);
-    let share = scaled.checked_div(whole).unwrap_or(0);
+fn part_of(length: u64, part: u64, whole: u64) -> u64 {
+    let scaled = u128::from(length).saturating_mul(u128::from(part));
+    let share = scaled.checked_div(u128::from(whole)).unwrap_or(0);
     u64::try_from(share).unwrap_or(length).min(length)
 }

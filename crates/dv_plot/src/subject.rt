@@ -9,9 +9,19 @@ use dv_eval::{Domain, Scope};
 use dv_trace::model::{
     component_in, index_of, output_named, push_names, start_number, start_phase,
 };
-use dv_trace::{Event, LineLists};
+use dv_trace::{Event, LineLists, Text};
 use dv_tree::Tree;
 use std::alloc::{AllocError, Global};
+
+/// What a name stands for.
+#[derive(Clone, Copy)]
+enum Meant {
+    // A component, by the phase in which it starts.
+    Phases(u32),
+    Datum(Source),
+    // An output port, by its index.
+    Port(usize),
+}
 
 /// How a trace is shown.
 #[derive(Drop)]
@@ -19,6 +29,17 @@ enum Shown {
     Lanes(Lanes),
     Curve(Curve),
     Marks(Marks),
+}
+
+impl Shown {
+    // Nothing is shown yet.
+    fn new(alloc: Global, meant: Meant) -> Result<Self, AllocError> {
+        Ok(match meant {
+            Meant::Phases(start) => Shown::Lanes(Lanes::new(alloc, start)?),
+            Meant::Datum(source) => Shown::Curve(Curve::new(alloc, source)?),
+            Meant::Port(port) => Shown::Marks(Marks::new(alloc, port)?),
+        })
+    }
 }
 
 /// A component, one of its variables, flags, bags, queues or output ports, or an output of the
@@ -40,23 +61,23 @@ impl Subject {
     ///
     /// An allocation was refused.
     pub fn named(alloc: Global, tree: &Tree<'_>, name: &str) -> Result<Option<Self>, AllocError> {
-        let (component, shown) = match component_in(alloc, tree, name)? {
+        let (component, meant) = match component_in(alloc, tree, name)? {
             Some((component, member)) => {
                 (
                     u32::try_from(component).ok(),
-                    shown_of(alloc, tree, component, member)?,
+                    meant_in(tree, component, member),
                 )
             }
-            None => (None, shown_port(alloc, output_named(tree, name))?),
+            None => (None, port_at(output_named(tree, name))),
         };
-        match shown {
-            Some(shown) => Ok(Some(Subject {
-                name: String::from_str(alloc, name)?,
-                component,
-                shown,
-            })),
-            None => Ok(None),
-        }
+        let Some(meant) = meant else {
+            return Ok(None);
+        };
+        Ok(Some(Subject {
+            name: String::from_str(alloc, name)?,
+            component,
+            shown: Shown::new(alloc, meant)?,
+        }))
     }
 
     /// Takes a line of the component, or of what left the model, for which there is no event.
@@ -94,50 +115,28 @@ impl Subject {
     }
 
     /// Adds what is shown below the name, whose lower edge is at 0.
-    pub(crate) fn push(
-        &self,
-        text: &mut String,
-        tree: &Tree<'_>,
-        area: Area,
-    ) -> Result<(), AllocError> {
+    pub(crate) fn add_to(&self, text: &mut Text, tree: &Tree<'_>, area: Area) {
         match &self.shown {
-            Shown::Lanes(lanes) => lanes.push(text, tree, self.component, area),
-            Shown::Curve(curve) => curve.push(text, area),
-            Shown::Marks(marks) => marks.push(text, area),
+            Shown::Lanes(lanes) => lanes.add_to(text, tree, self.component, area),
+            Shown::Curve(curve) => curve.add_to(text, area),
+            Shown::Marks(marks) => marks.add_to(text, area),
         }
     }
 }
 
-// What is shown of a component, or of the member of it that has a name.
-fn shown_of(
-    alloc: Global,
-    tree: &Tree<'_>,
-    component: usize,
-    member: Option<&str>,
-) -> Result<Option<Shown>, AllocError> {
+// What a component is, or the member of it that has a name.
+fn meant_in(tree: &Tree<'_>, component: usize, member: Option<&str>) -> Option<Meant> {
     if component >= tree.component_count() {
-        return Ok(None);
+        return None;
     }
     let scope = tree.scope(component);
-    match member {
-        Some(member) => shown_member(alloc, tree, scope, member),
-        None => {
-            let start = start_phase(tree, component);
-            Ok(Some(Shown::Lanes(Lanes::new(alloc, start)?)))
-        }
+    let Some(member) = member else {
+        return Some(Meant::Phases(start_phase(tree, component)));
+    };
+    match source_named(tree, scope, member) {
+        Some(source) => Some(Meant::Datum(source)),
+        None => port_at(index_of(tree, scope.outputs(), member)),
     }
-}
-
-fn shown_member(
-    alloc: Global,
-    tree: &Tree<'_>,
-    scope: &Scope,
-    member: &str,
-) -> Result<Option<Shown>, AllocError> {
-    if let Some(source) = source_named(tree, scope, member) {
-        return Ok(Some(Shown::Curve(Curve::new(alloc, source)?)));
-    }
-    shown_port(alloc, index_of(tree, scope.outputs(), member))
 }
 
 // The variable, the flag, the bag or the queue that has a name.
@@ -151,12 +150,9 @@ fn source_named(tree: &Tree<'_>, scope: &Scope, name: &str) -> Option<Source> {
     })
 }
 
-// What is shown of the output port at an index.
-fn shown_port(alloc: Global, port: Option<usize>) -> Result<Option<Shown>, AllocError> {
-    match port {
-        Some(port) => Ok(Some(Shown::Marks(Marks::new(alloc, port)?))),
-        None => Ok(None),
-    }
+// The output port at an index, if there is one.
+fn port_at(index: Option<usize>) -> Option<Meant> {
+    Some(Meant::Port(index?))
 }
 
 /// The names of all that can be shown of a model.

@@ -1,9 +1,7 @@
 //! A writer that takes a trace, and the picture of it.
 
-use crate::follower::Follower;
-use crate::grid::{Grid, Moment};
-use crate::picture::Picture;
-use crate::scale::{Area, Ticks};
+use crate::grid::Grid;
+use crate::picture::{Picture, tick_behind};
 use crate::subject::Subject;
 use dv_trace::{End, LineCutter, Reach, TraceError, TraceReader};
 use dv_tree::Tree;
@@ -28,9 +26,8 @@ pub struct PlotOptions {
 /// A write fails if a line is refused or an allocation is; `finish` returns the cause.
 #[derive(Drop)]
 pub struct PlotWriter<'t> {
-    tree: &'t Tree<'t>,
-    options: PlotOptions,
-    lines: LineCutter<Follower<'t>>,
+    end: End,
+    lines: LineCutter<Picture<'t>>,
 }
 
 impl<'t> PlotWriter<'t> {
@@ -46,16 +43,19 @@ impl<'t> PlotWriter<'t> {
         subjects: Vec<Subject>,
         options: PlotOptions,
     ) -> Result<Self, AllocError> {
-        let follower = Follower {
+        let picture = Picture {
+            tree,
             reader: TraceReader::new(alloc, tree)?,
             subjects,
-            grid: Grid::from(options.from.unwrap_or(0)),
-            last: options.to.unwrap_or(u64::MAX),
+            grid: Grid {
+                first: options.from.unwrap_or(0),
+                width: 1,
+            },
+            behind: options.to.unwrap_or(u64::MAX).saturating_add(1),
         };
         Ok(PlotWriter {
-            tree,
-            options,
-            lines: LineCutter::new(alloc, follower),
+            end: options.end,
+            lines: LineCutter::new(alloc, picture),
         })
     }
 
@@ -66,61 +66,21 @@ impl<'t> PlotWriter<'t> {
     /// `Refused`: the trace is malformed, or not one of this model. `Memory`: an allocation was
     /// refused. If a write to this `PlotWriter` failed, the error is the cause of that.
     pub fn finish(self) -> Result<(Picture<'t>, Reach), TraceError> {
-        let PlotWriter {
-            tree,
-            options,
-            lines,
-        } = self;
-        let follower = lines.finish(options.end)?;
-        let reach = follower.reader.end(options.end)?;
-        Ok((picture_of(tree, options, follower, reach), reach))
-    }
-}
-
-// The picture of what was followed up to the end of a trace.
-fn picture_of<'t>(
-    tree: &'t Tree<'t>,
-    options: PlotOptions,
-    follower: Follower<'t>,
-    reach: Reach,
-) -> Picture<'t> {
-    let Follower {
-        mut subjects,
-        grid,
-        ..
-    } = follower;
-    let last = options.to.unwrap_or(u64::MAX).saturating_add(1);
-    let ticks = Ticks {
-        first: grid.first,
-        behind: behind(reach).min(last).max(grid.first.saturating_add(1)),
-    };
-    let end = Moment {
-        tick: ticks.behind,
-        grid,
-    };
-    for subject in &mut subjects {
-        subject.finish(end);
-    }
-    Picture {
-        tree,
-        subjects,
-        area: Area { grid, ticks },
+        let PlotWriter { end, lines } = self;
+        let mut picture = lines.finish(end)?;
+        let reach = picture.reader.end(end)?;
+        picture.end(reach);
+        Ok((picture, reach))
     }
 }
 
 impl PlotOptions {
     /// Whether no tick that is shown is in a trace that reaches as far as this.
     pub fn is_behind(&self, reach: Reach) -> bool {
-        self.from.is_some_and(|from| from >= behind(reach))
-    }
-}
-
-// The tick behind the last one of a trace.
-fn behind(reach: Reach) -> u64 {
-    match reach {
-        Reach::Whole(horizon) => horizon.saturating_add(1),
-        Reach::Partial(Some(time)) | Reach::NoEnd(Some(time)) => time.tick,
-        Reach::Partial(None) | Reach::NoEnd(None) => 0,
+        match self.from {
+            Some(from) => from >= tick_behind(reach),
+            None => false,
+        }
     }
 }
 

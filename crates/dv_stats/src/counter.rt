@@ -2,7 +2,6 @@
 
 use crate::counts::Counts;
 use crate::error::StatsError;
-use crate::flow::Flow;
 use crate::listing::write_counts;
 use crate::options::Counted;
 use dv_trace::{LineLists, Reach, TakeLine, TraceReader};
@@ -12,15 +11,15 @@ use std::io::Write;
 /// Reads the lines of a trace and counts what they say.
 #[derive(Drop)]
 pub(crate) struct Counter<'t> {
-    reader: TraceReader<'t>,
-    counts: Counts<'t>,
+    reader: Box<TraceReader<'t>>,
+    pub(crate) counts: Counts<'t>,
 }
 
 impl<'t> Counter<'t> {
     /// A counter at the first line of a trace.
-    pub(crate) fn new(counted: Counted<'t>, flow: Option<Flow<'t>>) -> Result<Self, AllocError> {
+    pub(crate) fn new(counted: Counted<'t>) -> Result<Self, AllocError> {
         Ok(Counter {
-            counts: Counts::new(counted, flow)?,
+            counts: Counts::new(counted)?,
             reader: TraceReader::new(counted.alloc, counted.tree)?,
         })
     }

@@ -30,7 +30,7 @@ pub(crate) struct Counts<'t> {
 
 impl<'t> Counts<'t> {
     /// The counts before the first line.
-    pub(crate) fn new(counted: Counted<'t>, flow: Option<Flow<'t>>) -> Result<Self, AllocError> {
+    pub(crate) fn new(counted: Counted<'t>) -> Result<Self, AllocError> {
         let alloc = counted.alloc;
         let outputs = if counted.chosen.has_root() {
             counted.tree.output_count()
@@ -41,11 +41,16 @@ impl<'t> Counts<'t> {
             components: components_of(counted)?,
             outputs: vec![in alloc; OutputCount::NOTHING; outputs]?,
             tallies: tallies_of(alloc, outputs, counted.options.quantiles)?,
-            flow,
+            flow: None,
             span: counted.options.excerpt.span(),
             ticks: 0,
             clock: None,
         })
+    }
+
+    /// Sets the flow, before the first line.
+    pub(crate) fn set_flow(&mut self, flow: Option<Flow<'t>>) {
+        self.flow = flow;
     }
 
     /// Counts a line.

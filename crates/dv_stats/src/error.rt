@@ -5,7 +5,7 @@ use dv_trace::{TraceError, TraceRefusal};
 use std::alloc::AllocError;
 
 /// Why the numbers are not complete.
-#[derive(Clone, Copy, PartialEq, Eq)]
+#[derive(Clone, Copy)]
 pub enum StatsError {
     /// The trace is refused; nothing was written.
     Refused(TraceRefusal),

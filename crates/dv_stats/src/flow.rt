@@ -113,9 +113,7 @@ impl<'t> Flow<'t> {
     // Takes in what came up to the time of the last line, and then lets go what went at this time.
     fn settle(&mut self) -> Result<(), AllocError> {
         let time = self.time;
-        let inputs = self.inputs.as_slice();
-        let behind = inputs.partition_point(|input| !time.is_before(input.time));
-        self.arrive(behind)?;
+        self.arrive(time)?;
         for value in &self.came {
             self.inside.come(*value, time.tick)?;
         }
@@ -138,12 +136,15 @@ impl<'t> Flow<'t> {
         Ok(())
     }
 
-    // Takes in the inputs that have not come, up to the one before `behind`.
-    fn arrive(&mut self, behind: usize) -> Result<(), AllocError> {
-        let arriving = self.inputs.as_slice().get(self.arrived..behind);
-        self.arrived = behind;
-        for input in arriving.unwrap_or(&[]) {
-            if self.from == Gate::Input(input.port) {
+    // Takes in the inputs up to a time that have not come.
+    fn arrive(&mut self, last: Time) -> Result<(), AllocError> {
+        let rest = self.inputs.as_slice().get(self.arrived..);
+        for input in rest.unwrap_or(&[]) {
+            if last.is_before(input.time) {
+                break;
+            }
+            self.arrived = self.arrived.saturating_add(1);
+            if matches!(self.from, Gate::Input(port) if port == input.port) {
                 self.inside.come(input.value, input.time.tick)?;
             }
         }
@@ -153,9 +154,13 @@ impl<'t> Flow<'t> {
     /// Ends the trace before a tick, or the span if that ends earlier.
     pub(crate) fn finish(&mut self, before: u64) -> Result<(), AllocError> {
         self.settle()?;
-        let inputs = self.inputs.as_slice();
-        let behind = inputs.partition_point(|input| input.time.tick < before);
-        self.arrive(behind)
+        match before.checked_sub(1) {
+            Some(tick) => self.arrive(Time {
+                tick,
+                micro: u32::MAX,
+            }),
+            None => Ok(()),
+        }
     }
 }
 

@@ -5,7 +5,7 @@ use dv_tree::Tree;
 use std::alloc::{AllocError, Global};
 
 /// A port by which values come in or go out.
-#[derive(Clone, Copy, PartialEq, Eq)]
+#[derive(Clone, Copy)]
 pub enum Gate {
     /// An input port of the root.
     Input(u32),
@@ -62,10 +62,12 @@ impl Gate {
 // The input port of the root that has this name.
 fn input_named(alloc: Global, tree: &Tree<'_>, name: &str) -> Result<Option<Gate>, AllocError> {
     let inputs = tree.input_names(alloc)?;
-    match inputs.iter().position(|input| input.as_str() == name) {
-        Some(port) => Ok(Some(Gate::Input(port as u32))),
-        None => Ok(None),
+    for (port, input) in inputs.iter().enumerate() {
+        if input.as_str() == name {
+            return Ok(Some(Gate::Input(port as u32)));
+        }
     }
+    Ok(None)
 }
 
 /// The names of all ports by which values may come in or go out.

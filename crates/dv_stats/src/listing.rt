@@ -7,6 +7,7 @@ use crate::rows::section_of;
 use crate::section::Kind;
 use crate::table::{push_columns, push_csv};
 use dv_text::hand_over;
+use dv_trace::Text;
 use std::alloc::AllocError;
 use std::fmt::Display;
 use std::io::Write;
@@ -17,33 +18,34 @@ pub(crate) fn write_counts<'t, W: Write>(
     counts: &Counts<'t>,
     writer: &mut W,
 ) -> Result<(), StatsError> {
-    let mut text = String::new(counted.alloc);
+    let mut text = Text::new(counted.alloc);
     push_counts(counted, counts, &mut text)?;
-    hand_over(writer, text.as_bytes())?;
+    hand_over(writer, text.whole()?.as_bytes())?;
     Ok(())
 }
 
 fn push_counts<'t>(
     counted: Counted<'t>,
     counts: &Counts<'t>,
-    text: &mut String,
+    text: &mut Text,
 ) -> Result<(), AllocError> {
-    push_span(text, counts.span.ticks(), &counted.options)?;
+    push_span(text, counts.span.ticks(), &counted.options);
     for kind in Kind::ALL {
-        let section = section_of(counted.alloc, counted.tree, counts, kind)?;
-        match counted.options.form {
-            Form::Columns => push_columns(counted.alloc, text, &section)?,
-            Form::Csv => push_csv(counted.alloc, text, &section)?,
+        let form = counted.options.form;
+        let section = section_of(counted.alloc, counted.tree, counts, kind, form)?;
+        match form {
+            Form::Columns => push_columns(text, &section),
+            Form::Csv => push_csv(text, &section),
         }
     }
     Ok(())
 }
 
 // Adds the number of ticks that count, and the options that were given.
-fn push_span(text: &mut String, ticks: u64, options: &StatsOptions<'_>) -> Result<(), AllocError> {
+fn push_span(text: &mut Text, ticks: u64, options: &StatsOptions<'_>) {
     let form = options.form;
     if let Form::Csv = form {
-        text.push_str("kind,component,name,measure,value\n")?;
+        text.add("kind,component,name,measure,value\n");
     }
     for (name, tick) in [
         ("ticks", Some(ticks)),
@@ -51,23 +53,17 @@ fn push_span(text: &mut String, ticks: u64, options: &StatsOptions<'_>) -> Resul
         ("to", options.excerpt.to),
     ] {
         if let Some(tick) = tick {
-            push_fact(text, form, name, tick)?;
+            push_fact(text, form, name, tick);
         }
     }
     if let Some(only) = options.excerpt.only {
-        push_fact(text, form, "only", only)?;
+        push_fact(text, form, "only", only);
     }
-    Ok(())
 }
 
-fn push_fact(
-    text: &mut String,
-    form: Form,
-    name: &str,
-    value: impl Display + Drop,
-) -> Result<(), AllocError> {
+fn push_fact(text: &mut Text, form: Form, name: &str, value: impl Display + Drop) {
     match form {
-        Form::Columns => writeln!(text, "{name} {value}"),
-        Form::Csv => writeln!(text, "run,,,{name},{value}"),
+        Form::Columns => text.show(format_args!("{name} {value}\n")),
+        Form::Csv => text.show(format_args!("run,,,{name},{value}\n")),
     }
 }

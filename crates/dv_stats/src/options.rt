@@ -6,7 +6,7 @@ use dv_tree::Tree;
 use std::alloc::Global;
 
 /// How the numbers are written.
-#[derive(Clone, Copy, PartialEq, Eq)]
+#[derive(Clone, Copy)]
 pub enum Form {
     /// In aligned columns, a section for each kind of row.
     Columns,

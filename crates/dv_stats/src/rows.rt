@@ -4,10 +4,11 @@ use crate::cell::Cell;
 use crate::component::ComponentCount;
 use crate::counts::Counts;
 use crate::flow::Flow;
-use crate::histogram::bins_of;
+use crate::histogram::Histogram;
+use crate::options::Form;
 use crate::output::{Instants, OutputCount};
 use crate::port::PortCount;
-use crate::section::{Kind, Named, Sample, Section};
+use crate::section::{Kind, Named, Path, Sample, Section};
 use crate::spread::deviation_of;
 use crate::summary::{Extremes, Summary};
 use crate::tally::{PortTallies, Tally};
@@ -19,110 +20,105 @@ use std::alloc::{AllocError, Global};
 /// A component whose rows are made.
 #[derive(Clone, Copy)]
 struct Subject<'t, 'c> {
-    path: &'t [u32],
+    path: Path,
     scope: &'t Scope,
     count: &'c ComponentCount,
 }
 
-/// The section of a kind. Without quantiles, the sections of quantiles and bins have no rows.
+/// The section of a kind, with titles if it is shown in columns. Without quantiles, the sections of
+/// quantiles and bins have no other rows.
 pub(crate) fn section_of<'t>(
     alloc: Global,
     tree: &'t Tree<'t>,
     counts: &Counts<'t>,
     kind: Kind,
+    form: Form,
 ) -> Result<Section<'t>, AllocError> {
-    let mut section = Section {
-        alloc,
-        tree,
-        kind,
-        rows: Vec::new(alloc),
-    };
-    match kind.named() {
-        Named::ByName => section.add_outputs(counts)?,
-        Named::ByComponent | Named::ByBoth => section.add_components(counts)?,
+    let mut section = Section::new(alloc, tree, kind);
+    if let Form::Columns = form {
+        section.push_titles();
     }
-    Ok(section)
+    match kind.named() {
+        Named::ByName => section.add_outputs(counts),
+        Named::ByComponent | Named::ByBoth => section.add_components(counts),
+    }
+    if section.is_cut {
+        Err(AllocError)
+    } else {
+        Ok(section)
+    }
 }
 
 impl<'t> Section<'t> {
-    fn add_components(&mut self, counts: &Counts<'t>) -> Result<(), AllocError> {
+    fn add_components(&mut self, counts: &Counts<'t>) {
         let tree = self.tree;
         for (component, count) in counts.components.iter().enumerate() {
             if let Some(count) = count
                 && component < tree.component_count()
             {
                 let subject = Subject {
-                    path: tree.path(component),
+                    path: self.push_path(tree.path(component)),
                     scope: tree.scope(component),
                     count,
                 };
-                self.add_component(subject, counts.span.ticks())?;
+                self.add_component(subject, counts.span.ticks());
             }
         }
-        Ok(())
     }
 
     // Adds the rows of a component. `all` is the number of ticks that count. No name of a phase has
     // a colon.
-    fn add_component(&mut self, of: Subject<'t, '_>, all: u64) -> Result<(), AllocError> {
+    fn add_component(&mut self, of: Subject<'t, '_>, all: u64) {
         if let Kind::Component = self.kind {
             return self.push(of.path, "", &transition_cells(of.count));
         }
         for (index, name) in names_in(self.kind, of.scope).iter().enumerate() {
-            self.add_named(of, self.tree.name(*name), index, all)?;
+            self.add_named(of, self.tree.name(*name), index, all);
         }
         if matches!(self.kind, Kind::Phase) && of.count.fault.is_some() {
-            return self.push(of.path, "fault:", &phase_cells(1, of.count.faulted, all));
+            self.push(of.path, "fault:", &phase_cells(1, of.count.faulted, all));
         }
-        Ok(())
     }
 
     // Adds the rows of what a component has at an index: a phase, a variable or a port. The ticks
     // after a fault do not count for a variable.
-    fn add_named(
-        &mut self,
-        of: Subject<'t, '_>,
-        name: &'t str,
-        index: usize,
-        all: u64,
-    ) -> Result<(), AllocError> {
+    fn add_named(&mut self, of: Subject<'t, '_>, name: &'t str, index: usize, all: u64) {
         let (path, count) = (of.path, of.count);
         match self.kind {
-            Kind::Phase => match count.phases.get(index) {
-                Some(phase) => self.push(path, name, &phase_cells(phase.visits, phase.ticks, all)),
-                None => Ok(()),
-            },
-            Kind::Variable => match count.variables.get(index) {
-                Some(variable) => {
-                    let ticks = all.saturating_sub(count.faulted);
-                    self.push(path, name, &held_cells(variable.held, ticks))
-                }
-                None => Ok(()),
-            },
-            Kind::Port => match count.ports.get(index) {
-                Some(port) => self.push(path, name, &port_cells(*port)),
-                None => Ok(()),
-            },
-            Kind::Quantiles(sample) | Kind::Bins(sample) => {
-                match tally_at(count, sample, index) {
-                    Some(tally) => self.add_sample(path, name, tally),
-                    None => Ok(()),
+            Kind::Phase => {
+                if let Some(phase) = count.phases.get(index) {
+                    self.push(path, name, &phase_cells(phase.visits, phase.ticks, all));
                 }
             }
-            Kind::Component | Kind::Output | Kind::Flow => Ok(()),
+            Kind::Variable => {
+                if let Some(variable) = count.variables.get(index) {
+                    let ticks = all.saturating_sub(count.faulted);
+                    self.push(path, name, &held_cells(variable.held, ticks));
+                }
+            }
+            Kind::Port => {
+                if let Some(port) = count.ports.get(index) {
+                    self.push(path, name, &port_cells(*port));
+                }
+            }
+            Kind::Quantiles(sample) | Kind::Bins(sample) => {
+                if let Some(tally) = tally_at(count, sample, index) {
+                    self.add_sample(path, name, tally);
+                }
+            }
+            Kind::Component | Kind::Output | Kind::Flow => {}
         }
     }
 
-    fn add_outputs(&mut self, counts: &Counts<'t>) -> Result<(), AllocError> {
+    fn add_outputs(&mut self, counts: &Counts<'t>) {
         for (port, count) in counts.outputs.iter().enumerate() {
             let name = output_name(self.tree, port);
-            self.add_output(name, *count, counts.tallies.get(port), counts.span.ticks())?;
+            self.add_output(name, *count, counts.tallies.get(port), counts.span.ticks());
         }
-        match &counts.flow {
-            Some(flow) if matches!(self.kind, Kind::Flow) => {
-                self.push(&[], flow.name, &flow_cells(flow))
-            }
-            Some(_) | None => Ok(()),
+        if let Some(flow) = &counts.flow
+            && matches!(self.kind, Kind::Flow)
+        {
+            self.push(Path::ROOT, flow.name, &flow_cells(flow));
         }
     }
 
@@ -133,38 +129,30 @@ impl<'t> Section<'t> {
         count: OutputCount,
         tallies: Option<&PortTallies>,
         ticks: u64,
-    ) -> Result<(), AllocError> {
+    ) {
         match (self.kind, tallies) {
-            (Kind::Output, _) => self.push(&[], name, &output_cells(count, ticks)),
+            (Kind::Output, _) => self.push(Path::ROOT, name, &output_cells(count, ticks)),
             (Kind::Quantiles(sample) | Kind::Bins(sample), Some(tallies)) => {
-                self.add_sample(&[], name, sample.tally_of(tallies))
+                self.add_sample(Path::ROOT, name, sample.tally_of(tallies));
             }
             (Kind::Quantiles(_) | Kind::Bins(_), None)
-            | (Kind::Component | Kind::Phase | Kind::Variable | Kind::Port | Kind::Flow, _) => {
-                Ok(())
-            }
+            | (Kind::Component | Kind::Phase | Kind::Variable | Kind::Port | Kind::Flow, _) => {}
         }
     }
 
     // Adds the row of the quantiles of a sample, or a row for each bin.
-    fn add_sample(
-        &mut self,
-        component: &'t [u32],
-        name: &'t str,
-        tally: &Tally,
-    ) -> Result<(), AllocError> {
+    fn add_sample(&mut self, component: Path, name: &'t str, tally: &Tally) {
         if let Kind::Quantiles(_) = self.kind {
             return self.push(component, name, &quantile_cells(tally));
         }
-        for bin in &bins_of(self.alloc, tally)? {
+        for bin in Histogram::of(tally).bins() {
             let cells = [
                 Cell::Number(bin.least),
                 Cell::Number(bin.greatest),
                 Cell::count(bin.count),
             ];
-            self.push(component, name, &cells)?;
+            self.push(component, name, &cells);
         }
-        Ok(())
     }
 }
 

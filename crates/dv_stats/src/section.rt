@@ -177,11 +177,26 @@ const QUANTILES: [&str; 11] = [
 
 const BINS: [&str; 3] = ["from", "to", "count"];
 
+/// The most values of a row.
+pub(crate) const MOST_CELLS: usize = 13;
+
+/// Where a path is in the text of all paths.
+#[derive(Clone, Copy)]
+pub(crate) struct Path {
+    start: usize,
+    end: usize,
+}
+
+impl Path {
+    /// The path of the root, which is empty.
+    pub(crate) const ROOT: Path = Path { start: 0, end: 0 };
+}
+
 /// A row of a section.
 #[derive(Drop)]
 pub(crate) struct Row<'t> {
-    /// The path of the component, as numbers of names; empty for outputs of the root.
-    pub(crate) component: &'t [u32],
+    /// The path of the component; empty for outputs of the root.
+    pub(crate) component: Path,
     /// The name of the phase, the variable or the port; empty for the component itself.
     pub(crate) name: &'t str,
     /// The values, in the order of the titles.
@@ -191,27 +206,68 @@ pub(crate) struct Row<'t> {
 /// Rows of one kind, of the components of a tree.
 #[derive(Drop)]
 pub(crate) struct Section<'t> {
-    pub(crate) alloc: Global,
+    alloc: Global,
     pub(crate) tree: &'t Tree<'t>,
     pub(crate) kind: Kind,
     pub(crate) rows: Vec<Row<'t>>,
+    // The paths of all components, one behind the other.
+    paths: String,
+    /// Whether the memory for a row or a path was refused, so that rows are lacking.
+    pub(crate) is_cut: bool,
 }
 
 impl<'t> Section<'t> {
-    /// The titles of the columns of values, as cells.
-    pub(crate) fn titles(&self) -> Result<Vec<Cell>, AllocError> {
-        let measures = self.kind.measures();
-        let mut titles = Vec::with_capacity(self.alloc, measures.len())?;
-        for measure in measures {
-            titles.push(Cell::Word(*measure))?;
+    /// A section without rows.
+    pub(crate) fn new(alloc: Global, tree: &'t Tree<'t>, kind: Kind) -> Self {
+        Section {
+            alloc,
+            tree,
+            kind,
+            rows: Vec::new(alloc),
+            paths: String::new(alloc),
+            is_cut: false,
         }
-        Ok(titles)
     }
 
-    /// Adds a row.
-    pub(crate) fn push(
+    /// Adds the row of the titles.
+    pub(crate) fn push_titles(&mut self) {
+        self.is_cut = self.paths.push_str("component").is_err();
+        let component = Path {
+            start: 0,
+            end: self.paths.len(),
+        };
+        let mut titles = [Cell::Nothing; MOST_CELLS];
+        let measures = self.kind.measures();
+        for (title, measure) in titles.iter_mut().zip(measures) {
+            *title = Cell::Word(*measure);
+        }
+        let titles = titles.get(..measures.len()).unwrap_or(&[]);
+        self.push(component, self.kind.word(), titles);
+    }
+
+    /// Adds a path, which is given by the numbers of its names, to those of the section.
+    pub(crate) fn push_path(&mut self, path: &[u32]) -> Path {
+        let start = self.paths.len();
+        self.is_cut = self.is_cut || self.tree.push_path(&mut self.paths, path).is_err();
+        Path {
+            start,
+            end: self.paths.len(),
+        }
+    }
+
+    /// The text of a path.
+    pub(crate) fn path_text(&self, path: Path) -> &str {
+        self.paths.get(path.start..path.end).unwrap_or("")
+    }
+
+    /// Adds a row, if no row is lacking.
+    pub(crate) fn push(&mut self, component: Path, name: &'t str, cells: &[Cell]) {
+        self.is_cut = self.is_cut || self.push_row(component, name, cells).is_err();
+    }
+
+    fn push_row(
         &mut self,
-        component: &'t [u32],
+        component: Path,
         name: &'t str,
         cells: &[Cell],
     ) -> Result<(), AllocError> {

@@ -1,200 +1,128 @@
 //! Sections as text, in aligned columns or as comma-separated values.
 
 use crate::cell::Cell;
-use crate::section::{Kind, Named, Row, Section};
-use dv_tree::Tree;
-use std::alloc::{AllocError, Global};
+use crate::section::{Kind, MOST_CELLS, Named, Row, Section};
+use dv_trace::Text;
+use std::fmt;
+use std::fmt::{Display, Write};
 
 /// What a column shows if there is no value.
 const NOTHING: &str = "-";
 
-/// The text of a row's path. It is made once for all rows of a component, which follow each other.
+/// The number of characters of what is written to it.
 #[derive(Drop)]
-struct PathText<'t> {
-    tree: &'t Tree<'t>,
-    path: &'t [u32],
-    text: String,
+struct Width {
+    count: usize,
 }
 
-impl<'t> PathText<'t> {
-    /// The empty path.
-    fn new(alloc: Global, tree: &'t Tree<'t>) -> Self {
-        PathText {
-            tree,
-            path: &[],
-            text: String::new(alloc),
-        }
+impl fmt::Write for Width {
+    fn write_str(&mut self, text: &str) -> fmt::Result {
+        self.count = self.count.saturating_add(text.chars().count());
+        Ok(())
     }
+}
 
-    /// The path of a row.
-    fn of(&mut self, row: &Row<'t>) -> Result<&str, AllocError> {
-        if row.component != self.path {
-            self.text.clear();
-            self.tree.push_path(&mut self.text, row.component)?;
-            self.path = row.component;
-        }
-        Ok(self.text.as_str())
-    }
+fn width_of(shown: impl Display + Drop) -> usize {
+    let mut width = Width { count: 0 };
+    // Counting takes no memory, so there is no error.
+    let _written = write!(width, "{shown}");
+    width.count
 }
 
 /// The widths of columns, in characters.
-#[derive(Drop)]
+#[derive(Clone, Copy)]
 struct Columns {
     component: usize,
     name: usize,
-    values: Vec<usize>,
-    // The text of the current value.
-    value: String,
+    values: [usize; MOST_CELLS],
 }
 
 impl Columns {
-    /// Columns that are wide enough for a section and its titles.
-    fn of(alloc: Global, section: &Section<'_>, titles: &[Cell]) -> Result<Self, AllocError> {
+    /// Columns that are wide enough for a section.
+    fn of(section: &Section<'_>) -> Self {
         let mut columns = Columns {
             component: 0,
             name: 0,
-            values: vec![in alloc; 0; titles.len()]?,
-            value: String::new(alloc),
+            values: [0; MOST_CELLS],
         };
-        columns.widen("component", section.kind.word(), titles)?;
-        columns.widen_all(section, &mut PathText::new(alloc, section.tree))?;
-        Ok(columns)
-    }
-
-    fn widen_all<'t>(
-        &mut self,
-        section: &Section<'t>,
-        path: &mut PathText<'t>,
-    ) -> Result<(), AllocError> {
         for row in &section.rows {
-            self.widen(path.of(row)?, row.name, &row.cells)?;
+            columns.widen(section.path_text(row.component), row);
         }
-        Ok(())
+        columns
     }
 
-    // Makes the columns wide enough for a line.
-    fn widen(&mut self, component: &str, name: &str, cells: &[Cell]) -> Result<(), AllocError> {
-        self.component = self.component.max(width_of(component));
-        self.name = self.name.max(width_of(name));
-        for (width, cell) in self.values.iter_mut().zip(cells) {
-            self.value.clear();
-            write!(self.value, "{cell}")?;
-            *width = (*width).max(width_of(self.value.as_str()));
+    // Makes the columns wide enough for a row.
+    fn widen(&mut self, path: &str, row: &Row<'_>) {
+        self.component = self.component.max(width_of(path));
+        self.name = self.name.max(width_of(row.name));
+        for (width, cell) in self.values.iter_mut().zip(&row.cells) {
+            *width = (*width).max(width_of(*cell));
         }
-        Ok(())
     }
 
-    fn push_all<'t>(
-        &mut self,
-        text: &mut String,
-        section: &Section<'t>,
-        path: &mut PathText<'t>,
-    ) -> Result<(), AllocError> {
-        for row in &section.rows {
-            self.push_line(text, section.kind, path.of(row)?, row.name, &row.cells)?;
-        }
-        Ok(())
-    }
-
-    // Adds a line: names aligned to the left, values to the right, with two blanks before each
-    // value.
-    fn push_line(
-        &mut self,
-        text: &mut String,
-        kind: Kind,
-        component: &str,
-        name: &str,
-        cells: &[Cell],
-    ) -> Result<(), AllocError> {
-        self.push_names(text, kind, component, name)?;
-        for (index, cell) in cells.iter().enumerate() {
-            let width = self.values.get(index).copied().unwrap_or(0);
-            self.value.clear();
-            write!(self.value, "{cell}")?;
-            if self.value.is_empty() {
-                self.value.push_str(NOTHING)?;
+    // Adds the line of a row: names aligned to the left, values to the right, with two blanks
+    // before each value.
+    fn push_line(&self, text: &mut Text, kind: Kind, path: &str, row: &Row<'_>) {
+        self.push_names(text, kind, path, row.name);
+        for (width, cell) in self.values.iter().zip(&row.cells) {
+            let width = *width;
+            match cell {
+                Cell::Nothing => text.show(format_args!("  {NOTHING:>width$}")),
+                cell => {
+                    let blanks = width.saturating_sub(width_of(*cell));
+                    text.show(format_args!("  {:>blanks$}{cell}", ""));
+                }
             }
-            write!(text, "  {:>width$}", self.value)?;
         }
-        text.push('\n')
+        text.add("\n");
     }
 
     // Adds the columns of names.
-    fn push_names(
-        &self,
-        text: &mut String,
-        kind: Kind,
-        component: &str,
-        name: &str,
-    ) -> Result<(), AllocError> {
+    fn push_names(&self, text: &mut Text, kind: Kind, component: &str, name: &str) {
         let (first, second) = (self.component, self.name);
         match kind.named() {
-            Named::ByComponent => write!(text, "{component:<first$}"),
-            Named::ByName => write!(text, "{name:<second$}"),
-            Named::ByBoth => write!(text, "{component:<first$}  {name:<second$}"),
+            Named::ByComponent => text.show(format_args!("{component:<first$}")),
+            Named::ByName => text.show(format_args!("{name:<second$}")),
+            Named::ByBoth => text.show(format_args!("{component:<first$}  {name:<second$}")),
         }
     }
 }
 
-fn width_of(text: &str) -> usize {
-    text.chars().count()
-}
-
-/// Adds a section in aligned columns, below a line of titles. A section without rows is left out.
-pub(crate) fn push_columns(
-    alloc: Global,
-    text: &mut String,
-    section: &Section<'_>,
-) -> Result<(), AllocError> {
-    if section.rows.is_empty() {
-        return Ok(());
+/// Adds a section in aligned columns. Its first row has the titles; without further rows it is left
+/// out.
+pub(crate) fn push_columns(text: &mut Text, section: &Section<'_>) {
+    if section.rows.len() < 2 {
+        return;
     }
-    let titles = section.titles()?;
-    push_titled(alloc, text, section, &titles)
-}
-
-fn push_titled(
-    alloc: Global,
-    text: &mut String,
-    section: &Section<'_>,
-    titles: &[Cell],
-) -> Result<(), AllocError> {
-    let mut columns = Columns::of(alloc, section, titles)?;
-    text.push('\n')?;
-    columns.push_line(text, section.kind, "component", section.kind.word(), titles)?;
-    columns.push_all(text, section, &mut PathText::new(alloc, section.tree))
+    let columns = Columns::of(section);
+    text.add("\n");
+    for row in &section.rows {
+        columns.push_line(text, section.kind, section.path_text(row.component), row);
+    }
 }
 
 /// Adds a section as comma-separated values: a line for each value, and one for each bin. No name
 /// has a comma or a quote.
-pub(crate) fn push_csv(
-    alloc: Global,
-    text: &mut String,
-    section: &Section<'_>,
-) -> Result<(), AllocError> {
-    let mut path = PathText::new(alloc, section.tree);
+pub(crate) fn push_csv(text: &mut Text, section: &Section<'_>) {
     for row in &section.rows {
-        push_row(text, section.kind, path.of(row)?, row)?;
+        push_row(text, section.kind, section.path_text(row.component), row);
     }
-    Ok(())
 }
 
-fn push_row(text: &mut String, kind: Kind, path: &str, row: &Row<'_>) -> Result<(), AllocError> {
+fn push_row(text: &mut Text, kind: Kind, path: &str, row: &Row<'_>) {
     if let Kind::Bins(_) = kind {
         return push_bin(text, kind, path, row);
     }
     let (word, name) = (kind.word(), row.name);
     for (measure, cell) in kind.measures().iter().zip(&row.cells) {
-        writeln!(text, "{word},{path},{name},{},{cell}", *measure)?;
+        text.show(format_args!("{word},{path},{name},{},{cell}\n", *measure));
     }
-    Ok(())
 }
 
 // Adds the line of a bin, whose measure is the range.
-fn push_bin(text: &mut String, kind: Kind, path: &str, row: &Row<'_>) -> Result<(), AllocError> {
+fn push_bin(text: &mut Text, kind: Kind, path: &str, row: &Row<'_>) {
     let (word, name) = (kind.word(), row.name);
-    match row.cells.as_slice() {
-        [from, to, count] => writeln!(text, "{word},{path},{name},{from}..{to},{count}"),
-        [] | [_] | [_, _] | [_, _, _, _, ..] => Ok(()),
+    if let [from, to, count] = row.cells.as_slice() {
+        text.show(format_args!("{word},{path},{name},{from}..{to},{count}\n"));
     }
 }

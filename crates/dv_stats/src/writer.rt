@@ -42,9 +42,11 @@ impl<'t> StatsWriter<'t> {
             chosen,
             options: *options,
         };
+        let mut counter = Counter::new(counted)?;
+        counter.counts.set_flow(flow);
         Ok(StatsWriter {
             counted,
-            lines: LineCutter::new(alloc, Counter::new(counted, flow)?),
+            lines: LineCutter::new(alloc, counter),
         })
     }
 

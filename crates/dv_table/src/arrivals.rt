@@ -4,7 +4,7 @@
 use dv_bag::Input;
 use dv_flat::{ComponentPort, DirectLink, EntryLink, LinkLists};
 use dv_time::Time;
-use dv_trace::{Entry, Sending};
+use dv_trace::Sending;
 use std::alloc::AllocError;
 
 /// Copies of a value that arrive at an input port of a component.
@@ -39,11 +39,12 @@ impl<'a> Routes<'a> {
     /// An allocation was refused.
     pub fn add_sent(
         &self,
-        entry: &Entry<'_>,
+        component: u32,
+        sent: &[Sending<'_>],
         arrivals: &mut Vec<Arrival>,
     ) -> Result<(), AllocError> {
-        for sending in &entry.sent {
-            for link in direct_from(&self.links.direct, entry.component, sending.port) {
+        for sending in sent {
+            for link in items_at(&self.links.direct, (component, sending.port)) {
                 add_values(link, sending, arrivals)?;
             }
         }
@@ -107,7 +108,7 @@ fn add_input(
     input: Input,
     arrivals: &mut Vec<Arrival>,
 ) -> Result<(), AllocError> {
-    for link in entries_from(links, input.port) {
+    for link in items_at(links, (input.port, 0)) {
         arrivals.push(Arrival {
             to: link.to,
             value: input.value,
@@ -117,32 +118,41 @@ fn add_input(
     Ok(())
 }
 
-// The links from an output port of a component. Links are sorted by where they begin.
-fn direct_from(links: &[DirectLink], component: u32, port: usize) -> &[DirectLink] {
-    let first = links.partition_point(|link| {
-        (link.from.component, link.from.port as usize) < (component, port)
-    });
-    let links = behind(links, first);
-    let count = links.partition_point(|link| {
-        link.from.component == component && link.from.port as usize == port
-    });
-    links.get(..count).unwrap_or(&[])
+/// What is sorted by where it begins, or by where it arrives.
+trait Sorted {
+    /// A component or an input port of the root, and a port of the component if it counts.
+    fn place(&self) -> (u32, usize);
 }
 
-// The links from an input port of the root.
-fn entries_from(links: &[EntryLink], from: u32) -> &[EntryLink] {
-    let first = links.partition_point(|link| link.from < from);
-    let links = behind(links, first);
-    let count = links.partition_point(|link| link.from == from);
-    links.get(..count).unwrap_or(&[])
+impl Sorted for DirectLink {
+    fn place(&self) -> (u32, usize) {
+        (self.from.component, self.from.port as usize)
+    }
+}
+
+impl Sorted for EntryLink {
+    fn place(&self) -> (u32, usize) {
+        (self.from, 0)
+    }
+}
+
+impl Sorted for Arrival {
+    fn place(&self) -> (u32, usize) {
+        (self.to.component, 0)
+    }
+}
+
+// Those of sorted items that are at a place.
+fn items_at<T: Sorted>(items: &[T], place: (u32, usize)) -> &[T] {
+    let first = items.partition_point(|item| item.place() < place);
+    let items = behind(items, first);
+    let count = items.partition_point(|item| item.place() == place);
+    items.get(..count).unwrap_or(&[])
 }
 
 /// The arrivals at a component, among sorted arrivals.
 pub fn arrivals_to(arrivals: &[Arrival], component: u32) -> &[Arrival] {
-    let first = arrivals.partition_point(|arrival| arrival.to.component < component);
-    let arrivals = behind(arrivals, first);
-    let count = arrivals.partition_point(|arrival| arrival.to.component == component);
-    arrivals.get(..count).unwrap_or(&[])
+    items_at(arrivals, (component, 0))
 }
 
 /// Adds the values of arrivals, with commas between them and copies repeated, as in a trace.

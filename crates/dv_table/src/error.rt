@@ -6,7 +6,7 @@ use dv_trace::{TraceError, TraceRefusal};
 use std::alloc::{AllocError, AllocFailed};
 
 /// Why a table is not complete.
-#[derive(Clone, Copy, PartialEq, Eq)]
+#[derive(Clone, Copy)]
 pub enum TableError {
     /// The inputs are refused; nothing was written.
     Inputs(InputRefusal),

@@ -5,7 +5,7 @@ use crate::error::TableError;
 use crate::row::Rows;
 use crate::row_writer::RowWriter;
 use dv_time::Time;
-use dv_trace::{Chosen, Entry, Outside, Side, Span, TraceLine};
+use dv_trace::{Chosen, LineHead, Side, Span, TraceLine};
 use std::alloc::{AllocError, Global};
 
 /// The lines of the current time, and what writes their rows.
@@ -17,10 +17,9 @@ pub(crate) struct Instants<'a, R> {
     chosen: Chosen,
     row_writer: RowWriter<'a, R>,
     time: Time,
-    entries: Vec<Entry<'a>>,
+    lines: Vec<TraceLine<'a>>,
     // What arrives at that time. The memory is kept from one time to the next.
     arrivals: Vec<Arrival>,
-    outside: Option<Outside<'a>>,
 }
 
 impl<'a, R: Rows> Instants<'a, R> {
@@ -38,9 +37,8 @@ impl<'a, R: Rows> Instants<'a, R> {
             chosen,
             row_writer,
             time: Time::ZERO,
-            entries: Vec::new(alloc),
+            lines: Vec::new(alloc),
             arrivals: Vec::new(alloc),
-            outside: None,
         }
     }
 
@@ -51,27 +49,25 @@ impl<'a, R: Rows> Instants<'a, R> {
     ///
     /// `Write`: a write failed. `Memory`: an allocation was refused.
     pub(crate) fn add(&mut self, line: TraceLine<'a>) -> Result<(), TableError> {
-        match line {
-            TraceLine::Entry(entry) if self.is_within(entry.time) => {
-                self.advance(entry.time)?;
-                self.entries.push(entry)?;
-            }
-            TraceLine::Outside(outside) if self.is_within(outside.time) => {
-                self.advance(outside.time)?;
-                self.outside = Some(outside);
-            }
-            TraceLine::Entry(_)
-            | TraceLine::Outside(_)
-            | TraceLine::Empty
-            | TraceLine::Whole(_)
-            | TraceLine::Clock(_)
-            | TraceLine::Partial => {}
+        if self.reach(line.head)? {
+            self.lines.push(line)?;
         }
         Ok(())
     }
 
-    fn is_within(&self, time: Time) -> bool {
-        self.span.side_of(time.tick) == Side::Within
+    // Whether a line is at a tick that is asked for. If it is later than the lines before, these
+    // are written.
+    fn reach(&mut self, head: LineHead) -> Result<bool, TableError> {
+        match head.time() {
+            Some(time) if self.span.side_of(time.tick) == Side::Within => {
+                if self.time != time {
+                    self.write_rows()?;
+                    self.time = time;
+                }
+                Ok(true)
+            }
+            Some(_) | None => Ok(false),
+        }
     }
 
     /// Writes the rows of the last lines.
@@ -84,39 +80,34 @@ impl<'a, R: Rows> Instants<'a, R> {
         self.row_writer.finish()
     }
 
-    fn advance(&mut self, time: Time) -> Result<(), TableError> {
-        if self.time != time {
-            self.write_rows()?;
-            self.time = time;
-        }
-        Ok(())
-    }
-
     // Writes the rows of the lines of what is chosen. Values arrive only at components that have a
     // line, since what arrives causes a transition, unless the component had a fault before.
     fn write_rows(&mut self) -> Result<(), TableError> {
         self.gather()?;
-        for entry in &self.entries {
-            if self.chosen.has(entry.component as usize) {
-                let here = arrivals_to(&self.arrivals, entry.component);
-                self.row_writer.entry(entry, here)?;
+        for line in &self.lines {
+            match line.head {
+                LineHead::Entry(entry) if self.chosen.has(entry.component as usize) => {
+                    let here = arrivals_to(&self.arrivals, entry.component);
+                    self.row_writer.entry(entry, &line.lists, here)?;
+                }
+                LineHead::Outside(time) if self.chosen.has_root() => {
+                    self.row_writer.outside(time, &line.lists.sent)?;
+                }
+                _ => {}
             }
         }
-        self.entries.clear();
-        if let Some(outside) = &self.outside
-            && self.chosen.has_root()
-        {
-            self.row_writer.outside(outside)?;
-        }
-        self.outside = None;
+        self.lines.clear();
         Ok(())
     }
 
     // Computes what arrives.
     fn gather(&mut self) -> Result<(), AllocError> {
         self.arrivals.clear();
-        for entry in &self.entries {
-            self.routes.add_sent(entry, &mut self.arrivals)?;
+        for line in &self.lines {
+            if let LineHead::Entry(entry) = line.head {
+                self.routes
+                    .add_sent(entry.component, &line.lists.sent, &mut self.arrivals)?;
+            }
         }
         self.routes.complete(self.time, &mut self.arrivals)
     }

@@ -4,8 +4,9 @@ use crate::arrivals::{Arrival, push_values};
 use crate::error::TableError;
 use crate::row::{ARRIVED, Index, LEFT, Row, Rows, SENT, State};
 use dv_eval::Scope;
-use dv_trace::model::name_at;
-use dv_trace::{Entry, Happening, Outside, Sending};
+use dv_time::Time;
+use dv_trace::model::{name_at, phase_name};
+use dv_trace::{Datum, EntryHead, Event, LineLists, Sending};
 use dv_tree::Tree;
 use std::alloc::Global;
 
@@ -38,7 +39,8 @@ impl<'a, R: Rows> RowWriter<'a, R> {
     /// `Write`: a write failed. `Memory`: an allocation was refused.
     pub(crate) fn entry(
         &mut self,
-        entry: &Entry<'a>,
+        entry: EntryHead,
+        lists: &LineLists<'a>,
         arrivals: &[Arrival],
     ) -> Result<(), TableError> {
         let tree = self.tree;
@@ -51,19 +53,21 @@ impl<'a, R: Rows> RowWriter<'a, R> {
             time: entry.time,
             component: Some(path.as_str()),
         };
-        self.entry_at(&index, tree.scope(component), entry, arrivals)
+        let scope = tree.scope(component);
+        self.entry_at(&index, scope, entry.event, lists, arrivals)
     }
 
     fn entry_at(
         &mut self,
         index: &Index<'_>,
         scope: &'a Scope,
-        entry: &Entry<'a>,
+        event: Event,
+        lists: &LineLists<'a>,
         arrivals: &[Arrival],
     ) -> Result<(), TableError> {
-        self.sent(&*index, scope, &entry.sent)?;
+        self.sent(&*index, scope, &lists.sent)?;
         self.arrived(&*index, scope, arrivals)?;
-        self.happened(&*index, scope, &entry.happening)
+        self.happened(&*index, scope, event, &lists.state)
     }
 
     fn sent(
@@ -104,20 +108,20 @@ impl<'a, R: Rows> RowWriter<'a, R> {
         &mut self,
         index: &Index<'_>,
         scope: &'a Scope,
-        happening: &Happening<'a>,
+        event: Event,
+        data: &[Datum<'a>],
     ) -> Result<(), TableError> {
-        match happening {
-            Happening::Transition { kind, phase, state } => {
-                let phase = name_at(self.tree, scope.phases(), *phase as usize);
-                let names = scope.variables();
+        match event {
+            Event::Transition { kind, phase } => {
+                let phase = phase_name(self.tree, scope, phase);
                 let state = State {
                     tree: self.tree,
-                    names,
-                    data: state,
+                    names: scope.variables(),
+                    data,
                 };
-                self.rows.put(index, Row::transition(*kind, phase, state))
+                self.rows.put(index, Row::transition(kind, phase, state))
             }
-            Happening::Fault(fault) => self.rows.put(index, Row::fault(*fault)),
+            Event::Fault(fault) => self.rows.put(index, Row::fault(fault)),
         }
     }
 
@@ -126,12 +130,12 @@ impl<'a, R: Rows> RowWriter<'a, R> {
     /// # Errors
     ///
     /// `Write`: a write failed. `Memory`: an allocation was refused.
-    pub(crate) fn outside(&mut self, outside: &Outside<'a>) -> Result<(), TableError> {
+    pub(crate) fn outside(&mut self, time: Time, sent: &[Sending<'a>]) -> Result<(), TableError> {
         let index = Index {
-            time: outside.time,
+            time,
             component: None,
         };
-        for sending in &outside.sent {
+        for sending in sent {
             if sending.port < self.tree.output_count() {
                 let port = self.tree.output_name(sending.port);
                 let row = Row::at_port(LEFT, port, sending.values.text);

@@ -17,7 +17,7 @@ use std::alloc::Global;
 use std::io::Write;
 
 /// The form of a table.
-#[derive(Clone, Copy, PartialEq, Eq)]
+#[derive(Clone, Copy)]
 pub enum TableForm {
     /// Comma-separated values, below titles: tick, microstep, component, what, name, value.
     Csv,

@@ -53,8 +53,8 @@ impl<L: TakeLine> LineCutter<L> {
         }
     }
 
-    /// Ends the trace and returns what took its lines. What follows the last line feed is not given:
-    /// it is a line that was cut.
+    /// Ends the trace and returns what took its lines. What follows the last line feed is not
+    /// given: it is a line that was cut.
     ///
     /// # Errors
     ///
@@ -73,7 +73,7 @@ impl<L: TakeLine> LineCutter<L> {
         } = self;
         match error {
             Some(error) => Err(error),
-            None if end == End::Required && !line.is_empty() => {
+            None if matches!(end, End::Required) && !line.is_empty() => {
                 Err(L::Error::from(TraceError::Refused(TraceRefusal {
                     reason: TraceReason::NoEnd,
                     line: lines.saturating_add(1),

@@ -15,7 +15,8 @@
 //! the line that has not ended yet.
 //!
 //! An `Excerpt` says which part of a trace is asked for: the ticks of a `Span`, and the components
-//! that are `Chosen`. `model` has what views ask a model for: names, and values at the start.
+//! that are `Chosen`. `model` has what views ask a model for: names, and values at the start. What
+//! a view prints is made of pieces as a `Text`.
 //!
 //! `dv_vcd`, `dv_plot`, `dv_stats`, `dv_table` and `dv_fault` read traces with this crate. It is
 //! proved that numbers are read as they are spelled, within their ranges; nothing else is claimed.
@@ -45,16 +46,16 @@ pub mod reader;
 pub mod refusal;
 /// The part of a trace that is asked for.
 pub mod span;
+/// A text that is made of pieces.
+pub mod text;
 /// Values of variables and ports.
 mod values;
 
 pub use cutter::{LineCutter, TakeLine};
-pub use line::{
-    Datum, Entry, EntryHead, Event, Happening, LineHead, LineLists, Outside, Sending, TraceLine,
-    Values,
-};
+pub use line::{Datum, EntryHead, Event, LineHead, LineLists, Sending, TraceLine, Values};
 pub use piece_reader::PieceReader;
 pub use reach::{End, Reach, read_part};
 pub use reader::{TraceReader, check_trace};
 pub use refusal::{TraceError, TraceReason, TraceRefusal};
 pub use span::{Chosen, Excerpt, Side, Span};
+pub use text::Text;

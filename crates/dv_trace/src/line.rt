@@ -6,7 +6,7 @@ use std::alloc::Global;
 
 /// The values of a bag or a queue, as in the line. Those of a bag ascend, with copies repeated;
 /// those of a queue are in the order of the queue.
-#[derive(Clone, Copy, PartialEq, Eq)]
+#[derive(Clone, Copy)]
 pub struct Values<'a> {
     /// The values with commas between them; empty if there are none.
     pub text: &'a str,
@@ -15,7 +15,7 @@ pub struct Values<'a> {
 }
 
 /// The value of a state variable: a number, a flag, a bag or a queue.
-#[derive(Clone, Copy, PartialEq, Eq)]
+#[derive(Clone, Copy)]
 pub enum Datum<'a> {
     /// The number of a variable.
     Number(i64),
@@ -38,7 +38,7 @@ impl Datum<'_> {
 }
 
 /// What was sent by a port, or left the model there.
-#[derive(Clone, Copy, PartialEq, Eq)]
+#[derive(Clone, Copy)]
 pub struct Sending<'a> {
     /// The index of the output port.
     pub port: usize,
@@ -46,63 +46,8 @@ pub struct Sending<'a> {
     pub values: Values<'a>,
 }
 
-/// What happened to a component.
-#[derive(Drop)]
-pub enum Happening<'a> {
-    /// A transition.
-    Transition {
-        /// The kind of the transition.
-        kind: Kind,
-        /// The index of the phase after it.
-        phase: u32,
-        /// The values of the state variables after it, in their order.
-        state: Vec<Datum<'a>>,
-    },
-    /// A fault, after which the component is quiet.
-    Fault(Fault),
-}
-
-/// The line of a component.
-#[derive(Drop)]
-pub struct Entry<'a> {
-    /// The time of the line.
-    pub time: Time,
-    /// The number of the component.
-    pub component: u32,
-    /// What happened to it.
-    pub happening: Happening<'a>,
-    /// What was sent, sorted by port.
-    pub sent: Vec<Sending<'a>>,
-}
-
-/// The line of what left the model at a time.
-#[derive(Drop)]
-pub struct Outside<'a> {
-    /// The time of the line.
-    pub time: Time,
-    /// What left, sorted by the root's output port.
-    pub sent: Vec<Sending<'a>>,
-}
-
-/// A line.
-#[derive(Drop)]
-pub enum TraceLine<'a> {
-    /// An empty line, which says nothing.
-    Empty,
-    /// What happened to a component.
-    Entry(Entry<'a>),
-    /// What left the model.
-    Outside(Outside<'a>),
-    /// The end of a whole trace, with its horizon.
-    Whole(u64),
-    /// The clock that a process reached in a run that is not whole.
-    Clock(Time),
-    /// The end of a trace that is not whole.
-    Partial,
-}
-
-/// What happened to a component, without the values of its state variables.
-#[derive(Clone, Copy, PartialEq, Eq)]
+/// What happened to a component. The values of its state variables are beside it.
+#[derive(Clone, Copy)]
 pub enum Event {
     /// A transition of this kind to the phase with this index.
     Transition { kind: Kind, phase: u32 },
@@ -111,7 +56,7 @@ pub enum Event {
 }
 
 /// The line of a component, without its lists.
-#[derive(Clone, Copy, PartialEq, Eq)]
+#[derive(Clone, Copy)]
 pub struct EntryHead {
     pub time: Time,
     pub component: u32,
@@ -119,7 +64,7 @@ pub struct EntryHead {
 }
 
 /// A line, without its lists.
-#[derive(Clone, Copy, PartialEq, Eq)]
+#[derive(Clone, Copy)]
 pub enum LineHead {
     /// An empty line, which says nothing.
     Empty,
@@ -133,6 +78,17 @@ pub enum LineHead {
     Clock(Time),
     /// The end of a trace that is not whole.
     Partial,
+}
+
+impl LineHead {
+    /// The time of a line of a component, or of what left the model.
+    pub fn time(self) -> Option<Time> {
+        match self {
+            LineHead::Entry(entry) => Some(entry.time),
+            LineHead::Outside(time) => Some(time),
+            LineHead::Empty | LineHead::Whole(_) | LineHead::Clock(_) | LineHead::Partial => None,
+        }
+    }
 }
 
 /// The lists of a line. Their memory is kept from one line to the next.
@@ -160,27 +116,9 @@ impl<'a> LineLists<'a> {
     }
 }
 
-impl<'a> TraceLine<'a> {
-    /// A line with its lists.
-    pub(crate) fn of(head: LineHead, lists: LineLists<'a>) -> Self {
-        let LineLists { state, sent } = lists;
-        match head {
-            LineHead::Empty => TraceLine::Empty,
-            LineHead::Entry(entry) => TraceLine::Entry(Entry {
-                time: entry.time,
-                component: entry.component,
-                happening: match entry.event {
-                    Event::Transition { kind, phase } => {
-                        Happening::Transition { kind, phase, state }
-                    }
-                    Event::Fault(fault) => Happening::Fault(fault),
-                },
-                sent,
-            }),
-            LineHead::Outside(time) => TraceLine::Outside(Outside { time, sent }),
-            LineHead::Whole(horizon) => TraceLine::Whole(horizon),
-            LineHead::Clock(time) => TraceLine::Clock(time),
-            LineHead::Partial => TraceLine::Partial,
-        }
-    }
+/// A line with its lists.
+#[derive(Drop)]
+pub struct TraceLine<'a> {
+    pub head: LineHead,
+    pub lists: LineLists<'a>,
 }

@@ -1,16 +1,18 @@
 //! The parts of a line.
 
 use crate::line::{Datum, Sending};
+use crate::model::index_of;
 use crate::names::Directory;
 use crate::refusal::{LineError, TraceReason};
 use crate::values::{datum_in, values_in};
 use dv_bag::Discipline;
 use dv_eval::{Domain, Scope};
 use dv_tree::Tree;
+use memchr::memchr;
 
 /// The word before the first space, and the text after it.
 pub(crate) fn split_word(text: &str) -> (&str, &str) {
-    let Some(end) = text.bytes().position(|byte| byte == b' ') else {
+    let Some(end) = memchr(b' ', text.as_bytes()) else {
         return (text, "");
     };
     match text.split_at_checked(end) {
@@ -63,11 +65,6 @@ pub(crate) fn split_state<'a>(
 /// looked up by its number.
 const FEW_NAMES: usize = 8;
 
-/// The index of a name in a list of names, which are given by their numbers.
-fn index_in(tree: &Tree, numbers: &[u32], name: &str) -> Option<usize> {
-    numbers.iter().position(|number| tree.name(*number) == name)
-}
-
 /// The index of the phase with this name.
 pub(crate) fn phase_of(
     tree: &Tree,
@@ -76,7 +73,7 @@ pub(crate) fn phase_of(
     name: &str,
 ) -> Option<u32> {
     if scope.phases().len() <= FEW_NAMES {
-        u32::try_from(index_in(tree, scope.phases(), name)?).ok()
+        u32::try_from(index_of(tree, scope.phases(), name)?).ok()
     } else {
         scope.phase(names.name(name)?)
     }
@@ -93,7 +90,7 @@ pub(crate) enum Sender<'s> {
 fn port_of(tree: &Tree, names: &Directory<'_>, sender: Sender<'_>, name: &str) -> Option<usize> {
     match sender {
         Sender::Component(scope) if scope.outputs().len() <= FEW_NAMES => {
-            index_in(tree, scope.outputs(), name)
+            index_of(tree, scope.outputs(), name)
         }
         Sender::Component(scope) => scope.output(names.name(name)?),
         Sender::Root => names.output(name),

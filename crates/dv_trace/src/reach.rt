@@ -1,21 +1,22 @@
 //! How far a trace reaches.
 
 use dv_time::Time;
+use memchr::memrchr;
 use std::fmt;
 
 /// Whether a trace has to have an end: the line `whole` with the horizon, or `partial` after
 /// clocks.
-#[derive(Clone, Copy, PartialEq, Eq)]
+#[derive(Clone, Copy)]
 pub enum End {
-    /// The trace has to have an end, with its line feed: a line without one may have been cut, and an
-    /// end within its number.
+    /// The trace has to have an end, with its line feed: a line without one may have been cut, and
+    /// an end within its number.
     Required,
     /// The trace may have no end, because its run was stopped. It is read up to its last line feed.
     Optional,
 }
 
 /// How far a trace reaches.
-#[derive(Clone, Copy, PartialEq, Eq)]
+#[derive(Clone, Copy)]
 pub enum Reach {
     /// It has all that happened up to this horizon, a tick.
     Whole(u64),
@@ -45,7 +46,7 @@ impl fmt::Display for Reach {
 pub fn read_part(trace: &[u8], end: End) -> &[u8] {
     match end {
         End::Required => trace,
-        End::Optional => match trace.iter().rposition(|byte| *byte == b'\n') {
+        End::Optional => match memrchr(b'\n', trace) {
             Some(last) => trace.get(..last).unwrap_or(trace),
             None => &[],
         },

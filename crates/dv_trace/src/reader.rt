@@ -40,20 +40,22 @@ pub struct TraceReader<'t> {
 }
 
 impl<'t> TraceReader<'t> {
-    /// A reader at the first line of a trace of the model of this tree.
+    /// A reader at the first line of a trace of the model of this tree. It is large, so it is
+    /// boxed.
     ///
     /// # Errors
     ///
     /// An allocation was refused.
-    pub fn new(alloc: Global, tree: &'t Tree<'t>) -> Result<Self, AllocError> {
-        Ok(TraceReader {
+    pub fn new(alloc: Global, tree: &'t Tree<'t>) -> Result<Box<Self>, AllocError> {
+        let reader = TraceReader {
             alloc,
             tree,
             names: Directory::of(alloc, tree)?,
             recent: Recent::new(alloc, tree.component_count())?,
             last: Last::Nothing,
             lines: 0,
-        })
+        };
+        Ok(Box::new(alloc, reader)?)
     }
 
     /// Reads the next line, which is given without its line feed. A carriage return at its end is
@@ -66,7 +68,7 @@ impl<'t> TraceReader<'t> {
     pub fn read_line<'a>(&mut self, line: &'a [u8]) -> Result<TraceLine<'a>, TraceError> {
         let mut lists = LineLists::new(self.alloc);
         let head = self.read_into(line, &mut lists)?;
-        Ok(TraceLine::of(head, lists))
+        Ok(TraceLine { head, lists })
     }
 
     /// Reads the next line as `read_line` does, and puts its lists into `lists`, in the place of
@@ -93,8 +95,8 @@ impl<'t> TraceReader<'t> {
         }
     }
 
-    /// Ends the trace and returns how far it reaches. Only lines that have a line feed may have been
-    /// read before.
+    /// Ends the trace and returns how far it reaches. Only lines that have a line feed may have
+    /// been read before.
     ///
     /// # Errors
     ///
@@ -375,7 +377,13 @@ impl Last {
     }
 }
 
-impl TakeLine for TraceReader<'_> {
+/// Reads the lines of a trace, and takes nothing of them.
+#[derive(Drop)]
+struct Test<'r, 't> {
+    reader: &'r mut TraceReader<'t>,
+}
+
+impl TakeLine for Test<'_, '_> {
     type Error = TraceError;
 
     fn take_line<'a>(
@@ -383,7 +391,7 @@ impl TakeLine for TraceReader<'_> {
         line: &'a [u8],
         lists: &mut LineLists<'a>,
     ) -> Result<(), TraceError> {
-        let _head = self.read_into(line, lists)?;
+        let _head = self.reader.read_into(line, lists)?;
         Ok(())
     }
 }
@@ -400,8 +408,13 @@ pub fn check_trace(
     trace: &[u8],
     end: End,
 ) -> Result<Reach, TraceError> {
-    let mut lines = LineCutter::new(alloc, TraceReader::new(alloc, tree)?);
+    let mut reader = TraceReader::new(alloc, tree)?;
+    let test = Test {
+        reader: &mut *reader,
+    };
+    let mut lines = LineCutter::new(alloc, test);
     // The error of a line that is not taken is that of `finish`.
     let _written = lines.write(trace);
-    lines.finish(end)?.end(end)
+    let _test = lines.finish(end)?;
+    reader.end(end)
 }

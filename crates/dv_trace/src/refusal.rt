@@ -4,7 +4,7 @@ use std::alloc::{AllocError, AllocFailed};
 use std::fmt;
 
 /// What is wrong with a line.
-#[derive(Clone, Copy, Debug, PartialEq, Eq)]
+#[derive(Clone, Copy, Debug)]
 pub enum TraceReason {
     /// The line is not UTF-8.
     NotText,
@@ -29,8 +29,8 @@ pub enum TraceReason {
     Order,
     /// The line comes after the end of the trace.
     AfterEnd,
-    /// The trace has no end: no line `whole` with the horizon, and no `partial`; or its last line has
-    /// no line feed.
+    /// The trace has no end: no line `whole` with the horizon, and no `partial`; or its last line
+    /// has no line feed.
     NoEnd,
 }
 
@@ -54,7 +54,7 @@ impl fmt::Display for TraceReason {
 }
 
 /// Why a trace is refused, and at which line.
-#[derive(Clone, Copy, Debug, PartialEq, Eq)]
+#[derive(Clone, Copy, Debug)]
 pub struct TraceRefusal {
     /// What is wrong.
     pub reason: TraceReason,
@@ -69,7 +69,7 @@ impl fmt::Display for TraceRefusal {
 }
 
 /// Why a trace is not read.
-#[derive(Clone, Copy, PartialEq, Eq)]
+#[derive(Clone, Copy)]
 pub enum TraceError {
     /// The trace is malformed, or not one of this model.
     Refused(TraceRefusal),
@@ -84,7 +84,7 @@ impl From<AllocError> for TraceError {
 }
 
 /// Why a line is not read.
-#[derive(Clone, Copy, PartialEq, Eq)]
+#[derive(Clone, Copy)]
 pub(crate) enum LineError {
     Refused(TraceReason),
     Memory,

@@ -108,7 +108,10 @@ impl Chosen {
             let path = tree.path_text(alloc, component)?;
             if is_within(path.as_str(), only) {
                 chosen = Some(Chosen {
-                    first: chosen.map_or(component, |before| before.first),
+                    first: match chosen {
+                        Some(before) => before.first,
+                        None => component,
+                    },
                     behind: component.saturating_add(1),
                     has_root: false,
                 });

@@ -11,8 +11,11 @@ use crate::survey::tick_behind;
 use crate::values::{push_held, push_nothing, push_number, push_status, push_string};
 use dv_bag::Input;
 use dv_text::{WriteError, hand_over, hand_over_if_long};
+use dv_time::Time;
 use dv_trace::model::phase_name;
-use dv_trace::{Chosen, Datum, EntryHead, Event, LineHead, LineLists, Reach, Sending, Side, Span};
+use dv_trace::{
+    Chosen, Datum, EntryHead, Event, LineHead, LineLists, Reach, Sending, Side, Span, Text,
+};
 use dv_tree::Tree;
 use std::alloc::{AllocError, Global};
 use std::io::Write;
@@ -21,7 +24,7 @@ use std::mem::swap;
 /// What is shown now, and the text of the changes that is not written yet.
 #[derive(Drop)]
 pub(crate) struct Changes<'a> {
-    pub(crate) text: String,
+    pub(crate) text: Text,
     pub(crate) alloc: Global,
     pub(crate) tree: &'a Tree<'a>,
     pub(crate) shown: AllShown<'a>,
@@ -34,7 +37,7 @@ pub(crate) struct Changes<'a> {
     // Whether the values at the first of these ticks are in the text. Before that no text is kept.
     is_begun: bool,
     // The end of the declarations, until the values at the first of these ticks follow.
-    aside: String,
+    aside: Text,
     // What ports show at the first of these ticks, if they hold their values.
     latest: Latest,
     // How many inputs have arrived.
@@ -58,7 +61,7 @@ impl<'a> Changes<'a> {
     ) -> Result<Box<Self>, AllocError> {
         let shown = all_shown(alloc, tree)?;
         let changes = Changes {
-            text: String::new(alloc),
+            text: Text::new(alloc),
             alloc,
             tree,
             ports: Ports::new(alloc, options.holds_ports, shown.behind)?,
@@ -67,7 +70,7 @@ impl<'a> Changes<'a> {
             chosen,
             span: options.excerpt.span(),
             is_begun: false,
-            aside: String::new(alloc),
+            aside: Text::new(alloc),
             latest: Latest::new(alloc),
             arrived: 0,
             tick: 0,
@@ -93,33 +96,34 @@ impl<'a> Changes<'a> {
         self.marks.clear();
         self.set_aside();
         let tick = self.tick;
-        writeln!(self.text, "#{tick}\n$dumpvars")?;
+        self.text.show(format_args!("#{tick}\n$dumpvars\n"));
         if self.chosen.has_root() {
-            self.push_root()?;
+            self.push_root();
         }
         for (component, shown) in self.shown.components.iter().enumerate() {
             if self.chosen.has(component) {
-                push_start(&mut self.text, &self.ports, &self.latest, shown)?;
-                hand_over_if_long(&mut self.text, writer)?;
+                push_start(&mut self.text, &self.ports, &self.latest, shown);
+                hand_over_if_long(self.text.whole()?, writer)?;
             }
         }
-        self.text.push_str("$end\n")?;
+        self.text.add("$end\n");
         Ok(())
     }
 
     // Adds what the ports of the root show at the start.
-    fn push_root(&mut self) -> Result<(), AllocError> {
+    fn push_root(&mut self) {
         let text = &mut self.text;
         let count = self.root.ports.len();
-        push_ports(text, &self.ports, &self.latest, self.shown.inputs, count)?;
+        push_ports(text, &self.ports, &self.latest, self.shown.inputs, count);
         let count = self.tree.output_count();
-        push_ports(text, &self.ports, &self.latest, self.shown.outputs, count)
+        push_ports(text, &self.ports, &self.latest, self.shown.outputs, count);
     }
 
     // Moves to a tick. The inputs that arrive up to it are taken first.
     fn advance(&mut self, tick: u64) -> Result<(), AllocError> {
         self.take_inputs(tick)?;
-        self.go_to(tick)
+        self.go_to(tick);
+        Ok(())
     }
 
     /// Moves behind the end of the trace, which reaches this far, or of the ticks that are shown,
@@ -134,8 +138,8 @@ impl<'a> Changes<'a> {
             self.begin(behind.min(self.span.from), writer)?;
         }
         self.take_inputs(behind.saturating_sub(1))?;
-        self.go_to(behind)?;
-        hand_over(writer, self.text.as_bytes())
+        self.go_to(behind);
+        hand_over(writer, self.text.whole()?.as_bytes())
     }
 
     // Takes the inputs that arrive up to a tick. Mostly there are none.
@@ -167,40 +171,38 @@ impl<'a> Changes<'a> {
         if !self.chosen.has_root() {
             return Ok(());
         }
-        self.go_to(first.time.tick)?;
+        self.go_to(first.time.tick);
         let code = self.shown.inputs.saturating_add(u64::from(first.port));
         let values = values_of(self.alloc, together)?;
         self.pass(code, values.as_str())
     }
 
     // Moves to a tick. What passed by ports that are not held is shown for one tick only.
-    fn go_to(&mut self, tick: u64) -> Result<(), AllocError> {
+    fn go_to(&mut self, tick: u64) {
         if tick <= self.tick {
-            return Ok(());
+            return;
         }
         if !self.marks.is_empty() {
-            self.clear_marks()?;
+            self.clear_marks();
         }
         if tick > self.tick {
-            self.push_tick(tick)?;
+            self.push_tick(tick);
         }
-        Ok(())
     }
 
-    fn push_tick(&mut self, tick: u64) -> Result<(), AllocError> {
+    fn push_tick(&mut self, tick: u64) {
         self.tick = tick;
-        writeln!(self.text, "#{tick}")
+        self.text.show(format_args!("#{tick}\n"));
     }
 
-    fn clear_marks(&mut self) -> Result<(), AllocError> {
+    fn clear_marks(&mut self) {
         if !self.ports.are_held() {
-            self.push_tick(self.tick.saturating_add(1))?;
+            self.push_tick(self.tick.saturating_add(1));
             for code in self.marks.codes() {
-                push_nothing(&mut self.text, Form::Text, *code)?;
+                push_nothing(&mut self.text, Form::Text, *code);
             }
         }
         self.marks.clear();
-        Ok(())
     }
 
     /// Adds what a line changes, and writes the text once it is long. Of a line before the ticks
@@ -211,7 +213,7 @@ impl<'a> Changes<'a> {
         lists: &LineLists<'_>,
         writer: &mut W,
     ) -> Result<(), WriteError> {
-        let Some(tick) = tick_of(head) else {
+        let Some(Time { tick, .. }) = head.time() else {
             return Ok(());
         };
         self.last = tick;
@@ -222,10 +224,11 @@ impl<'a> Changes<'a> {
         if side != Side::Behind {
             self.change(head, lists)?;
         }
+        let text = self.text.whole()?;
         if self.is_begun {
-            return hand_over_if_long(&mut self.text, writer);
+            return hand_over_if_long(text, writer);
         }
-        self.text.clear();
+        text.clear();
         Ok(())
     }
 
@@ -253,7 +256,7 @@ impl<'a> Changes<'a> {
             }
             Event::Fault(fault) => Status::Fault(fault),
         };
-        move_to(&mut self.text, shown, status)?;
+        move_to(&mut self.text, shown, status);
         follow_state(&mut self.text, shown, &lists.state)?;
         let first = shown.codes.port(0);
         self.sent(first, &lists.sent)
@@ -283,10 +286,11 @@ impl<'a> Changes<'a> {
         if self.is_begun {
             return self.push_passed(code, values);
         }
-        self.text.clear();
+        self.text.whole()?.clear();
         self.push_passed(code, values)?;
         if self.ports.are_held() {
-            self.latest.keep(self.alloc, code, self.text.as_str())?;
+            self.latest
+                .keep(self.alloc, code, self.text.whole()?.as_str())?;
         }
         Ok(())
     }
@@ -296,85 +300,58 @@ impl<'a> Changes<'a> {
         let form = self.ports.form(code);
         match form {
             Form::Text => self.mark(code, values),
-            Form::Wire | Form::Integer => match values.parse::<i64>() {
-                Ok(value) => push_number(&mut self.text, form, value, code),
-                Err(_) => push_nothing(&mut self.text, form, code),
-            },
+            Form::Wire | Form::Integer => {
+                match values.parse::<i64>() {
+                    Ok(value) => push_number(&mut self.text, form, value, code),
+                    Err(_) => push_nothing(&mut self.text, form, code),
+                }
+                Ok(())
+            }
         }
     }
 
     // Shows the values that pass by a port that is a string, behind those of the same tick.
     fn mark(&mut self, code: u64, values: &str) -> Result<(), AllocError> {
         let all = self.marks.add(self.alloc, code, values)?;
-        push_string(&mut self.text, all, code)
-    }
-}
-
-// The tick of the line of a component, or of what left the model.
-fn tick_of(head: LineHead) -> Option<u64> {
-    match head {
-        LineHead::Entry(entry) => Some(entry.time.tick),
-        LineHead::Outside(time) => Some(time.tick),
-        LineHead::Empty | LineHead::Whole(_) | LineHead::Clock(_) | LineHead::Partial => None,
+        push_string(&mut self.text, all, code);
+        Ok(())
     }
 }
 
 // Adds what `count` ports show at the start: nothing, or their latest values. `first` is the code
 // of the first one.
-fn push_ports(
-    text: &mut String,
-    ports: &Ports,
-    latest: &Latest,
-    first: u64,
-    count: usize,
-) -> Result<(), AllocError> {
+fn push_ports(text: &mut Text, ports: &Ports, latest: &Latest, first: u64, count: usize) {
     for port in 0..count {
         let code = first.saturating_add(port as u64);
         match latest.line(code) {
-            Some(line) => text.push_str(line)?,
-            None => push_nothing(text, ports.form(code), code)?,
+            Some(line) => text.add(line),
+            None => push_nothing(text, ports.form(code), code),
         }
     }
-    Ok(())
 }
 
 // Adds what a component shows at the start.
-fn push_start(
-    text: &mut String,
-    ports: &Ports,
-    latest: &Latest,
-    shown: &Shown<'_>,
-) -> Result<(), AllocError> {
+fn push_start(text: &mut Text, ports: &Ports, latest: &Latest, shown: &Shown<'_>) {
     let codes = shown.codes;
-    push_status(text, shown.status, codes.first)?;
+    push_status(text, shown.status, codes.first);
     for (index, datum) in shown.state.iter().enumerate() {
-        push_datum(text, datum, codes, index, true)?;
+        push_datum(text, datum, codes, index, true);
     }
-    push_ports(
-        text,
-        ports,
-        latest,
-        codes.port(0),
-        shown.scope.output_count(),
-    )
+    let count = shown.scope.output_count();
+    push_ports(text, ports, latest, codes.port(0), count);
 }
 
 // Adds the phase or the fault of a component, if it has changed.
-fn move_to<'a>(
-    text: &mut String,
-    shown: &mut Shown<'a>,
-    status: Status<'a>,
-) -> Result<(), AllocError> {
-    if shown.status == status {
-        return Ok(());
+fn move_to<'a>(text: &mut Text, shown: &mut Shown<'a>, status: Status<'a>) {
+    if shown.status != status {
+        shown.status = status;
+        push_status(text, status, shown.codes.first);
     }
-    shown.status = status;
-    push_status(text, status, shown.codes.first)
 }
 
 // Adds the variables whose values have changed.
 fn follow_state(
-    text: &mut String,
+    text: &mut Text,
     shown: &mut Shown<'_>,
     state: &[Datum<'_>],
 ) -> Result<(), AllocError> {
@@ -387,7 +364,7 @@ fn follow_state(
 
 // Adds the value of a variable, if it has changed. The memory of its text is reused.
 fn follow_datum(
-    text: &mut String,
+    text: &mut Text,
     shown: &mut ShownDatum,
     datum: Datum<'_>,
     codes: Codes,
@@ -401,26 +378,20 @@ fn follow_datum(
     shown.number = number;
     shown.values.clear();
     shown.values.push_str(values)?;
-    push_datum(text, shown, codes, index, is_other_number)
+    push_datum(text, shown, codes, index, is_other_number);
+    Ok(())
 }
 
 // Adds the value of the variable at an index. The size of a bag or a queue is added if `has_size`.
-fn push_datum(
-    text: &mut String,
-    shown: &ShownDatum,
-    codes: Codes,
-    index: usize,
-    has_size: bool,
-) -> Result<(), AllocError> {
+fn push_datum(text: &mut Text, shown: &ShownDatum, codes: Codes, index: usize, has_size: bool) {
     let code = codes.variable(index);
     match shown.form {
         Form::Wire | Form::Integer => push_number(text, shown.form, shown.number, code),
         Form::Text => {
-            push_held(text, shown.values.as_str(), code)?;
+            push_held(text, shown.values.as_str(), code);
             if has_size {
-                push_number(text, Form::Integer, shown.number, codes.size(index))?;
+                push_number(text, Form::Integer, shown.number, codes.size(index));
             }
-            Ok(())
         }
     }
 }

@@ -8,9 +8,8 @@ use crate::timescale::Timescale;
 use crate::values::{push_all, push_code};
 use dv_check::GREATEST_DEPTH;
 use dv_text::{WriteError, hand_over_if_long};
-use dv_trace::Chosen;
+use dv_trace::{Chosen, Text};
 use dv_tree::{Level, Tree, level_at};
-use std::alloc::AllocError;
 use std::io::Write;
 
 /// What is declared.
@@ -40,29 +39,28 @@ pub(crate) fn write_header<W: Write>(
         chosen: changes.chosen,
     };
     let text = &mut changes.text;
-    writeln!(text, "$version pdevs vcd $end\n$timescale {timescale} $end")?;
-    push_scope(text, tree.name(tree.file().root.number))?;
+    text.show(format_args!("$version pdevs vcd $end\n$timescale {timescale} $end\n"));
+    push_scope(text, tree.name(tree.file().root.number));
     if declared.chosen.has_root() {
-        push_root(text, &declared)?;
+        push_root(text, &declared);
     }
     if let Some(level) = tree.root_level() {
         write_parts(&declared, level, GREATEST_DEPTH, 0, text, writer)?;
     }
-    text.push_str("$upscope $end\n$enddefinitions $end\n")?;
+    text.add("$upscope $end\n$enddefinitions $end\n");
     Ok(())
 }
 
 // Declares the ports of the root.
-fn push_root(text: &mut String, declared: &Declared<'_>) -> Result<(), AllocError> {
+fn push_root(text: &mut Text, declared: &Declared<'_>) {
     for (port, name) in declared.inputs.iter().enumerate() {
         let code = declared.shown.inputs.saturating_add(port as u64);
-        push_port(text, declared, code, name.as_str())?;
+        push_port(text, declared, code, name.as_str());
     }
     for port in 0..declared.tree.output_count() {
         let code = declared.shown.outputs.saturating_add(port as u64);
-        push_port(text, declared, code, declared.tree.output_name(port))?;
+        push_port(text, declared, code, declared.tree.output_name(port));
     }
-    Ok(())
 }
 
 // Declares a scope for each part of a coupled model in which a component is shown. The components
@@ -72,7 +70,7 @@ fn write_parts<W: Write>(
     level: &Level,
     depth: usize,
     first: usize,
-    text: &mut String,
+    text: &mut Text,
     writer: &mut W,
 ) -> Result<(), WriteError> {
     if depth == 0 {
@@ -83,13 +81,13 @@ fn write_parts<W: Write>(
         let inside = level_at(declared.tree.levels(), part.model);
         let behind = next.saturating_add(count_of(declared.tree, inside, depth - 1));
         if declared.chosen.has_some(next, behind) {
-            push_scope(text, declared.tree.name(part.name.number))?;
+            push_scope(text, declared.tree.name(part.name.number));
             match inside {
                 Some(inside) => write_parts(declared, inside, depth - 1, next, text, writer)?,
-                None => push_component(text, declared, next)?,
+                None => push_component(text, declared, next),
             }
-            text.push_str("$upscope $end\n")?;
-            hand_over_if_long(text, writer)?;
+            text.add("$upscope $end\n");
+            hand_over_if_long(text.whole()?, writer)?;
         }
         next = behind;
     }
@@ -114,64 +112,41 @@ fn count_of(tree: &Tree<'_>, level: Option<&Level>, depth: usize) -> usize {
 }
 
 // Declares the variables of a component.
-fn push_component(
-    text: &mut String,
-    declared: &Declared<'_>,
-    component: usize,
-) -> Result<(), AllocError> {
+fn push_component(text: &mut Text, declared: &Declared<'_>, component: usize) {
     let Some(shown) = declared.shown.components.get(component) else {
-        return Ok(());
+        return;
     };
     let (tree, scope, codes) = (declared.tree, shown.scope, shown.codes);
     // `phases` is a reserved word, so no variable or port has this name.
-    push_variable(text, Form::Text, codes.first, "phases", "")?;
+    push_variable(text, Form::Text, codes.first, "phases", "");
     for (index, (name, datum)) in scope.variables().iter().zip(&shown.state).enumerate() {
-        push_datum(text, datum.form, codes, index, tree.name(*name))?;
+        push_datum(text, datum.form, codes, index, tree.name(*name));
     }
     for (index, name) in scope.outputs().iter().enumerate() {
-        push_port(text, declared, codes.port(index), tree.name(*name))?;
+        push_port(text, declared, codes.port(index), tree.name(*name));
     }
-    Ok(())
 }
 
 // Declares a state variable, and the size of a bag or a queue. No name of a model has a dollar
 // sign.
-fn push_datum(
-    text: &mut String,
-    form: Form,
-    codes: Codes,
-    index: usize,
-    name: &str,
-) -> Result<(), AllocError> {
-    push_variable(text, form, codes.variable(index), name, "")?;
-    match form {
-        Form::Text => push_variable(text, Form::Integer, codes.size(index), name, "$size"),
-        Form::Wire | Form::Integer => Ok(()),
+fn push_datum(text: &mut Text, form: Form, codes: Codes, index: usize, name: &str) {
+    push_variable(text, form, codes.variable(index), name, "");
+    if let Form::Text = form {
+        push_variable(text, Form::Integer, codes.size(index), name, "$size");
     }
 }
 
-fn push_scope(text: &mut String, name: &str) -> Result<(), AllocError> {
-    push_all(text, &["$scope module ", name, " $end\n"])
+fn push_scope(text: &mut Text, name: &str) {
+    push_all(text, &["$scope module ", name, " $end\n"]);
 }
 
-fn push_port(
-    text: &mut String,
-    declared: &Declared<'_>,
-    code: u64,
-    name: &str,
-) -> Result<(), AllocError> {
-    push_variable(text, declared.ports.form(code), code, name, "")
+fn push_port(text: &mut Text, declared: &Declared<'_>, code: u64, name: &str) {
+    push_variable(text, declared.ports.form(code), code, name, "");
 }
 
 // Declares a variable of the dump. Its name is `name` followed by `suffix`.
-fn push_variable(
-    text: &mut String,
-    form: Form,
-    code: u64,
-    name: &str,
-    suffix: &str,
-) -> Result<(), AllocError> {
-    push_all(text, &["$var ", form.words(), " "])?;
-    push_code(text, code)?;
-    push_all(text, &[" ", name, suffix, " $end\n"])
+fn push_variable(text: &mut Text, form: Form, code: u64, name: &str, suffix: &str) {
+    push_all(text, &["$var ", form.words(), " "]);
+    push_code(text, code);
+    push_all(text, &[" ", name, suffix, " $end\n"]);
 }

@@ -1,6 +1,5 @@
 //! What passed in this tick by ports that are strings.
 
-use crate::values::push_all;
 use indexmap::IndexSet;
 use std::alloc::{AllocError, Global};
 
@@ -52,7 +51,7 @@ impl Marks {
             text.clear();
         }
         let separator = if is_first { "" } else { ";" };
-        push_all(text, &[separator, values])?;
+        write!(text, "{separator}{values}")?;
         Ok(text.as_str())
     }
 

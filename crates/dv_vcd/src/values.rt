@@ -2,29 +2,27 @@
 
 use crate::forms::Form;
 use crate::shown::Status;
-use std::alloc::AllocError;
+use dv_trace::Text;
 
 /// Adds texts one after the other.
-pub(crate) fn push_all(text: &mut String, parts: &[&str]) -> Result<(), AllocError> {
+pub(crate) fn push_all(text: &mut Text, parts: &[&str]) {
     for part in parts {
-        text.push_str(part)?;
+        text.add(part);
     }
-    Ok(())
 }
 
 /// Adds the code of the variable with a number, in printable characters. Different numbers have
 /// different codes.
-pub(crate) fn push_code(text: &mut String, number: u64) -> Result<(), AllocError> {
+pub(crate) fn push_code(text: &mut Text, number: u64) {
     let mut rest = number;
     for _digit in 0..10 {
-        text.push(char::from(b'!' + (rest % 94) as u8))?;
+        text.add_char(char::from(b'!' + (rest % 94) as u8));
         rest /= 94;
         if rest == 0 {
-            return Ok(());
+            return;
         }
         rest -= 1;
     }
-    Ok(())
 }
 
 // The binary digits of a hexadecimal digit: at the front of a number, where leading zeros are left
@@ -41,13 +39,12 @@ const NEXT_BITS: [&str; 16] = [
 
 // Adds a `b` and a number in binary, without leading zeros. Four digits are added at once, since a
 // dump has very many numbers.
-fn push_bits(text: &mut String, number: u64) -> Result<(), AllocError> {
+fn push_bits(text: &mut Text, number: u64) {
     let digits = number.checked_ilog2().unwrap_or(0) / 4;
-    push_all(text, &["b", bits_at(&FIRST_BITS, number, digits)])?;
+    push_all(text, &["b", bits_at(&FIRST_BITS, number, digits)]);
     for index in (0..digits).rev() {
-        text.push_str(bits_at(&NEXT_BITS, number, index))?;
+        text.add(bits_at(&NEXT_BITS, number, index));
     }
-    Ok(())
 }
 
 // The text of the hexadecimal digit at an index. The last digit has the index 0.
@@ -57,24 +54,19 @@ fn bits_at(table: &[&'static str; 16], number: u64, index: u32) -> &'static str 
 }
 
 // Adds a line: the parts of a value and its code.
-fn push_line(text: &mut String, parts: &[&str], code: u64) -> Result<(), AllocError> {
-    push_all(text, parts)?;
-    push_code(text, code)?;
-    text.push('\n')
+fn push_line(text: &mut Text, parts: &[&str], code: u64) {
+    push_all(text, parts);
+    push_code(text, code);
+    text.add_char('\n');
 }
 
 /// Adds a number: as a bit, or in two's complement of 64 bits without leading zeros.
-pub(crate) fn push_number(
-    text: &mut String,
-    form: Form,
-    number: i64,
-    code: u64,
-) -> Result<(), AllocError> {
+pub(crate) fn push_number(text: &mut Text, form: Form, number: i64, code: u64) {
     match form {
         Form::Wire => push_line(text, &[bit_of(number)], code),
         Form::Integer | Form::Text => {
-            push_bits(text, number.cast_unsigned())?;
-            push_line(text, &[" "], code)
+            push_bits(text, number.cast_unsigned());
+            push_line(text, &[" "], code);
         }
     }
 }
@@ -89,32 +81,28 @@ fn bit_of(number: i64) -> &'static str {
 }
 
 /// Adds a string, which has to be without blanks.
-pub(crate) fn push_string(text: &mut String, string: &str, code: u64) -> Result<(), AllocError> {
-    push_line(text, &["s", string, " "], code)
+pub(crate) fn push_string(text: &mut Text, string: &str, code: u64) {
+    push_line(text, &["s", string, " "], code);
 }
 
 /// Adds the values of a bag or a queue.
-pub(crate) fn push_held(text: &mut String, values: &str, code: u64) -> Result<(), AllocError> {
-    push_line(text, &["s[", values, "] "], code)
+pub(crate) fn push_held(text: &mut Text, values: &str, code: u64) {
+    push_line(text, &["s[", values, "] "], code);
 }
 
 /// Adds that nothing is shown: an unknown bit or number, or a dash, which is never the text of
 /// values.
-pub(crate) fn push_nothing(text: &mut String, form: Form, code: u64) -> Result<(), AllocError> {
+pub(crate) fn push_nothing(text: &mut Text, form: Form, code: u64) {
     let value = match form {
         Form::Wire => "x",
         Form::Integer => "bx ",
         Form::Text => "s- ",
     };
-    push_line(text, &[value], code)
+    push_line(text, &[value], code);
 }
 
 /// Adds a component's phase or fault. No name of a phase has a colon.
-pub(crate) fn push_status(
-    text: &mut String,
-    status: Status<'_>,
-    code: u64,
-) -> Result<(), AllocError> {
+pub(crate) fn push_status(text: &mut Text, status: Status<'_>, code: u64) {
     match status {
         Status::Phase(name) => push_string(text, name, code),
         Status::Fault(fault) => push_line(text, &["sfault:", fault.word(), " "], code),
