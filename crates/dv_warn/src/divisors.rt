@@ -93,20 +93,15 @@ fn find_in_expression(
     }
 }
 
-// Whether a number is in a sorted list.
-fn is_among(numbers: &[u32], number: u32) -> bool {
-    let index = numbers.partition_point(|other| *other < number);
-    numbers.get(index) == Some(&number)
-}
-
 fn find_in_divisor(
     findings: &mut Findings<'_>,
     divisor: Name,
     scope: &Scope,
     asked: &[u32],
 ) -> Result<(), AllocError> {
+    let is_asked = asked.binary_search(&divisor.number).is_ok();
     match range_of(divisor, scope) {
-        Some(range) if range.low <= 0 && range.high >= 0 && !is_among(asked, divisor.number) => {
+        Some(range) if range.low <= 0 && range.high >= 0 && !is_asked => {
             let name = findings.name(divisor);
             findings.note(
                 divisor.offset,

@@ -7,12 +7,8 @@ use crate::warning::Warning;
 use dv_eval::Scope;
 use std::alloc::{AllocError, Global};
 
-// A `goto`, by the indices of the phases.
-#[derive(Clone, Copy, PartialEq, Eq, PartialOrd, Ord)]
-struct Step {
-    to: usize,
-    from: usize,
-}
+/// A `goto`, by the indices of the phases: to which it leads, and from which.
+type Step = (usize, usize);
 
 /// Adds a warning about the first phase that is reached and from which rules lead to others of hold
 /// 0, and never to one that lasts. The others of such a round get none.
@@ -79,8 +75,7 @@ fn add_steps(
         if let Mention::GoesTo(phase) = mention
             && let Some(to) = scope.phase(*phase)
         {
-            let to = to as usize;
-            steps.push(Step { to, from })?;
+            steps.push((to as usize, from))?;
         }
     }
     Ok(())
@@ -116,13 +111,16 @@ fn mark_sources(
     marks: &mut [bool],
     waiting: &mut Vec<usize>,
 ) -> Result<(), AllocError> {
-    let first = steps.partition_point(|step| step.to < to);
-    for step in steps.iter().skip(first).take_while(|step| step.to == to) {
-        if let Some(mark) = marks.get_mut(step.from)
+    let first = steps.partition_point(|(target, _)| *target < to);
+    for (target, from) in steps.get(first..).unwrap_or(&[]) {
+        if *target != to {
+            break;
+        }
+        if let Some(mark) = marks.get_mut(*from)
             && !*mark
         {
             *mark = true;
-            waiting.push(step.from)?;
+            waiting.push(*from)?;
         }
     }
     Ok(())
