@@ -49,7 +49,9 @@ pub(crate) fn usage_text(alloc: Global, words: &[String]) -> Result<String, Allo
             ),
             _ => match (
                 first_misfit(words),
-                dash_reason(words).or(foreign_reason(words)),
+                dash_reason(words)
+                    .or(foreign_reason(words))
+                    .or(second_file_reason(words)),
             ) {
                 (Some(misfit), _) => refused_misfit(alloc, &misfit),
                 (None, Some(reason)) => refused(alloc, reason),
@@ -114,6 +116,33 @@ fn first_misfit(words: &[String]) -> Option<Misfit<'_>> {
         }
     }
     None
+}
+
+/// Why `run` refuses a second file, which is mostly meant as its inputs.
+fn second_file_reason(words: &[String]) -> Option<&'static str> {
+    if words.get(1)?.as_str() == "run" && files_of_run(words) > 1 {
+        Some("the inputs of a run are given by --inputs")
+    } else {
+        None
+    }
+}
+
+/// How many words of a run are neither options nor their values.
+fn files_of_run(words: &[String]) -> usize {
+    let takes = words_of("run");
+    let mut files: usize = 0;
+    let mut is_behind_option = false;
+    for word in words.iter().skip(2) {
+        let word = word.as_str();
+        if is_value(word) && !is_behind_option {
+            files = files.saturating_add(1);
+        }
+        is_behind_option = match word.strip_prefix("--") {
+            Some(option) => value_of(takes, option).is_some(),
+            None => false,
+        };
+    }
+    files
 }
 
 /// The words that the subcommand of this name takes.
