@@ -13,5 +13,6 @@ pub mod CheckedFiles
 pub mod WholeTrees
 pub mod SettledSizes
 pub mod Order
+pub mod Longer
 pub mod Writable
 pub mod Computing

@@ -1,20 +1,26 @@
 -- A file that was read from a text could be written down: it is spelled by the text's tokens, and these are few and of the language.
-use Rattle.std.proofs.Common.{ℕ, ◌+◌, ◌≤◌, ◌^◌, Bool, true, false, cond, List, [], ◌∷◌, length, map, Option, Some, None, sym}
-use Rattle.std.proofs.Common.{subst, arith}
+use Rattle.std.proofs.Common.{ℕ, ◌+◌, ◌≤◌, ◌^◌, List, [], ◌∷◌, length, map, Option, Some, None, sym, ap}
+use Rattle.std.proofs.Common.{subst, ◌∙◌, arith}
 use Rattle.std.specs.List.{AllByRecursion, cons_option}
 use Rattle.dv_lex.specs.Lexemes.{Lexeme, Blank, Comment, Identifier, Numeral, Reserved, Sign}
 use Rattle.dv_lex.specs.Numbering.{token_of, tokens_of}
 use Rattle.dv_lex.specs.Reading.{IsInRange, Located, Reads}
 use Rattle.dv_lex.specs.Texts.{IsTokensOf}
-use Rattle.dv_lex.specs.Versions.{behind_header, headed, header_words, is_second_version, kind_or_word, later_words, text_in, versioned}
-use Rattle.dv_lex.specs.Versions.{with_words, word_written}
+use Rattle.dv_lex.specs.Versions.{behind_header, headed, header_words, kind_or_word, text_in, versioned}
+use Rattle.dv_lex.specs.Versions.{with_words, word_written, words_behind}
 use Rattle.dv_lex.specs.declared.token.Keyword.{Keyword}
 use Rattle.dv_lex.specs.declared.token.Token.{Token}
 use Rattle.dv_lex.specs.declared.token.TokenKind.{TokenKind}
-use Rattle.dv_syntax.specs.Grammar.{Anywhere, At, IsFileOf, IsSpelled, Spelled, Spells, file_spelling}
+use Rattle.dv_source.specs.Texts.{TextFile, TextItem, TextModel, TextAtomic, TextCoupled, file_for, item_for, model_for}
+use Rattle.dv_source.specs.Grammar.{IsFileOf, IsTextItem, IsTextModel, limits_behind, text_spelling}
+use Rattle.dv_syntax.specs.declared.tree.Version.{Version}
+use Rattle.dv_syntax.specs.Grammar.{Anywhere, At, IsItem, IsModel, IsSpelled, Spelled, Spells, the_limits}
 use Rattle.dv_syntax.specs.Trees.{FileTree}
+use Rattle.dv_syntax.specs.Written.{sorted}
 use Rattle.dv_syntax.proofs.Lengths.{Spells-length}
+use Rattle.dv_syntax.proofs.Within.{AreNoLess, item_within}
 use Rattle.dv_check.specs.Writable.{AsksSmall, IsSmall, IsWritable}
+use Rattle.dv_check.proofs.Longer.{file_longer}
 
 -- tokens whose numbers are of the language
 abbrev IsSmallToken : Token → Type 0
@@ -57,11 +63,7 @@ words_small names words (t ∷ ts) h =
 
 behind_small : (names : List (List ℕ)) (ts : List Token) → AreSmall ts → AreSmall (behind_header names ts)
 behind_small names [] h = tt
-behind_small names (t ∷ ts) h = (h.0, by_test (is_second_version t.kind))
-  where
-    by_test : (second : Bool) → AreSmall (cond second (map (with_words names later_words) ts) ts)
-    by_test true = words_small names later_words ts h.1
-    by_test false = h.1
+behind_small names (t ∷ ts) h = (h.0, words_small names (words_behind t.kind) ts h.1)
 
 headed_small : (names : List (List ℕ)) (word : Option Keyword) (t : Token) (ts : List Token) → AreSmall (t ∷ ts) →
     AreSmall (headed names word t ts)
@@ -82,19 +84,36 @@ spelled_small (s ∷ ss) (t ∷ ts) rest h small = (here s h.0 small.0, spelled_
     here (At k offset) e h = subst IsSmall e.0 h
     here (Anywhere k) e h = subst IsSmall e h
 
--- the file that they spell
+-- what a text stands for is within the limits of the language
+items_within : (header : Option Version) (items : List TextItem) → AllByRecursion (IsTextItem (limits_behind the_limits header)) items
+    → AllByRecursion (IsItem the_limits) (map item_for items)
+items_within header [] all = tt
+items_within header (x ∷ items) all =
+    let same : AreNoLess (limits_behind the_limits header) the_limits =
+    record { expression = omega arith; block = omega arith; loop = omega arith } in
+    (item_within (limits_behind the_limits header) the_limits same (item_for x) all.0.0, items_within header items all.1)
+
+models_within : (header : Option Version) (models : List TextModel)
+    → AllByRecursion (IsTextModel (limits_behind the_limits header)) models → AllByRecursion (IsModel the_limits) (map model_for models)
+models_within header [] all = tt
+models_within header (TextAtomic n items ∷ models) all = (items_within header items all.0, models_within header models all.1)
+models_within header (TextCoupled n items ∷ models) all = (tt, models_within header models all.1)
+
+-- the file that they stand for
 pub text_writable : (text : List ℕ) (names : List (List ℕ)) (tokens : List Token) (f : FileTree) → length tokens ≤ length text
     → IsTokensOf text names tokens → IsFileOf tokens f → IsWritable f
 text_writable text names tokens f few lexed parsed =
+    let read : TextFile = parsed.read.text in
     let spelled = parsed.read.spelled in
+    let longer = file_longer read in
     let small : AreSmall tokens = subst AreSmall (sym lexed.numbered)
     (versioned_small names (tokens_of names lexed.lexemes) (tokens_small names 0 text lexed.lexemes (length text) [] lexed.reads)) in
-    let short : length (file_spelling parsed.written) ≤ 2 ^ 24 =
-    omega (arith, few, lexed.readable.short, Spells-length (file_spelling parsed.written) tokens [] spelled) in
+    let short : length (text_spelling read) ≤ 2 ^ 24 =
+    omega (arith, few, lexed.readable.short, Spells-length (text_spelling read) tokens [] spelled) in
     record {
-      written = parsed.written;
-      tree = parsed.tree;
-      within = parsed.read.models;
-      small = spelled_small (file_spelling parsed.written) tokens [] spelled small;
-      few = omega (arith, short);
+      written = file_for read;
+      tree = parsed.tree ∙ ap sorted parsed.read.file;
+      within = models_within read.header read.models parsed.read.models;
+      small = longer.small (spelled_small (text_spelling read) tokens [] spelled small);
+      few = omega (arith, short, longer.few);
     }

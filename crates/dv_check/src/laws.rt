@@ -9,7 +9,7 @@ ghost use Rattle.dv_lex.specs.Texts.{IsTokensOf};
 ghost use Rattle.dv_lex.specs.declared.error.Refusal.{Refusal};
 ghost use Rattle.dv_lex.specs.declared.error.RefusalNumber.TheVariants as number;
 ghost use Rattle.dv_lex.specs.declared.token.Token.{Token};
-ghost use Rattle.dv_syntax.specs.Grammar.{IsFileOf};
+ghost use Rattle.dv_source.specs.Grammar.{IsFileOf};
 ghost use Rattle.dv_syntax.specs.Trees.{Assign, Binary, Call, Changes, CoupledModel, CoupledTree, Does, Done, Elapsed, FileTree, If};
 ghost use Rattle.dv_syntax.specs.Trees.{Named, Times, TruthValue};
 ghost use Rattle.dv_syntax.specs.declared.tree.BagCall.TheVariants.{Front, Size, Sum};

@@ -5,7 +5,7 @@ use Rattle.dv_lex.specs.declared.error.Refusal.{Refusal}
 use Rattle.dv_lex.specs.declared.error.RefusalNumber.{RefusalNumber}
 use Rattle.dv_lex.specs.declared.error.RefusalNumber.TheVariants.{E4, E5}
 use Rattle.dv_syntax.specs.Trees.{FileTree}
-use Rattle.dv_syntax.specs.Grammar.{IsFileOf}
+use Rattle.dv_source.specs.Grammar.{IsFileOf}
 use Rattle.law_dead_ends.specs.Refusals.{BeginsFile, BeginsFileAtAnyDepth, IsDeadEnd, IsNumberOf, NoneBeginsAt}
 
 -- what is known of first wrong tokens

@@ -9,7 +9,7 @@ use Rattle.dv_lex.specs.declared.error.Refusal.{Refusal}
 use Rattle.dv_lex.specs.declared.error.TextError.{TextError}
 use Rattle.dv_lex.specs.Texts.{IsRefused, IsTokensOf, answer_to}
 use Rattle.dv_syntax.specs.Trees.{FileTree}
-use Rattle.dv_syntax.specs.Grammar.{IsFileOf}
+use Rattle.dv_source.specs.Grammar.{IsFileOf}
 use Rattle.dv_parser.specs.Reading.{refusal_of_tokens, IsRefused as AreRefused}
 use Rattle.law_dead_ends.specs.Refusals.{IsDeadEnd}
 use Rattle.dv_job.proofs.DeadEnds.{FirstWrongLaws, no_dead_end, one_dead_end}

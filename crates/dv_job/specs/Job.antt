@@ -5,7 +5,7 @@ use Rattle.dv_lex.specs.declared.error.Refusal.{Refusal}
 use Rattle.dv_lex.specs.declared.error.TextError.{TextError}
 use Rattle.dv_lex.specs.Texts.{IsTokensOf, IsRefused as HasNoTokens, answer_to}
 use Rattle.dv_syntax.specs.Trees.{FileTree}
-use Rattle.dv_syntax.specs.Grammar.{IsFileOf}
+use Rattle.dv_source.specs.Grammar.{IsFileOf}
 use Rattle.law_dead_ends.specs.Refusals.{IsDeadEnd}
 use Rattle.dv_check.specs.Refusals.{refusal_of}
 use Rattle.dv_flat.specs.Limit.{file_refusal, link_refusal}

@@ -227,7 +227,7 @@ keywords =
     ∷ keyword.Confluent ∷ keyword.Part ∷ keyword.Link ∷ keyword.Itself ∷ keyword.If ∷ keyword.Else ∷ keyword.For ∷ keyword.Add
     ∷ keyword.To ∷ keyword.Drop ∷ keyword.From ∷ keyword.Send ∷ keyword.Goto ∷ keyword.True ∷ keyword.False ∷ keyword.Not
     ∷ keyword.And ∷ keyword.Or ∷ keyword.Elapsed ∷ keyword.Size ∷ keyword.Sum ∷ keyword.Least ∷ keyword.Most ∷ keyword.Times
-    ∷ keyword.Version ∷ keyword.Queue ∷ keyword.Push ∷ keyword.Pop ∷ keyword.Front ∷ []
+    ∷ keyword.Version ∷ keyword.Queue ∷ keyword.Push ∷ keyword.Pop ∷ keyword.Front ∷ keyword.Const ∷ keyword.Each ∷ keyword.When ∷ []
 
 abbrev pub symbols : List Symbol
 symbols =

@@ -94,6 +94,9 @@ keyword_text keyword.Queue = codes "queue"
 keyword_text keyword.Push = codes "push"
 keyword_text keyword.Pop = codes "pop"
 keyword_text keyword.Front = codes "front"
+keyword_text keyword.Const = codes "const"
+keyword_text keyword.Each = codes "each"
+keyword_text keyword.When = codes "when"
 
 -- whether the word is never a name
 abbrev pub is_reserved : Keyword → Bool
@@ -102,6 +105,9 @@ is_reserved keyword.Queue = false
 is_reserved keyword.Push = false
 is_reserved keyword.Pop = false
 is_reserved keyword.Front = false
+is_reserved keyword.Const = false
+is_reserved keyword.Each = false
+is_reserved keyword.When = false
 is_reserved word = true
 
 -- the spelling of a symbol

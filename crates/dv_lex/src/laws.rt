@@ -5,7 +5,7 @@ ghost use Rattle.std.specs.List.{IsDistinct};
 ghost use Rattle.dv_lex.specs.Numbering.{tokens_of};
 ghost use Rattle.dv_lex.specs.Reading.{Located, Reads};
 ghost use Rattle.dv_lex.specs.Texts.{IsTokensOf, IsRefused, IsNumbered, IsOffset, IsAscending};
-ghost use Rattle.dv_lex.specs.Versions.{IsHeaded, IsOfSecondVersion};
+ghost use Rattle.dv_lex.specs.Versions.{IsHeaded, IsOfLaterVersion};
 
 use crate::error::Refusal;
 use crate::token::{Keyword, Token, TokenKind};
@@ -77,13 +77,13 @@ pub fn other_texts_keep_their_tokens()
         → tokens ≡ tokens_of names t.lexemes }
 {}
 
-/// If a text begins with the name `version` and is not of version 2, that name is a keyword, at its
-/// offset; the other tokens are those of its lexemes.
-pub fn version_two_alone_changes_what_follows_a_header()
+/// If a text begins with the name `version` and is neither of version 2 nor of version 3, that name
+/// is a keyword, at its offset; the other tokens are those of its lexemes.
+pub fn later_versions_alone_change_what_follows_a_header()
     ensures { (text : List ℕ) (names : List (List ℕ)) (tokens : List Token)
         (t : IsTokensOf text names tokens) (first : Token) (others : List Token) →
         tokens_of names t.lexemes ≡ first ∷ others → IsHeaded names (first ∷ others) →
-        ¬ IsOfSecondVersion others → tokens
+        ¬ IsOfLaterVersion others → tokens
         ≡ record { kind = TokenKind.Keyword Keyword.Version; offset = first.offset } ∷ others }
 {}
 

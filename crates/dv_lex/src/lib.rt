@@ -27,7 +27,7 @@ pub mod numeral;
 mod symbols;
 /// The tokens.
 pub mod token;
-/// The header of a text, and the words of version 2.
+/// The header of a text, and the words of later versions.
 mod versions;
 
 pub use error::{LoadError, Refusal, RefusalNumber, TextError, answer};

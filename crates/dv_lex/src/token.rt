@@ -4,8 +4,9 @@ use crate::names::Names;
 use crate::numeral::Numeral;
 
 /// A word of the language. `Version` is a keyword only at the beginning of a text, and a name
-/// elsewhere. `Queue`, `Push`, `Pop` and `Front` are keywords behind a header of version 2, and
-/// names elsewhere. The others are never names.
+/// elsewhere. `Queue`, `Push`, `Pop` and `Front` are keywords behind a header of version 2 or 3,
+/// `Const`, `Each` and `When` behind one of version 3, and names elsewhere. The others are never
+/// names.
 #[derive(Clone, Copy, PartialEq, Eq)]
 pub enum Keyword {
     /// `atomic`
@@ -96,6 +97,12 @@ pub enum Keyword {
     Pop,
     /// `front`
     Front,
+    /// `const`
+    Const,
+    /// `each`
+    Each,
+    /// `when`
+    When,
 }
 
 /// A sign of one or two characters.

@@ -1,6 +1,6 @@
 -- What is read as items, models and files is spelled so, and what is spelled so is read.
 use Rattle.std.proofs.Common.{◌≡◌, ℕ, ◌<◌, true, false, List, [], ◌∷◌, ◌++◌, length, Option, Some, None, Ok, Err, refl, sym, ap}
-use Rattle.std.proofs.Common.{subst, ◌∙◌, inl, inr, arith}
+use Rattle.std.proofs.Common.{map, subst, ◌∙◌, inl, inr, arith}
 use Rattle.std.specs.List.{flat_map, AllByRecursion}
 use Rattle.dv_bag.specs.declared.discipline.Discipline.{Discipline}
 use Rattle.dv_bag.specs.declared.discipline.Discipline.TheVariants as discipline
@@ -10,6 +10,10 @@ use Rattle.dv_lex.specs.declared.token.Keyword.{Keyword}
 use Rattle.dv_lex.specs.declared.token.Keyword.TheVariants as keyword
 use Rattle.dv_lex.specs.declared.token.Symbol.{Symbol}
 use Rattle.dv_lex.specs.declared.token.Symbol.TheVariants as symbol
+use Rattle.dv_source.specs.Texts.{TextStatements, TextItem, Rule, Other, TextModel, TextAtomic, TextCoupled, TextFile}
+use Rattle.dv_source.specs.Texts.{item_for, model_for, file_for}
+use Rattle.dv_source.specs.Grammar.{text_item_spelling, text_model_spelling, text_spelling, IsOfForm, IsTextItem, IsTextModel}
+use Rattle.dv_source.specs.Grammar.{limits_behind, IsWritten, IsFileWithin, IsFileOf}
 use Rattle.dv_syntax.specs.declared.tree.Version.{Version}
 use Rattle.dv_syntax.specs.declared.tree.Version.TheVariants as version
 use Rattle.dv_syntax.specs.declared.tree.Prefix.TheVariants as prefix
@@ -29,12 +33,12 @@ use Rattle.dv_syntax.specs.declared.tree.Link.{Link}
 use Rattle.dv_syntax.specs.Trees.{Expression, Statements, Literal, TruthValue, Named, Parens, Prefixed, Binary, Call, Elapsed}
 use Rattle.dv_syntax.specs.Trees.{Times, HoldTree, FileTree}
 use Rattle.dv_syntax.specs.Written.{AtomicItem, Declares, Lists, Starts, Holds, Rules, CoupledItem, Inputs, Outputs, Contains}
-use Rattle.dv_syntax.specs.Written.{Couples, WrittenModel, WrittenAtomic, WrittenCoupled, WrittenFile, sorted}
-use Rattle.dv_syntax.specs.Grammar.{Spelled, Anywhere, Limits, the_limits, name, number, sign, word, braces, operator_kind}
+use Rattle.dv_syntax.specs.Written.{Couples, WrittenModel, WrittenAtomic, WrittenFile, sorted}
+use Rattle.dv_syntax.specs.Grammar.{Spelled, Spells, Anywhere, Limits, the_limits, name, number, sign, word, braces, operator_kind}
 use Rattle.dv_syntax.specs.Grammar.{expression_spelling, minus_spelling, bound_spelling, variable_spelling, flag_spelling}
-use Rattle.dv_syntax.specs.Grammar.{collection_spelling, ticks_spelling, phases_spelling, rule_spelling, item_spelling}
-use Rattle.dv_syntax.specs.Grammar.{AreTicks, IsItem, part_name_spelling, end_spelling, coupled_item_spelling, model_spelling, IsModel}
-use Rattle.dv_syntax.specs.Grammar.{file_spelling, header_spelling, version_number, IsWritten, IsFileWithin, IsFileOf}
+use Rattle.dv_syntax.specs.Grammar.{collection_spelling, ticks_spelling, phases_spelling, item_spelling}
+use Rattle.dv_syntax.specs.Grammar.{AreTicks, IsItem, part_name_spelling, end_spelling, coupled_item_spelling}
+use Rattle.dv_syntax.specs.Grammar.{header_spelling, version_number}
 use Rattle.dv_parser.specs.Reading.{Obstacle, Read, read_then, choose, begins, operator_of, many_at, braces_at, bound_at}
 use Rattle.dv_parser.specs.Reading.{variable_at, flag_at, collection_at, further_name_at, phases_at, start_at, ticks_at, hold_at}
 use Rattle.dv_parser.specs.Reading.{rule_at, any_rule_at, port_at, item_at, atomic_at, end_at, part_at, link_at}
@@ -42,7 +46,8 @@ use Rattle.dv_parser.specs.Reading.{coupled_item_at, coupled_at, model_at, is_en
 use Rattle.dv_parser.proofs.Tokens.{FirstRead, then_ok, here, past, chosen, ok_is, err_ok, Spans, nothing, span_end, then_spans, split}
 use Rattle.dv_parser.proofs.Tokens.{first, first_name, first_number, first_truth, unplaced, after_spans, after_spans_at}
 use Rattle.dv_parser.proofs.Tokens.{name_spans, number_spans, truth_spans}
-use Rattle.dv_parser.proofs.Readers.{IsReader, IsListed, many_reader, braces_reader, shortens, Shortens, Always, all_any}
+use Rattle.dv_parser.proofs.Readers.{IsReader, IsReaderFor, IsListed, many_reader, many_reader_for, braces_reader}
+use Rattle.dv_parser.proofs.Readers.{braces_reader_for, shortens, shortens_for, Shortens, Always, all_any}
 use Rattle.dv_parser.proofs.Expressions.{closed_front, expression_reader}
 use Rattle.dv_parser.proofs.Statements.{semicolon, block_reader, IsBlock}
 
@@ -182,7 +187,13 @@ further_listed = record {
 }
 
 abbrev ReadsItem : Limits → List Token → AtomicItem × List Token → Type 0
-ReadsItem limits ts x = Spans (item_spelling x.0) ts x.1 × IsItem limits x.0
+ReadsItem limits ts x =
+    (item : TextItem) × (item_for item ≡ x.0) × Spans (text_item_spelling item) ts x.1 × IsTextItem limits item
+
+-- what was read and stands for itself
+reads_itself : (limits : Limits) (ts : List Token) (x : AtomicItem × List Token) → Spans (item_spelling x.0) ts x.1
+    → IsItem limits x.0 → IsOfForm limits.short_forms (Other x.0) → ReadsItem limits ts x
+reads_itself limits ts x spans is plain = (Other x.0, refl, spans, (is, plain))
 
 phases_sound : (limits : Limits) (ts : List Token) (x : AtomicItem × List Token) → phases_at ts ≡ Ok x → ReadsItem limits ts x
 unfolding phases_at
@@ -194,7 +205,7 @@ phases_sound limits ts x e =
     let d = then_ok _ _ _ c.2 in
     let s = r.sound b.0.1 c.0 c.1 in
     subst (ReadsItem limits ts) (ok_is _ _ d.2)
-    (after_spans_at a.1 (name_spans b.1 (then_spans s.0 (after_spans d.1 nothing))), omega arith)
+    (reads_itself limits ts _ (after_spans_at a.1 (name_spans b.1 (then_spans s.0 (after_spans d.1 nothing)))) (omega arith) tt)
 
 start_sound : (limits : Limits) (ts : List Token) (x : AtomicItem × List Token) → start_at ts ≡ Ok x → ReadsItem limits ts x
 unfolding start_at
@@ -202,9 +213,10 @@ start_sound limits ts x e =
     let a = then_ok _ _ _ e in
     let b = then_ok _ _ _ a.2 in
     let c = then_ok _ _ _ b.2 in
-    subst (ReadsItem limits ts) (ok_is _ _ c.2) (after_spans_at a.1 (name_spans b.1 (after_spans c.1 nothing)), tt)
+    subst (ReadsItem limits ts) (ok_is _ _ c.2)
+    (reads_itself limits ts _ (after_spans_at a.1 (name_spans b.1 (after_spans c.1 nothing))) tt tt)
 
-ticks_sound : (limits : Limits) (ts : List Token) (x : Option Expression × List Token) → ticks_at limits ts ≡ Ok x
+ticks_sound : (limits : Limits) (ts : List Token) (x : Option Expression × List Token) → ticks_at limits.expression ts ≡ Ok x
     → Spans (ticks_spelling x.0) ts x.1 × AreTicks limits x.0
 unfolding ticks_at
 ticks_sound limits ts x e =
@@ -219,7 +231,7 @@ ticks_sound limits ts x e =
           subst (λ (y : Option Expression × List Token). Spans (ticks_spelling y.0) ts y.1 × AreTicks limits y.0) (ok_is _ _ a.2) (s.0, s.1)
     ]
 
-hold_sound : (limits : Limits) (ts : List Token) (x : AtomicItem × List Token) → hold_at limits ts ≡ Ok x → ReadsItem limits ts x
+hold_sound : (limits : Limits) (ts : List Token) (x : AtomicItem × List Token) → hold_at limits.expression ts ≡ Ok x → ReadsItem limits ts x
 unfolding hold_at
 hold_sound limits ts x e =
     let a = then_ok _ _ _ e in
@@ -229,7 +241,7 @@ hold_sound limits ts x e =
     let f = then_ok _ _ _ d.2 in
     let s = ticks_sound limits c.0 d.0 d.1 in
     subst (ReadsItem limits ts) (ok_is _ _ f.2)
-    (after_spans_at a.1 (name_spans b.1 (after_spans c.1 (then_spans s.0 (after_spans f.1 nothing)))), s.1)
+    (reads_itself limits ts _ (after_spans_at a.1 (name_spans b.1 (after_spans c.1 (then_spans s.0 (after_spans f.1 nothing))))) s.1 tt)
 
 rule_sound : (limits : Limits) (sort : RuleSort) (ts : List Token) (x : AtomicItem × List Token) → rule_at limits sort ts ≡ Ok x
     → ReadsItem limits ts x
@@ -239,7 +251,12 @@ rule_sound limits sort ts x e =
     let b = then_ok _ _ _ a.2 in
     let c = then_ok _ _ _ b.2 in
     let s = (block_reader limits limits.block limits.loop).sound b.0.1 c.0 c.1 in
-    subst (ReadsItem limits ts) (ok_is _ _ c.2) (after_spans a.1 (name_spans b.1 s.0), s.1)
+    subst (ReadsItem limits ts) (ok_is _ _ c.2) (
+      Rule sort b.0.0 s.0,
+      ap (λ (body : Statements). Rules (record { sort = sort; phase = b.0.0; body = body })) s.1,
+      after_spans a.1 (name_spans b.1 s.2),
+      s.3,
+    )
 
 any_rule_sound : (limits : Limits) (ts : List Token) (x : AtomicItem × List Token) → any_rule_at limits ts ≡ Ok x → ReadsItem limits ts x
 unfolding any_rule_at
@@ -279,26 +296,30 @@ item_sound limits ts x e =
       | inl o ↦
           let a = then_ok _ _ _ o.1 in
           let s = (port_reader keyword.In).sound ts a.0 a.1 in
-          subst (ReadsItem limits ts) (ok_is _ _ a.2) (s.0, tt)
+          subst (ReadsItem limits ts) (ok_is _ _ a.2) (reads_itself limits ts _ s.0 tt tt)
       | inr o ↦ elim (chosen _ _ _ _ o.1) [
         | inl p ↦
             let a = then_ok _ _ _ p.1 in
             let s = (port_reader keyword.Out).sound ts a.0 a.1 in
-            subst (ReadsItem limits ts) (ok_is _ _ a.2) (s.0, tt)
+            subst (ReadsItem limits ts) (ok_is _ _ a.2) (reads_itself limits ts _ s.0 tt tt)
         | inr p ↦ elim (chosen _ _ _ _ p.1) [
-          | inl q ↦ let a = then_ok _ _ _ q.1 in let s = variable_sound ts a.0 a.1 in subst (ReadsItem limits ts) (ok_is _ _ a.2) (s, tt)
+          | inl q ↦
+              let a = then_ok _ _ _ q.1 in
+              subst (ReadsItem limits ts) (ok_is _ _ a.2) (reads_itself limits ts _ (variable_sound ts a.0 a.1) tt tt)
           | inr q ↦ elim (chosen _ _ _ _ q.1) [
-            | inl f ↦ let a = then_ok _ _ _ f.1 in let s = flag_sound ts a.0 a.1 in subst (ReadsItem limits ts) (ok_is _ _ a.2) (s, tt)
+            | inl f ↦
+                let a = then_ok _ _ _ f.1 in
+                subst (ReadsItem limits ts) (ok_is _ _ a.2) (reads_itself limits ts _ (flag_sound ts a.0 a.1) tt tt)
             | inr f ↦ elim (chosen _ _ _ _ f.1) [
               | inl b ↦
                   let a = then_ok _ _ _ b.1 in
                   let s = collection_sound discipline.Bag ts a.0 a.1 in
-                  subst (ReadsItem limits ts) (ok_is _ _ a.2) (s, tt)
+                  subst (ReadsItem limits ts) (ok_is _ _ a.2) (reads_itself limits ts _ s tt tt)
               | inr b ↦ elim (chosen _ _ _ _ b.1) [
                 | inl c ↦
                     let a = then_ok _ _ _ c.1 in
                     let s = collection_sound discipline.Queue ts a.0 a.1 in
-                    subst (ReadsItem limits ts) (ok_is _ _ a.2) (s, tt)
+                    subst (ReadsItem limits ts) (ok_is _ _ a.2) (reads_itself limits ts _ s tt tt)
                 | inr c ↦ elim (chosen _ _ _ _ c.1) [
                   | inl w ↦ phases_sound limits ts x w.1
                   | inr w ↦ elim (chosen _ _ _ _ w.1) [
@@ -316,9 +337,9 @@ item_sound limits ts x e =
       ]
     ]
 
-rule_complete : (limits : Limits) (sort : RuleSort) (p : Name) (body : Statements) (ts rest : List Token)
-    → IsBlock limits limits.block limits.loop body → Spans (rule_spelling (record { sort = sort; phase = p; body = body })) ts rest
-    → rule_at limits sort ts ≡ Ok (Rules (record { sort = sort; phase = p; body = body }), rest)
+rule_complete : (limits : Limits) (sort : RuleSort) (p : Name) (body : TextStatements) (ts rest : List Token)
+    → IsBlock limits limits.block limits.loop body → Spans (text_item_spelling (Rule sort p body)) ts rest
+    → rule_at limits sort ts ≡ Ok (item_for (Rule sort p body), rest)
 unfolding rule_at read_then
 rule_complete limits sort p body ts rest is h =
     let a = first h in
@@ -348,7 +369,7 @@ expression_no_word (Binary o a b) ts rest h =
 
 ticks_complete : (limits : Limits) (ticks : Option Expression) (ts rest : List Token) → AreTicks limits ticks
     → Spans (ticks_spelling ticks ++ semicolon) ts rest
-    → (mid : List Token) × (ticks_at limits ts ≡ Ok (ticks, mid)) × Spans semicolon mid rest
+    → (mid : List Token) × (ticks_at limits.expression ts ≡ Ok (ticks, mid)) × Spans semicolon mid rest
 unfolding ticks_at choose read_then operator_of
 ticks_complete limits None ts rest is h =
     let a = first h in
@@ -370,9 +391,9 @@ unfolding item_at
 item_rule limits ts a b c d e f g h i r =
     past _ a (past _ b (past _ c (past _ d (past _ e (past _ f (past _ g (past _ h (past _ i r))))))))
 
-rule_item_complete : (limits : Limits) (sort : RuleSort) (p : Name) (body : Statements) (ts rest : List Token)
-    → IsBlock limits limits.block limits.loop body → Spans (rule_spelling (record { sort = sort; phase = p; body = body })) ts rest
-    → item_at limits ts ≡ Ok (Rules (record { sort = sort; phase = p; body = body }), rest)
+rule_item_complete : (limits : Limits) (sort : RuleSort) (p : Name) (body : TextStatements) (ts rest : List Token)
+    → IsBlock limits limits.block limits.loop body → Spans (text_item_spelling (Rule sort p body)) ts rest
+    → item_at limits ts ≡ Ok (item_for (Rule sort p body), rest)
 unfolding any_rule_at
 rule_item_complete limits sort.Output p body ts rest is h =
     let b = (first h).begins in
@@ -416,7 +437,7 @@ start_complete offset p ts rest h =
     rw (a.after, b.read, c.after, a.offset, span_end c.spelled) refl
 
 hold_complete : (limits : Limits) (d : HoldTree) (ts rest : List Token) → AreTicks limits d.ticks → Spans (item_spelling (Holds d)) ts rest
-    → hold_at limits ts ≡ Ok (Holds d, rest)
+    → hold_at limits.expression ts ≡ Ok (Holds d, rest)
 unfolding hold_at read_then
 hold_complete limits d ts rest is h =
     let a = first h in
@@ -439,66 +460,70 @@ collection_item_complete limits discipline.Queue n m ts rest h =
     let c = collection_complete (record { discipline = discipline.Queue; name = n; capacity = m }) ts rest h in
     past _ (b _) (past _ (b _) (past _ (b _) (past _ (b _) (past _ (b _) (here _ (b _) (rw c refl))))))
 
-item_complete : (limits : Limits) (x : AtomicItem) (ts rest : List Token) → IsItem limits x → Spans (item_spelling x) ts rest
-    → item_at limits ts ≡ Ok (x, rest)
+item_complete : (limits : Limits) (x : TextItem) (ts rest : List Token) → IsTextItem limits x → Spans (text_item_spelling x) ts rest
+    → item_at limits ts ≡ Ok (item_for x, rest)
 unfolding item_at read_then
-item_complete limits (Declares (declaration.In n)) ts rest is h =
+item_complete limits (Other (Declares (declaration.In n))) ts rest is h =
     here _ ((first h).begins _) (rw ((port_reader keyword.In).complete n ts rest tt h tt) refl)
-item_complete limits (Declares (declaration.Out n)) ts rest is h =
+item_complete limits (Other (Declares (declaration.Out n))) ts rest is h =
     let b = (first h).begins in
     past _ (b _) (here _ (b _) (rw ((port_reader keyword.Out).complete n ts rest tt h tt) refl))
-item_complete limits (Declares (declaration.Var v)) ts rest is h =
+item_complete limits (Other (Declares (declaration.Var v))) ts rest is h =
     let b = (first h).begins in
     past _ (b _) (past _ (b _) (here _ (b _) (rw (variable_complete v ts rest h) refl)))
-item_complete limits (Declares (declaration.Flag f)) ts rest is h =
+item_complete limits (Other (Declares (declaration.Flag f))) ts rest is h =
     let b = (first h).begins in
     past _ (b _) (past _ (b _) (past _ (b _) (here _ (b _) (rw (flag_complete f ts rest h) refl))))
-item_complete limits (Declares (declaration.Held c)) ts rest is h =
+item_complete limits (Other (Declares (declaration.Held c))) ts rest is h =
     collection_item_complete limits c.discipline c.name c.capacity ts rest h
-item_complete limits (Lists p) ts rest is h =
+item_complete limits (Other (Lists p)) ts rest is h =
     let b = (first h).begins in
     past _ (b _) (past _ (b _) (past _ (b _) (past _ (b _) (past _ (b _) (past _ (b _) (here _ (b _)
-    (phases_complete p.offset p.names ts rest is h)))))))
-item_complete limits (Starts s) ts rest is h =
+    (phases_complete p.offset p.names ts rest is.0 h)))))))
+item_complete limits (Other (Starts s)) ts rest is h =
     let b = (first h).begins in
     past _ (b _) (past _ (b _) (past _ (b _) (past _ (b _) (past _ (b _) (past _ (b _) (past _ (b _) (here _ (b _)
     (start_complete s.offset s.phase ts rest h))))))))
-item_complete limits (Holds d) ts rest is h =
+item_complete limits (Other (Holds d)) ts rest is h =
     let b = (first h).begins in
     past _ (b _) (past _ (b _) (past _ (b _) (past _ (b _) (past _ (b _) (past _ (b _) (past _ (b _) (past _ (b _) (here _ (b _)
-    (hold_complete limits d ts rest is h)))))))))
-item_complete limits (Rules r) ts rest is h = rule_item_complete limits r.sort r.phase r.body ts rest is h
+    (hold_complete limits d ts rest is.0 h)))))))))
+item_complete limits (Other (Rules r)) ts rest is h = absurd is.1
+item_complete limits (Rule sort phase body) ts rest is h = rule_item_complete limits sort phase body ts rest is h
 
-item_opens : (k : Symbol) (x : AtomicItem) (ts rest : List Token) → Spans (item_spelling x) ts rest → begins (kind.Symbol k) ts ≡ false
-item_opens k (Declares (declaration.In n)) ts rest h = (first h).begins _
-item_opens k (Declares (declaration.Out n)) ts rest h = (first h).begins _
-item_opens k (Declares (declaration.Var v)) ts rest h = (first h).begins _
-item_opens k (Declares (declaration.Flag f)) ts rest h = (first h).begins _
-item_opens k (Declares (declaration.Held c)) ts rest h = (first h).begins _
-item_opens k (Lists p) ts rest h = (first h).begins _
-item_opens k (Starts s) ts rest h = (first h).begins _
-item_opens k (Holds d) ts rest h = (first h).begins _
-item_opens k (Rules r) ts rest h = (first h).begins _
+item_opens : (k : Symbol) (x : TextItem) (ts rest : List Token) → Spans (text_item_spelling x) ts rest → begins (kind.Symbol k) ts ≡ false
+item_opens k (Other (Declares (declaration.In n))) ts rest h = (first h).begins _
+item_opens k (Other (Declares (declaration.Out n))) ts rest h = (first h).begins _
+item_opens k (Other (Declares (declaration.Var v))) ts rest h = (first h).begins _
+item_opens k (Other (Declares (declaration.Flag f))) ts rest h = (first h).begins _
+item_opens k (Other (Declares (declaration.Held c))) ts rest h = (first h).begins _
+item_opens k (Other (Lists p)) ts rest h = (first h).begins _
+item_opens k (Other (Starts s)) ts rest h = (first h).begins _
+item_opens k (Other (Holds d)) ts rest h = (first h).begins _
+item_opens k (Other (Rules r)) ts rest h = (first h).begins _
+item_opens k (Rule sort phase body) ts rest h = (first h).begins _
 
-item_some : (x : AtomicItem) → 0 < length (item_spelling x)
-item_some (Declares (declaration.In n)) = omega arith
-item_some (Declares (declaration.Out n)) = omega arith
-item_some (Declares (declaration.Var v)) = omega arith
-item_some (Declares (declaration.Flag f)) = omega arith
-item_some (Declares (declaration.Held c)) = omega arith
-item_some (Lists p) = omega arith
-item_some (Starts s) = omega arith
-item_some (Holds d) = omega arith
-item_some (Rules r) = omega arith
+item_some : (x : TextItem) → 0 < length (text_item_spelling x)
+item_some (Other (Declares (declaration.In n))) = omega arith
+item_some (Other (Declares (declaration.Out n))) = omega arith
+item_some (Other (Declares (declaration.Var v))) = omega arith
+item_some (Other (Declares (declaration.Flag f))) = omega arith
+item_some (Other (Declares (declaration.Held c))) = omega arith
+item_some (Other (Lists p)) = omega arith
+item_some (Other (Starts s)) = omega arith
+item_some (Other (Holds d)) = omega arith
+item_some (Other (Rules r)) = omega arith
+item_some (Rule sort phase body) = omega arith
 
-item_reader : (limits : Limits) → IsReader (item_at limits) item_spelling (IsItem limits) Always
+item_reader : (limits : Limits) → IsReaderFor (item_at limits) item_for text_item_spelling (IsTextItem limits) Always
 item_reader limits = record { sound = item_sound limits; complete = λ x ts rest is h ends. item_complete limits x ts rest is h }
 
-item_listed : IsListed item_spelling Always (kind.Symbol symbol.CloseBrace)
+item_listed : IsListed text_item_spelling Always (kind.Symbol symbol.CloseBrace)
 item_listed = record { opens = item_opens symbol.CloseBrace; before = λ x ts rest h. tt; at_stop = λ ts e. tt; some = item_some }
 
 pub item_shortens : (limits : Limits) → Shortens (item_at limits)
-item_shortens limits = shortens (item_at limits) item_spelling (IsItem limits) Always (kind.Symbol symbol.CloseBrace)
+item_shortens limits =
+    shortens_for (item_at limits) item_for text_item_spelling (IsTextItem limits) Always (kind.Symbol symbol.CloseBrace)
     (item_reader limits) item_listed
 
 pub further_name_shortens : Shortens further_name_at
@@ -506,23 +531,26 @@ further_name_shortens = shortens further_name_at _ _ Always (kind.Symbol symbol.
 
 -- ---- Atomic models
 
-items_reader : (limits : Limits) → IsReader (braces_at (item_at limits)) (λ items. braces (flat_map item_spelling items))
-    (AllByRecursion (IsItem limits)) Always
-items_reader limits = braces_reader (item_at limits) item_spelling (IsItem limits) Always (item_reader limits) item_listed
+items_reader : (limits : Limits) → IsReaderFor (braces_at (item_at limits)) (map item_for) (λ items. braces (flat_map text_item_spelling items))
+    (AllByRecursion (IsTextItem limits)) Always
+items_reader limits =
+    braces_reader_for (item_at limits) item_for text_item_spelling (IsTextItem limits) Always (item_reader limits) item_listed
 
 atomic_sound : (limits : Limits) (ts : List Token) (x : (Name × List AtomicItem) × List Token) → atomic_at limits ts ≡ Ok x
-    → Spans (model_spelling (WrittenAtomic x.0.0 x.0.1)) ts x.1 × AllByRecursion (IsItem limits) x.0.1
+    → (items : List TextItem) × (map item_for items ≡ x.0.1) × Spans (text_model_spelling (TextAtomic x.0.0 items)) ts x.1
+    × AllByRecursion (IsTextItem limits) items
 unfolding atomic_at
 atomic_sound limits ts x e =
     let a = then_ok _ _ _ e in
     let b = then_ok _ _ _ a.2 in
     let c = then_ok _ _ _ b.2 in
     let s = (items_reader limits).sound b.0.1 c.0 c.1 in
-    subst (λ (y : (Name × List AtomicItem) × List Token). Spans (model_spelling (WrittenAtomic y.0.0 y.0.1)) ts y.1 × AllByRecursion
-    (IsItem limits) y.0.1) (ok_is _ _ c.2) (after_spans a.1 (name_spans b.1 s.0), s.1)
+    subst (λ (y : (Name × List AtomicItem) × List Token). (items : List TextItem) × (map item_for items ≡ y.0.1)
+    × Spans (text_model_spelling (TextAtomic y.0.0 items)) ts y.1 × AllByRecursion (IsTextItem limits) items) (ok_is _ _ c.2)
+    (s.0, s.1, after_spans a.1 (name_spans b.1 s.2), s.3)
 
-atomic_complete : (limits : Limits) (n : Name) (items : List AtomicItem) (ts rest : List Token) → AllByRecursion (IsItem limits) items
-    → Spans (model_spelling (WrittenAtomic n items)) ts rest → atomic_at limits ts ≡ Ok ((n, items), rest)
+atomic_complete : (limits : Limits) (n : Name) (items : List TextItem) (ts rest : List Token) → AllByRecursion (IsTextItem limits) items
+    → Spans (text_model_spelling (TextAtomic n items)) ts rest → atomic_at limits ts ≡ Ok ((n, map item_for items), rest)
 unfolding atomic_at read_then
 atomic_complete limits n items ts rest is h =
     let a = first h in
@@ -680,17 +708,17 @@ coupled_items_reader : IsReader (braces_at coupled_item_at) (λ items. braces (f
 coupled_items_reader = braces_reader coupled_item_at coupled_item_spelling (λ x. Unit {0}) Always coupled_item_reader coupled_item_listed
 
 coupled_sound : (ts : List Token) (x : (Name × List CoupledItem) × List Token) → coupled_at ts ≡ Ok x
-    → Spans (model_spelling (WrittenCoupled x.0.0 x.0.1)) ts x.1
+    → Spans (text_model_spelling (TextCoupled x.0.0 x.0.1)) ts x.1
 unfolding coupled_at
 coupled_sound ts x e =
     let a = then_ok _ _ _ e in
     let b = then_ok _ _ _ a.2 in
     let c = then_ok _ _ _ b.2 in
     let s = coupled_items_reader.sound b.0.1 c.0 c.1 in
-    subst (λ (y : (Name × List CoupledItem) × List Token). Spans (model_spelling (WrittenCoupled y.0.0 y.0.1)) ts y.1) (ok_is _ _ c.2)
+    subst (λ (y : (Name × List CoupledItem) × List Token). Spans (text_model_spelling (TextCoupled y.0.0 y.0.1)) ts y.1) (ok_is _ _ c.2)
     (after_spans a.1 (name_spans b.1 s.0))
 
-coupled_complete : (n : Name) (items : List CoupledItem) (ts rest : List Token) → Spans (model_spelling (WrittenCoupled n items)) ts rest
+coupled_complete : (n : Name) (items : List CoupledItem) (ts rest : List Token) → Spans (text_model_spelling (TextCoupled n items)) ts rest
     → coupled_at ts ≡ Ok ((n, items), rest)
 unfolding coupled_at read_then
 coupled_complete n items ts rest h =
@@ -701,50 +729,54 @@ coupled_complete n items ts rest h =
 
 -- ---- Files
 
-model_sound : (limits : Limits) (ts : List Token) (x : WrittenModel × List Token) → model_at limits ts ≡ Ok x
-    → Spans (model_spelling x.0) ts x.1 × IsModel limits x.0
+abbrev ReadsModel : Limits → List Token → WrittenModel × List Token → Type 0
+ReadsModel limits ts x =
+    (model : TextModel) × (model_for model ≡ x.0) × Spans (text_model_spelling model) ts x.1 × IsTextModel limits model
+
+model_sound : (limits : Limits) (ts : List Token) (x : WrittenModel × List Token) → model_at limits ts ≡ Ok x → ReadsModel limits ts x
 unfolding model_at
 model_sound limits ts x e =
     elim (chosen _ _ _ _ e) [
       | inl p ↦
           let a = then_ok _ _ _ p.1 in
-          subst (λ (y : WrittenModel × List Token). Spans (model_spelling y.0) ts y.1 × IsModel limits y.0) (ok_is _ _ a.2)
-          (coupled_sound ts a.0 a.1, tt)
+          subst (ReadsModel limits ts) (ok_is _ _ a.2) (TextCoupled a.0.0.0 a.0.0.1, refl, coupled_sound ts a.0 a.1, tt)
       | inr p ↦
           let a = then_ok _ _ _ p.1 in
-          subst (λ (y : WrittenModel × List Token). Spans (model_spelling y.0) ts y.1 × IsModel limits y.0) (ok_is _ _ a.2)
-          (atomic_sound limits ts a.0 a.1)
+          let s = atomic_sound limits ts a.0 a.1 in
+          subst (ReadsModel limits ts) (ok_is _ _ a.2) (TextAtomic a.0.0.0 s.0, ap (WrittenAtomic a.0.0.0) s.1, s.2, s.3)
     ]
 
-model_complete : (limits : Limits) (x : WrittenModel) (ts rest : List Token) → IsModel limits x → Spans (model_spelling x) ts rest
-    → model_at limits ts ≡ Ok (x, rest)
+model_complete : (limits : Limits) (x : TextModel) (ts rest : List Token) → IsTextModel limits x → Spans (text_model_spelling x) ts rest
+    → model_at limits ts ≡ Ok (model_for x, rest)
 unfolding model_at choose read_then
-model_complete limits (WrittenAtomic n items) ts rest is h =
+model_complete limits (TextAtomic n items) ts rest is h =
     rw ((first h).begins (kind.Keyword keyword.Coupled), atomic_complete limits n items ts rest is h) refl
-model_complete limits (WrittenCoupled n items) ts rest is h =
+model_complete limits (TextCoupled n items) ts rest is h =
     rw ((first h).begins (kind.Keyword keyword.Coupled), coupled_complete n items ts rest h) refl
 
-model_opens : (x : WrittenModel) (ts rest : List Token) → Spans (model_spelling x) ts rest → begins (kind.Keyword keyword.Root) ts ≡ false
-model_opens (WrittenAtomic n items) ts rest h = (first h).begins _
-model_opens (WrittenCoupled n items) ts rest h = (first h).begins _
+model_opens : (x : TextModel) (ts rest : List Token) → Spans (text_model_spelling x) ts rest
+    → begins (kind.Keyword keyword.Root) ts ≡ false
+model_opens (TextAtomic n items) ts rest h = (first h).begins _
+model_opens (TextCoupled n items) ts rest h = (first h).begins _
 
-model_some : (x : WrittenModel) → 0 < length (model_spelling x)
-model_some (WrittenAtomic n items) = omega arith
-model_some (WrittenCoupled n items) = omega arith
+model_some : (x : TextModel) → 0 < length (text_model_spelling x)
+model_some (TextAtomic n items) = omega arith
+model_some (TextCoupled n items) = omega arith
 
-model_reader : (limits : Limits) → IsReader (model_at limits) model_spelling (IsModel limits) Always
+model_reader : (limits : Limits) → IsReaderFor (model_at limits) model_for text_model_spelling (IsTextModel limits) Always
 model_reader limits = record { sound = model_sound limits; complete = λ x ts rest is h ends. model_complete limits x ts rest is h }
 
-model_listed : IsListed model_spelling Always (kind.Keyword keyword.Root)
+model_listed : IsListed text_model_spelling Always (kind.Keyword keyword.Root)
 model_listed = record { opens = model_opens; before = λ x ts rest h. tt; at_stop = λ ts e. tt; some = model_some }
 
 pub model_shortens : (limits : Limits) → Shortens (model_at limits)
 model_shortens limits =
-    shortens (model_at limits) model_spelling (IsModel limits) Always (kind.Keyword keyword.Root) (model_reader limits) model_listed
+    shortens_for (model_at limits) model_for text_model_spelling (IsTextModel limits) Always (kind.Keyword keyword.Root)
+    (model_reader limits) model_listed
 
-models_reader : (limits : Limits) → IsReader (many_at (model_at limits) (kind.Keyword keyword.Root)) (flat_map model_spelling)
-    (AllByRecursion (IsModel limits)) (λ rest. begins (kind.Keyword keyword.Root) rest ≡ true)
-models_reader limits = many_reader (model_at limits) model_spelling (IsModel limits) Always (model_reader limits)
+models_reader : (limits : Limits) → IsReaderFor (many_at (model_at limits) (kind.Keyword keyword.Root)) (map model_for)
+    (flat_map text_model_spelling) (AllByRecursion (IsTextModel limits)) (λ rest. begins (kind.Keyword keyword.Root) rest ≡ true)
+models_reader limits = many_reader_for (model_at limits) model_for text_model_spelling (IsTextModel limits) Always (model_reader limits)
     (kind.Keyword keyword.Root) model_listed
 
 end_of : (ts : List Token) → is_end ts ≡ true → ts ≡ []
@@ -762,10 +794,16 @@ version_spans {ss = ss} {ts = ts} {rest = rest} {x = x} e =
           let a = then_ok _ _ _ p.1 in
           subst (λ (y : Version × List Token). Spans ss y.1 rest → Spans (Anywhere (kind.Number (version_number y.0)) ∷ ss) ts rest)
           (ok_is _ _ a.2) (λ h. after_spans a.1 h)
-      | inr p ↦
-          let a = then_ok _ _ _ p.1 in
-          subst (λ (y : Version × List Token). Spans ss y.1 rest → Spans (Anywhere (kind.Number (version_number y.0)) ∷ ss) ts rest)
-          (ok_is _ _ a.2) (λ h. after_spans a.1 h)
+      | inr p ↦ elim (chosen _ _ _ _ p.1) [
+        | inl q ↦
+            let a = then_ok _ _ _ q.1 in
+            subst (λ (y : Version × List Token). Spans ss y.1 rest → Spans (Anywhere (kind.Number (version_number y.0)) ∷ ss) ts rest)
+            (ok_is _ _ a.2) (λ h. after_spans a.1 h)
+        | inr q ↦
+            let a = then_ok _ _ _ q.1 in
+            subst (λ (y : Version × List Token). Spans ss y.1 rest → Spans (Anywhere (kind.Number (version_number y.0)) ∷ ss) ts rest)
+            (ok_is _ _ a.2) (λ h. after_spans a.1 h)
+      ]
     ]
 
 header_sound : (ts : List Token) (x : Option Version × List Token) → header_at ts ≡ Ok x → Spans (header_spelling x.0) ts x.1
@@ -792,7 +830,10 @@ first_version version.First h =
     record { behind = f.behind; read = here _ (f.begins _) (rw f.after refl); spelled = f.spelled }
 first_version version.Second h =
     let f = first h in
-    record { behind = f.behind; read = past _ (f.begins _) (rw f.after refl); spelled = f.spelled }
+    record { behind = f.behind; read = past _ (f.begins _) (here _ (f.begins _) (rw f.after refl)); spelled = f.spelled }
+first_version version.Third h =
+    let f = first h in
+    record { behind = f.behind; read = past _ (f.begins _) (past _ (f.begins _) (rw f.after refl)); spelled = f.spelled }
 
 -- no header follows
 abbrev pub NoHeader : List Token → Type 0
@@ -809,11 +850,11 @@ header_complete (Some v) ts rest s ends =
     rw (a.begins (kind.Keyword keyword.Version), a.after, b.read, c.after, c.spelled.spells) refl
 
 -- what follows a header is none
-no_header : (ms : List WrittenModel) (ss : List Spelled) {ts rest : List Token}
-    → Spans (flat_map model_spelling ms ++ word keyword.Root ∷ ss) ts rest → NoHeader ts
+no_header : (ms : List TextModel) (ss : List Spelled) {ts rest : List Token}
+    → Spans (flat_map text_model_spelling ms ++ word keyword.Root ∷ ss) ts rest → NoHeader ts
 no_header [] ss h = (first h).begins _
-no_header (WrittenAtomic n items ∷ ms) ss h = (first h).begins _
-no_header (WrittenCoupled n items ∷ ms) ss h = (first h).begins _
+no_header (TextAtomic n items ∷ ms) ss h = (first h).begins _
+no_header (TextCoupled n items ∷ ms) ss h = (first h).begins _
 
 pub file_sound : (limits : Limits) (ts : List Token) (f : WrittenFile) → file_at limits ts ≡ Ok f → IsWritten limits ts f
 unfolding file_at
@@ -825,25 +866,36 @@ file_sound limits ts f e =
     let d = then_ok _ _ _ c.2 in
     elim (chosen _ _ _ _ d.2) [
       | inl p ↦
-          let s = (models_reader limits).sound z.0.1 a.0 a.1 in
+          let s = (models_reader (limits_behind limits z.0.0)).sound z.0.1 a.0 a.1 in
           let last : Spans [] d.0 [] = record { spells = end_of d.0 p.0 } in
-          let h = then_spans (header_sound ts z.0 z.1) (then_spans s.0 (after_spans b.1 (name_spans c.1 (after_spans d.1 last)))) in
-          subst (IsWritten limits ts) (ok_is _ _ p.1) (record { spelled = h.spells; models = s.1 })
+          let h = then_spans (header_sound ts z.0 z.1) (then_spans s.2 (after_spans b.1 (name_spans c.1 (after_spans d.1 last)))) in
+          let file : (models : List WrittenModel) → WrittenFile =
+          λ models. record { header = z.0.0; models = models; root = c.0.0 } in
+          subst (IsWritten limits ts) (ok_is _ _ p.1) (record {
+            text = record { header = z.0.0; models = s.0; root = c.0.0 };
+            spelled = h.spells;
+            models = s.3;
+            file = sym (ap file s.1);
+          })
       | inr p ↦ absurd (err_ok _ _ p.1)
     ]
 
-pub file_complete : (limits : Limits) (ts : List Token) (f : WrittenFile) → IsWritten limits ts f → file_at limits ts ≡ Ok f
+text_complete : (limits : Limits) (ts : List Token) (t : TextFile) → Spells (text_spelling t) ts []
+    → AllByRecursion (IsTextModel (limits_behind limits t.header)) t.models → file_at limits ts ≡ Ok (file_for t)
 unfolding file_at choose read_then
-file_complete limits ts f is =
-    let h : Spans (file_spelling f) ts [] = record { spells = is.spelled } in
-    let z = split (header_spelling f.header) (flat_map model_spelling f.models ++ word keyword.Root ∷ name f.root ∷ semicolon) h in
-    let s = split (flat_map model_spelling f.models) (word keyword.Root ∷ name f.root ∷ semicolon) z.2 in
+text_complete limits ts t spelled are =
+    let h : Spans (text_spelling t) ts [] = record { spells = spelled } in
+    let z = split (header_spelling t.header) (flat_map text_model_spelling t.models ++ word keyword.Root ∷ name t.root ∷ semicolon) h in
+    let s = split (flat_map text_model_spelling t.models) (word keyword.Root ∷ name t.root ∷ semicolon) z.2 in
     let a = first s.2 in
-    let b = first_name f.root a.spelled in
+    let b = first_name t.root a.spelled in
     let c = first b.spelled in
-    let o = header_complete f.header ts z.0 z.1 (no_header f.models (name f.root ∷ semicolon) z.2) in
-    let m = (models_reader limits).complete f.models z.0 s.0 is.models s.1 (a.begins (kind.Keyword keyword.Root)) in
+    let o = header_complete t.header ts z.0 z.1 (no_header t.models (name t.root ∷ semicolon) z.2) in
+    let m = (models_reader (limits_behind limits t.header)).complete t.models z.0 s.0 are s.1 (a.begins (kind.Keyword keyword.Root)) in
     rw (o, m, a.after, b.read, c.after, span_end c.spelled) refl
+
+pub file_complete : (limits : Limits) (ts : List Token) (f : WrittenFile) → IsWritten limits ts f → file_at limits ts ≡ Ok f
+file_complete limits ts f is = text_complete limits ts is.text is.spelled is.models ∙ ap Ok (sym is.file)
 
 pub file_unique : (ts : List Token) (f g : FileTree) → IsFileOf ts f → IsFileOf ts g → f ≡ g
 file_unique ts f g p q =

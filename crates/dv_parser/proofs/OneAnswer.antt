@@ -5,9 +5,10 @@ use Rattle.dv_lex.specs.declared.error.LoadError.{LoadError}
 use Rattle.dv_lex.specs.declared.error.Refusal.{Refusal}
 use Rattle.dv_parser.specs.declared.parse_error.ParseError.{ParseError}
 use Rattle.dv_parser.specs.declared.parse_error.ParseError.TheVariants as parse_error
+use Rattle.dv_source.specs.Grammar.{IsFileOf}
 use Rattle.dv_syntax.specs.Trees.{FileTree}
 use Rattle.dv_syntax.specs.Written.{WrittenFile, sorted}
-use Rattle.dv_syntax.specs.Grammar.{the_limits, IsFileOf}
+use Rattle.dv_syntax.specs.Grammar.{the_limits}
 use Rattle.dv_parser.specs.Reading.{Read, Fails, IsRefused, file_at, refusal_of, refusal_in, refusal_of_tokens, answer_of}
 use Rattle.dv_parser.proofs.Models.{file_sound, file_complete}
 

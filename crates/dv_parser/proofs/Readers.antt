@@ -1,5 +1,5 @@
 -- Readers, and lists of what one reader reads.
-use Rattle.std.proofs.Common.{◌≡◌, ℕ, zero, suc, ◌<◌, Bool, true, false, List, [], ◌∷◌, ◌++◌, length, Ok, Err, refl, sym, ap, subst}
+use Rattle.std.proofs.Common.{◌≡◌, ℕ, zero, suc, ◌<◌, Bool, true, false, List, [], ◌∷◌, ◌++◌, length, map, Ok, Err, refl, sym, ap, subst}
 use Rattle.std.proofs.Common.{◌∙◌, append_assoc, inl, inr, arith}
 use Rattle.std.specs.List.{flat_map, AllByRecursion}
 use Rattle.dv_lex.specs.declared.token.Token.{Token}
@@ -31,90 +31,133 @@ pub record IsReader {A : Type 0} (read : Reader A) (spelling : A → List Spelle
   pub sound : (ts : List Token) (x : A × List Token) → read ts ≡ Ok x → Spans (spelling x.0) ts x.1 × Is x.0
   pub complete : (x : A) (ts rest : List Token) → Is x → Spans (spelling x) ts rest → Ends rest → read ts ≡ Ok (x, rest)
 
+-- The same of what is spelled as one thing and read as another, which that stands for.
+pub record IsReaderFor {A W : Type 0} (read : Reader A) (given : W → A) (spelling : W → List Spelled) (Is : W → Type 0)
+    (Ends : List Token → Type 0) : Type 0 where
+  pub sound : (ts : List Token) (x : A × List Token) → read ts ≡ Ok x → (w : W) × (given w ≡ x.0) × Spans (spelling w) ts x.1 × Is w
+  pub complete : (w : W) (ts rest : List Token) → Is w → Spans (spelling w) ts rest → Ends rest → read ts ≡ Ok (given w, rest)
+
+pub stands_itself : {A : Type 0} {read : Reader A} {spelling : A → List Spelled} {Is : A → Type 0} {Ends : List Token → Type 0}
+    → IsReader read spelling Is Ends → IsReaderFor read (λ x. x) spelling Is Ends
+stands_itself r = record { sound = λ ts x e. let s = r.sound ts x e in (x.0, refl, s.0, s.1); complete = r.complete }
+
 -- Nothing that is read begins as what stops the list, and what follows one may be another or the stop.
-pub record IsListed {A : Type 0} (spelling : A → List Spelled) (Ends : List Token → Type 0) (stop : TokenKind) : Type 0 where
-  pub opens : (x : A) (ts rest : List Token) → Spans (spelling x) ts rest → begins stop ts ≡ false
-  pub before : (x : A) (ts rest : List Token) → Spans (spelling x) ts rest → Ends ts
+pub record IsListed {W : Type 0} (spelling : W → List Spelled) (Ends : List Token → Type 0) (stop : TokenKind) : Type 0 where
+  pub opens : (x : W) (ts rest : List Token) → Spans (spelling x) ts rest → begins stop ts ≡ false
+  pub before : (x : W) (ts rest : List Token) → Spans (spelling x) ts rest → Ends ts
   pub at_stop : (ts : List Token) → begins stop ts ≡ true → Ends ts
-  pub some : (x : A) → 0 < length (spelling x)
+  pub some : (x : W) → 0 < length (spelling x)
 
 abbrev pub Shortens : {A : Type 0} → (Reader A) → Type 0
 Shortens {A = A} read = (ts : List Token) (x : A × List Token) → read ts ≡ Ok x → length x.1 < length ts
 
+pub shortens_for : {A W : Type 0} (read : Reader A) (given : W → A) (spelling : W → List Spelled) (Is : W → Type 0)
+    (Ends : List Token → Type 0) (stop : TokenKind) → IsReaderFor read given spelling Is Ends → IsListed spelling Ends stop
+    → Shortens read
+shortens_for read given spelling Is Ends stop r l ts x e =
+    let s = r.sound ts x e in
+    omega (arith, Spells-length (spelling s.0) ts x.1 s.2.spells, l.some s.0)
+
 pub shortens : {A : Type 0} (read : Reader A) (spelling : A → List Spelled) (Is : A → Type 0)
     (Ends : List Token → Type 0) (stop : TokenKind) → IsReader read spelling Is Ends → IsListed spelling Ends stop → Shortens read
-shortens read spelling Is Ends stop r l ts x e =
-    let s = r.sound ts x e in
-    omega (arith, Spells-length (spelling x.0) ts x.1 s.0.spells, l.some x.0)
+shortens read spelling Is Ends stop r l = shortens_for read (λ x. x) spelling Is Ends stop (stands_itself r) l
 
-many_sound : {A : Type 0} (one : Reader A) (spelling : A → List Spelled) (Is : A → Type 0) (Ends : List Token → Type 0)
-    → IsReader one spelling Is Ends → (stop : TokenKind) (more : ℕ) (ts : List Token) (x : List A × List Token)
-    → many one stop more ts ≡ Ok x → Spans (flat_map spelling x.0) ts x.1 × AllByRecursion Is x.0
-many_sound one spelling Is Ends r stop zero ts x e = absurd (err_ok _ _ e)
-many_sound {A = A} one spelling Is Ends r stop (suc more) ts x e =
+many_sound : {A W : Type 0} (one : Reader A) (given : W → A) (spelling : W → List Spelled) (Is : W → Type 0)
+    (Ends : List Token → Type 0) → IsReaderFor one given spelling Is Ends → (stop : TokenKind) (more : ℕ) (ts : List Token)
+    (x : List A × List Token) → many one stop more ts ≡ Ok x
+    → (ws : List W) × (map given ws ≡ x.0) × Spans (flat_map spelling ws) ts x.1 × AllByRecursion Is ws
+many_sound one given spelling Is Ends r stop zero ts x e = absurd (err_ok _ _ e)
+many_sound {A = A} {W = W} one given spelling Is Ends r stop (suc more) ts x e =
     elim (chosen _ _ _ _ e) [
-      | inl p ↦ subst (λ (y : List A × List Token). Spans (flat_map spelling y.0) ts y.1 × AllByRecursion Is y.0) (ok_is _ _ p.1)
-          (nothing, tt)
+      | inl p ↦ subst Found (ok_is _ _ p.1) ([], refl, nothing, tt)
       | inr p ↦
           let a = then_ok _ _ _ p.1 in
           let b = then_ok _ _ _ a.2 in
           let s = r.sound ts a.0 a.1 in
-          let t = many_sound one spelling Is Ends r stop more a.0.1 b.0 b.1 in
-          subst (λ (y : List A × List Token). Spans (flat_map spelling y.0) ts y.1 × AllByRecursion Is y.0) (ok_is _ _ b.2)
-          (then_spans s.0 t.0, (s.1, t.1))
+          let t = many_sound one given spelling Is Ends r stop more a.0.1 b.0 b.1 in
+          subst Found (ok_is _ _ b.2) (s.0 ∷ t.0, both s.1 t.1, then_spans s.2 t.2, (s.3, t.3))
     ]
+  where
+    Found : List A × List Token → Type 0
+    Found y = (ws : List W) × (map given ws ≡ y.0) × Spans (flat_map spelling ws) ts y.1 × AllByRecursion Is ws
+
+    both : {x y : A} {xs ys : List A} → x ≡ y → xs ≡ ys → x ∷ xs ≡ y ∷ ys
+    both p q = cc
 
 -- the list ends where its stop comes
-ends_list : {A : Type 0} (spelling : A → List Spelled) (Ends : List Token → Type 0) (stop : TokenKind) → IsListed spelling Ends stop
-    → (xs : List A) (ts rest : List Token) → Spans (flat_map spelling xs) ts rest → begins stop rest ≡ true → Ends ts
+ends_list : {W : Type 0} (spelling : W → List Spelled) (Ends : List Token → Type 0) (stop : TokenKind) → IsListed spelling Ends stop
+    → (xs : List W) (ts rest : List Token) → Spans (flat_map spelling xs) ts rest → begins stop rest ≡ true → Ends ts
 ends_list spelling Ends stop l [] ts rest h e = l.at_stop ts (ap (begins stop) h.spells ∙ e)
 ends_list spelling Ends stop l (x ∷ xs) ts rest h e = let s = split (spelling x) (flat_map spelling xs) h in l.before x ts s.0 s.1
 
-many_complete : {A : Type 0} (one : Reader A) (spelling : A → List Spelled) (Is : A → Type 0) (Ends : List Token → Type 0)
-    → IsReader one spelling Is Ends → (stop : TokenKind) → IsListed spelling Ends stop → (more : ℕ) (xs : List A) (ts rest : List Token)
+many_complete : {A W : Type 0} (one : Reader A) (given : W → A) (spelling : W → List Spelled) (Is : W → Type 0)
+    (Ends : List Token → Type 0) → IsReaderFor one given spelling Is Ends → (stop : TokenKind) → IsListed spelling Ends stop
+    → (more : ℕ) (xs : List W) (ts rest : List Token)
     → AllByRecursion Is xs → Spans (flat_map spelling xs) ts rest → begins stop rest ≡ true → length ts < more
-    → many one stop more ts ≡ Ok (xs, rest)
+    → many one stop more ts ≡ Ok (map given xs, rest)
 unfolding choose read_then
-many_complete one spelling Is Ends r stop l zero xs ts rest all h e lt = absurd (omega (arith, lt))
-many_complete one spelling Is Ends r stop l (suc more) [] ts rest all h e lt =
+many_complete one given spelling Is Ends r stop l zero xs ts rest all h e lt = absurd (omega (arith, lt))
+many_complete one given spelling Is Ends r stop l (suc more) [] ts rest all h e lt =
     let b : begins stop ts ≡ true = ap (begins stop) h.spells ∙ e in
     rw (b, h.spells) refl
-many_complete {A = A} one spelling Is Ends r stop l (suc more) (x ∷ xs) ts rest all h e lt =
+many_complete one given spelling Is Ends r stop l (suc more) (x ∷ xs) ts rest all h e lt =
     let s = split (spelling x) (flat_map spelling xs) h in
     let b = l.opens x ts s.0 s.1 in
     let a = r.complete x ts s.0 all.0 s.1 (ends_list spelling Ends stop l xs s.0 rest s.2 e) in
     let len = Spells-length (spelling x) ts s.0 s.1.spells in
-    let t = many_complete one spelling Is Ends r stop l more xs s.0 rest all.1 s.2 e (omega (arith, len, lt, l.some x)) in
+    let t = many_complete one given spelling Is Ends r stop l more xs s.0 rest all.1 s.2 e (omega (arith, len, lt, l.some x)) in
     rw (b, a, t) refl
+
+pub many_reader_for : {A W : Type 0} (one : Reader A) (given : W → A) (spelling : W → List Spelled) (Is : W → Type 0)
+    (Ends : List Token → Type 0) → IsReaderFor one given spelling Is Ends
+    → (stop : TokenKind) → IsListed spelling Ends stop
+    → IsReaderFor (many_at one stop) (map given) (flat_map spelling) (AllByRecursion Is) (λ rest. begins stop rest ≡ true)
+unfolding many_at
+many_reader_for one given spelling Is Ends r stop l = record {
+  sound = λ ts x e. many_sound one given spelling Is Ends r stop (suc (length ts)) ts x e;
+  complete = λ xs ts rest all h e. many_complete one given spelling Is Ends r stop l (suc (length ts)) xs ts rest all h e (omega arith);
+}
+
+map_itself : {A : Type 0} (xs : List A) → map (λ x. x) xs ≡ xs
+map_itself [] = refl
+map_itself (x ∷ xs) = ap (λ ys. x ∷ ys) (map_itself xs)
+
+-- lists of what stands for itself
+listed_itself : {A : Type 0} {read : Reader (List A)} {spelling : List A → List Spelled} {Is : List A → Type 0}
+    {Ends : List Token → Type 0} → IsReaderFor read (map (λ x. x)) spelling Is Ends → IsReader read spelling Is Ends
+listed_itself {A = A} {spelling = spelling} {Is = Is} r = record {
+  sound = λ ts x e.
+      let s = r.sound ts x e in
+      subst (λ (xs : List A). Spans (spelling xs) ts x.1 × Is xs) (sym (map_itself s.0) ∙ s.1) (s.2, s.3);
+  complete = λ xs ts rest is h ends. r.complete xs ts rest is h ends ∙ ap (λ (ys : List A). Ok (ys, rest)) (map_itself xs);
+}
 
 pub many_reader : {A : Type 0} (one : Reader A) (spelling : A → List Spelled) (Is : A → Type 0)
     (Ends : List Token → Type 0) → IsReader one spelling Is Ends
     → (stop : TokenKind) → IsListed spelling Ends stop → IsReader (many_at one stop) (flat_map spelling) (AllByRecursion Is)
     (λ rest. begins stop rest ≡ true)
-unfolding many_at
-many_reader one spelling Is Ends r stop l = record {
-  sound = λ ts x e. many_sound one spelling Is Ends r stop (suc (length ts)) ts x e;
-  complete = λ xs ts rest all h e. many_complete one spelling Is Ends r stop l (suc (length ts)) xs ts rest all h e (omega arith);
-}
+many_reader one spelling Is Ends r stop l =
+    listed_itself (many_reader_for one (λ x. x) spelling Is Ends (stands_itself r) stop l)
 
 abbrev close : Spelled
 close = sign symbol.CloseBrace
 
-pub braces_reader : {A : Type 0} (one : Reader A) (spelling : A → List Spelled) (Is : A → Type 0)
-    (Ends : List Token → Type 0) → IsReader one spelling Is Ends
-    → IsListed spelling Ends (kind.Symbol symbol.CloseBrace) → IsReader (braces_at one) (λ xs. braces (flat_map spelling xs))
-    (AllByRecursion Is) Always
+pub braces_reader_for : {A W : Type 0} (one : Reader A) (given : W → A) (spelling : W → List Spelled) (Is : W → Type 0)
+    (Ends : List Token → Type 0) → IsReaderFor one given spelling Is Ends
+    → IsListed spelling Ends (kind.Symbol symbol.CloseBrace)
+    → IsReaderFor (braces_at one) (map given) (λ xs. braces (flat_map spelling xs)) (AllByRecursion Is) Always
 unfolding braces_at read_then
-braces_reader {A = A} one spelling Is Ends r l =
-    let all = many_reader one spelling Is Ends r (kind.Symbol symbol.CloseBrace) l in
+braces_reader_for {A = A} {W = W} one given spelling Is Ends r l =
+    let all = many_reader_for one given spelling Is Ends r (kind.Symbol symbol.CloseBrace) l in
     record {
       sound = λ ts x e.
           let a = then_ok _ _ _ e in
           let b = then_ok _ _ _ a.2 in
           let c = then_ok _ _ _ b.2 in
           let s = all.sound a.0 b.0 b.1 in
-          subst (λ (y : List A × List Token). Spans (braces (flat_map spelling y.0)) ts y.1 × AllByRecursion Is y.0) (ok_is _ _ c.2)
-          (after_spans a.1 (then_spans s.0 (after_spans c.1 nothing)), s.1);
+          subst (λ (y : List A × List Token).
+          (ws : List W) × (map given ws ≡ y.0) × Spans (braces (flat_map spelling ws)) ts y.1 × AllByRecursion Is ws) (ok_is _ _ c.2)
+          (s.0, s.1, after_spans a.1 (then_spans s.2 (after_spans c.1 nothing)), s.3);
       complete = λ xs ts rest is h ends.
           let f = first h in
           let s = split (flat_map spelling xs) (close ∷ []) f.spelled in
@@ -122,6 +165,12 @@ braces_reader {A = A} one spelling Is Ends r l =
           let m = all.complete xs f.behind s.0 is s.1 (c.begins (kind.Symbol symbol.CloseBrace)) in
           rw (f.after, m, c.after, span_end c.spelled) refl;
     }
+
+pub braces_reader : {A : Type 0} (one : Reader A) (spelling : A → List Spelled) (Is : A → Type 0)
+    (Ends : List Token → Type 0) → IsReader one spelling Is Ends
+    → IsListed spelling Ends (kind.Symbol symbol.CloseBrace) → IsReader (braces_at one) (λ xs. braces (flat_map spelling xs))
+    (AllByRecursion Is) Always
+braces_reader one spelling Is Ends r l = listed_itself (braces_reader_for one (λ x. x) spelling Is Ends (stands_itself r) l)
 
 -- ---- One turn of a loop that reads a list
 

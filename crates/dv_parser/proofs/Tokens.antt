@@ -113,7 +113,7 @@ keywords =
     ∷ keyword.Confluent ∷ keyword.Part ∷ keyword.Link ∷ keyword.Itself ∷ keyword.If ∷ keyword.Else ∷ keyword.For ∷ keyword.Add
     ∷ keyword.To ∷ keyword.Drop ∷ keyword.From ∷ keyword.Send ∷ keyword.Goto ∷ keyword.True ∷ keyword.False ∷ keyword.Not
     ∷ keyword.And ∷ keyword.Or ∷ keyword.Elapsed ∷ keyword.Size ∷ keyword.Sum ∷ keyword.Least ∷ keyword.Most ∷ keyword.Times
-    ∷ keyword.Version ∷ keyword.Queue ∷ keyword.Push ∷ keyword.Pop ∷ keyword.Front ∷ []
+    ∷ keyword.Version ∷ keyword.Queue ∷ keyword.Push ∷ keyword.Pop ∷ keyword.Front ∷ keyword.Const ∷ keyword.Each ∷ keyword.When ∷ []
 
 symbols : List Symbol
 symbols =
@@ -168,6 +168,9 @@ keyword_again keyword.Queue = refl
 keyword_again keyword.Push = refl
 keyword_again keyword.Pop = refl
 keyword_again keyword.Front = refl
+keyword_again keyword.Const = refl
+keyword_again keyword.Each = refl
+keyword_again keyword.When = refl
 
 symbol_again : (s : Symbol) → get_or symbols (symbol_number s) symbol.Assign ≡ s
 unfolding symbols

@@ -12,6 +12,7 @@ use Rattle.dv_lex.specs.declared.token.Keyword.{Keyword}
 use Rattle.dv_lex.specs.declared.token.Keyword.TheVariants as keyword
 use Rattle.dv_lex.specs.declared.token.Symbol.{Symbol}
 use Rattle.dv_lex.specs.declared.token.Symbol.TheVariants as symbol
+use Rattle.dv_source.specs.Grammar.{limits_behind}
 use Rattle.dv_syntax.specs.declared.tree.Version.{Version}
 use Rattle.dv_syntax.specs.declared.tree.Version.TheVariants as version
 use Rattle.dv_syntax.specs.declared.tree.Name.{Name}
@@ -150,6 +151,9 @@ keyword_number keyword.Queue = 40
 keyword_number keyword.Push = 41
 keyword_number keyword.Pop = 42
 keyword_number keyword.Front = 43
+keyword_number keyword.Const = 44
+keyword_number keyword.Each = 45
+keyword_number keyword.When = 46
 
 abbrev pub symbol_number : Symbol → ℕ
 symbol_number symbol.Assign = 0
@@ -434,11 +438,12 @@ single_of (stmt.IfElse' offset e shape block other_shape other) =
 single_of (stmt.For' offset v b shape block) = SingleFor offset v b (row_statements block)
 single_of (stmt.Change c offset e x) = SingleChange c offset (expression_of e) x
 
-unfoldable pub assign_at : Limits → Reader Single
-assign_at limits ts = do
+-- The limit is that of expressions.
+unfoldable pub assign_at : ℕ → Reader Single
+assign_at limit ts = do
   n ← name_at ts
   behind ← after (kind.Symbol symbol.Assign) n.1
-  e ← expression_at limits.expression 0 behind
+  e ← expression_at limit 0 behind
   rest ← after (kind.Symbol symbol.Semicolon) e.1
   Ok (SingleAssign n.0 e.0, rest)
 
@@ -449,18 +454,18 @@ command_at c ts = do
   rest ← after (kind.Symbol symbol.Semicolon) n.1
   Ok (SingleCommand c (offset_at ts) n.0, rest)
 
-unfoldable pub send_at : Limits → Reader Single
-send_at limits ts = do
+unfoldable pub send_at : ℕ → Reader Single
+send_at limit ts = do
   behind ← after (kind.Keyword keyword.Send) ts
   n ← name_at behind
-  e ← expression_at limits.expression 0 n.1
+  e ← expression_at limit 0 n.1
   rest ← after (kind.Symbol symbol.Semicolon) e.1
   Ok (SingleSend (offset_at ts) n.0 e.0, rest)
 
-unfoldable pub change_at : Limits → Change → Reader Single
-change_at limits c ts = do
+unfoldable pub change_at : ℕ → Change → Reader Single
+change_at limit c ts = do
   behind ← after (kind.Keyword (change_word c)) ts
-  e ← expression_at limits.expression 0 behind
+  e ← expression_at limit 0 behind
   word ← after (kind.Keyword (change_preposition c)) e.1
   x ← name_at word
   rest ← after (kind.Symbol symbol.Semicolon) x.1
@@ -468,18 +473,18 @@ change_at limits c ts = do
 
 -- what follows the block of an `if`
 unfoldable pub else_at : Reader Statements → ℕ → Expression → Statements → Reader Single
-else_at block_at offset e block ts = do
+else_at other_at offset e block ts = do
   behind ← after (kind.Keyword keyword.Else) ts
-  other ← block_at behind
+  other ← other_at behind
   Ok (SingleIfElse offset e block other.0, other.1)
 
--- The limit is that of the blocks.
-unfoldable pub if_at : Limits → Reader Statements → ℕ → Reader Single
-if_at limits block_at limit ts = do
+-- The limit is that of the blocks. `other_at` reads what stands behind `else`.
+unfoldable pub if_at : Limits → (block_at other_at : Reader Statements) → ℕ → Reader Single
+if_at limits block_at other_at limit ts = do
   behind ← after (kind.Keyword keyword.If) ts
   e ← within limit (offset_at ts) (expression_at limits.expression 0 behind)
   block ← block_at e.1
-  choose (begins (kind.Keyword keyword.Else) block.1) (else_at block_at (offset_at ts) e.0 block.0 block.1)
+  choose (begins (kind.Keyword keyword.Else) block.1) (else_at other_at (offset_at ts) e.0 block.0 block.1)
       (Ok (SingleIf (offset_at ts) e.0 block.0, block.1))
 
 -- The limit is that of the blocks. `loops` counts the levels of loops that are left here; in the block it is one less.
@@ -500,23 +505,36 @@ begins_command c ts = begins (kind.Keyword (command_word c)) ts
 abbrev pub begins_change : Change → List Token → Bool
 begins_change c ts = begins (kind.Keyword (change_word c)) ts
 
--- `block_at` reads a block, with the levels of loops that are left in it.
-unfoldable pub statement_at : Limits → (ℕ → Reader Statements) → (limit loops : ℕ) → Reader Single
-statement_at limits block_at limit loops ts =
+-- `block_at` reads a block, and `other_at` what stands behind `else`, with the levels of loops that are left in it.
+unfoldable pub statement_at : Limits → (block_at other_at : ℕ → Reader Statements) → (limit loops : ℕ) → Reader Single
+statement_at limits block_at other_at limit loops ts =
     choose (begins_command command.Goto ts) (command_at command.Goto ts)
     (choose (begins_command command.Pop ts) (command_at command.Pop ts)
-    (choose (begins (kind.Keyword keyword.Send) ts) (send_at limits ts)
-    (choose (begins (kind.Keyword keyword.If) ts) (if_at limits (block_at loops) limit ts)
+    (choose (begins (kind.Keyword keyword.Send) ts) (send_at limits.expression ts)
+    (choose (begins (kind.Keyword keyword.If) ts) (if_at limits (block_at loops) (other_at loops) limit ts)
     (choose (begins (kind.Keyword keyword.For) ts) (for_at block_at limit loops ts)
-    (choose (begins_change change.Add ts) (change_at limits change.Add ts)
-    (choose (begins_change change.Drop ts) (change_at limits change.Drop ts)
-    (choose (begins_change change.Push ts) (change_at limits change.Push ts)
-    (assign_at limits ts))))))))
+    (choose (begins_change change.Add ts) (change_at limits.expression change.Add ts)
+    (choose (begins_change change.Drop ts) (change_at limits.expression change.Drop ts)
+    (choose (begins_change change.Push ts) (change_at limits.expression change.Push ts)
+    (assign_at limits.expression ts))))))))
 
--- a block, with the levels of blocks and of loops that are left
-unfoldable pub block_at : Limits → (limit loops : ℕ) → Reader Statements
-block_at limits zero loops ts = Err TooShort
-block_at limits (suc limit) loops ts = braces_at (statement_at limits (block_at limits limit) limit loops) ts >>= λ x. Ok (joined x.0, x.1)
+-- the first token is `if`, in a text that may have the short forms
+abbrev pub begins_chained : Limits → List Token → Bool
+begins_chained limits ts = limits.short_forms && begins (kind.Keyword keyword.If) ts
+
+-- with the levels of blocks and of loops that are left
+unfoldable mutual
+  pub block_at : Limits → (limit loops : ℕ) → Reader Statements
+  block_at limits zero loops ts = Err TooShort
+  block_at limits (suc limit) loops ts =
+      braces_at (statement_at limits (block_at limits limit) (other_at limits limit) limit loops) ts >>= λ x. Ok (joined x.0, x.1)
+
+  -- a block, or an `if` in its place, which is its one statement
+  pub other_at : Limits → (limit loops : ℕ) → Reader Statements
+  other_at limits zero loops ts = Err TooShort
+  other_at limits (suc limit) loops ts = choose (begins_chained limits ts)
+      (if_at limits (block_at limits limit loops) (other_at limits limit loops) limit ts >>= λ x. Ok (single_before x.0 Done, x.1))
+      (braces_at (statement_at limits (block_at limits limit) (other_at limits limit) limit loops) ts >>= λ x. Ok (joined x.0, x.1))
 
 -- ---- Atomic models
 
@@ -580,17 +598,17 @@ start_at ts = do
   rest ← after (kind.Symbol symbol.Semicolon) n.1
   Ok (Starts (record { offset = offset_at ts; phase = n.0 }), rest)
 
-unfoldable pub ticks_at : Limits → Reader (Option Expression)
-ticks_at limits ts = choose (begins (kind.Keyword keyword.Forever) ts)
+unfoldable pub ticks_at : ℕ → Reader (Option Expression)
+ticks_at limit ts = choose (begins (kind.Keyword keyword.Forever) ts)
     (after (kind.Keyword keyword.Forever) ts >>= λ rest. Ok (None, rest))
-    (expression_at limits.expression 0 ts >>= λ e. Ok (Some e.0, e.1))
+    (expression_at limit 0 ts >>= λ e. Ok (Some e.0, e.1))
 
-unfoldable pub hold_at : Limits → Reader AtomicItem
-hold_at limits ts = do
+unfoldable pub hold_at : ℕ → Reader AtomicItem
+hold_at limit ts = do
   behind ← after (kind.Keyword keyword.Hold) ts
   n ← name_at behind
   colon ← after (kind.Symbol symbol.Colon) n.1
-  ticks ← ticks_at limits colon
+  ticks ← ticks_at limit colon
   rest ← after (kind.Symbol symbol.Semicolon) ticks.1
   Ok (Holds (record { offset = offset_at ts; phase = n.0; ticks = ticks.0 }), rest)
 
@@ -631,7 +649,7 @@ item_at limits ts =
     (choose (begins_collection discipline.Queue ts) (collection_at discipline.Queue ts >>= λ c. Ok (Declares (declaration.Held c.0), c.1))
     (choose (begins (kind.Keyword keyword.Phases) ts) (phases_at ts)
     (choose (begins (kind.Keyword keyword.Start) ts) (start_at ts)
-    (choose (begins (kind.Keyword keyword.Hold) ts) (hold_at limits ts)
+    (choose (begins (kind.Keyword keyword.Hold) ts) (hold_at limits.expression ts)
     (any_rule_at limits ts)))))))))
 
 unfoldable pub atomic_at : Limits → Reader (Name × List AtomicItem)
@@ -701,7 +719,9 @@ is_end (t ∷ ts) = false
 unfoldable pub version_at : Reader Version
 version_at ts = choose (begins (kind.Number 1) ts)
     (after (kind.Number 1) ts >>= λ rest. Ok (version.First, rest))
+    (choose (begins (kind.Number 2) ts)
     (after (kind.Number 2) ts >>= λ rest. Ok (version.Second, rest))
+    (after (kind.Number 3) ts >>= λ rest. Ok (version.Third, rest)))
 
 -- a header, if there is one
 unfoldable pub header_at : Reader (Option Version)
@@ -712,15 +732,19 @@ header_at ts = choose (begins (kind.Keyword keyword.Version) ts)
     Ok (Some v.0, rest))
     (Ok (None, ts))
 
--- a file, of all the tokens
+-- a file, of all the tokens; its header says whether it may have the short forms
 unfoldable pub file_at : Limits → List Token → Read WrittenFile
 file_at limits ts = do
   header ← header_at ts
-  models ← many_at (model_at limits) (kind.Keyword keyword.Root) header.1
+  models ← many_at (model_at (limits_behind limits header.0)) (kind.Keyword keyword.Root) header.1
   behind ← after (kind.Keyword keyword.Root) models.1
   n ← name_at behind
   rest ← after (kind.Symbol symbol.Semicolon) n.1
   choose (is_end rest) (Ok (record { header = header.0; models = models.0; root = n.0 })) (Err (obstacle_at rest))
+
+-- the limits of the language, in a text that may have the short forms, or not
+abbrev pub our_limits : Bool → Limits
+our_limits short = record the_limits { short_forms = short }
 
 -- the refusal for what stops a reader; `end` is the offset of the end of the text
 abbrev pub refusal_of : Obstacle → ℕ → Refusal

@@ -7,7 +7,7 @@ ghost use Rattle.dv_syntax.specs.Grammar.{the_limits, discipline_word, sort_word
 ghost use Rattle.dv_parser.specs.Reading.{Gives, Reads, with_front, many_at, braces_at, bound_at, variable_at, flag_at};
 ghost use Rattle.dv_parser.specs.Reading.{collection_at, begins_collection};
 ghost use Rattle.dv_parser.specs.Reading.{further_name_at, phases_at, start_at, ticks_at, hold_at, rule_at, begins_rule};
-ghost use Rattle.dv_parser.specs.Reading.{any_rule_at, port_at, item_at, atomic_at};
+ghost use Rattle.dv_parser.specs.Reading.{any_rule_at, port_at, item_at, atomic_at, our_limits};
 
 use crate::expression::expression;
 use crate::parse_error::{Obstacle, ParseError};
@@ -212,7 +212,7 @@ fn start(tokens: &[Token]) -> Result<(SourceItem, &[Token]), Obstacle>
 /// `forever`, or an expression.
 #[tactic(auto, unfolding(crate::specs::Reading::ticks_at, crate::specs::Reading::read_then, crate::specs::Reading::choose))]
 fn ticks(alloc: Global, tokens: &[Token]) -> Result<(Ticks, &[Token]), ParseError>
-    ensures { Gives (λ x. (ticks_of x.0, x.1.now)) result (ticks_at the_limits tokens.now) }
+    ensures { Gives (λ x. (ticks_of x.0, x.1.now)) result (ticks_at the_limits.expression tokens.now) }
 {
     if begins_with_keyword(tokens, Keyword::Forever) {
         let rest = after_keyword(tokens, Keyword::Forever)?;
@@ -226,7 +226,7 @@ fn ticks(alloc: Global, tokens: &[Token]) -> Result<(Ticks, &[Token]), ParseErro
 /// `hold phase: ticks;`
 #[tactic(auto, unfolding(crate::specs::Reading::hold_at, crate::specs::Reading::read_then))]
 fn hold(alloc: Global, tokens: &[Token]) -> Result<(SourceItem, &[Token]), ParseError>
-    ensures { Gives (λ x. (item_of x.0, x.1.now)) result (hold_at the_limits tokens.now) }
+    ensures { Gives (λ x. (item_of x.0, x.1.now)) result (hold_at the_limits.expression tokens.now) }
 {
     let offset = first_offset(tokens);
     let rest = after_keyword(tokens, Keyword::Hold)?;
@@ -259,13 +259,14 @@ fn word_of(sort: RuleSort) -> Keyword
 fn rule(
     alloc: Global,
     tokens: &[Token],
+    short: bool,
     sort: RuleSort,
 ) -> Result<(SourceItem, &[Token]), ParseError>
-    ensures { Gives (λ x. (item_of x.0, x.1.now)) result (rule_at the_limits sort tokens.now) }
+    ensures { Gives (λ x. (item_of x.0, x.1.now)) result (rule_at (our_limits short) sort tokens.now) }
 {
     let rest = after_keyword(tokens, word_of(sort))?;
     let (phase, rest) = name(rest)?;
-    let (body, rest) = block(alloc, rest, BLOCK_LIMIT, LOOP_LIMIT)?;
+    let (body, rest) = block(alloc, rest, short, BLOCK_LIMIT, LOOP_LIMIT)?;
     Ok((SourceItem::Rules(Rule { sort, phase, body }), rest))
 }
 
@@ -278,17 +279,21 @@ fn begins_with_rule(tokens: &[Token], sort: RuleSort) -> bool
 
 /// A rule, by its word.
 #[tactic(auto, unfolding(crate::specs::Reading::any_rule_at, crate::specs::Reading::choose))]
-fn any_rule(alloc: Global, tokens: &[Token]) -> Result<(SourceItem, &[Token]), ParseError>
-    ensures { Gives (λ x. (item_of x.0, x.1.now)) result (any_rule_at the_limits tokens.now) }
+fn any_rule(
+    alloc: Global,
+    tokens: &[Token],
+    short: bool,
+) -> Result<(SourceItem, &[Token]), ParseError>
+    ensures { Gives (λ x. (item_of x.0, x.1.now)) result (any_rule_at (our_limits short) tokens.now) }
 {
     if begins_with_rule(tokens, RuleSort::Output) {
-        rule(alloc, tokens, RuleSort::Output)
+        rule(alloc, tokens, short, RuleSort::Output)
     } else if begins_with_rule(tokens, RuleSort::Internal) {
-        rule(alloc, tokens, RuleSort::Internal)
+        rule(alloc, tokens, short, RuleSort::Internal)
     } else if begins_with_rule(tokens, RuleSort::External) {
-        rule(alloc, tokens, RuleSort::External)
+        rule(alloc, tokens, short, RuleSort::External)
     } else {
-        rule(alloc, tokens, RuleSort::Confluent)
+        rule(alloc, tokens, short, RuleSort::Confluent)
     }
 }
 
@@ -305,8 +310,8 @@ pub fn port(tokens: &[Token], word: Keyword) -> Result<(Name, &[Token]), Obstacl
 
 /// The item at the front.
 #[tactic(auto, unfolding(crate::specs::Reading::item_at, crate::specs::Reading::read_then, crate::specs::Reading::choose))]
-fn item(alloc: Global, tokens: &[Token]) -> Result<(SourceItem, &[Token]), ParseError>
-    ensures { Gives (λ x. (item_of x.0, x.1.now)) result (item_at the_limits tokens.now) }
+fn item(alloc: Global, tokens: &[Token], short: bool) -> Result<(SourceItem, &[Token]), ParseError>
+    ensures { Gives (λ x. (item_of x.0, x.1.now)) result (item_at (our_limits short) tokens.now) }
 {
     if begins_with_keyword(tokens, Keyword::In) {
         let (port, rest) = port(tokens, Keyword::In)?;
@@ -342,36 +347,44 @@ fn item(alloc: Global, tokens: &[Token]) -> Result<(SourceItem, &[Token]), Parse
     } else if begins_with_keyword(tokens, Keyword::Hold) {
         hold(alloc, tokens)
     } else {
-        any_rule(alloc, tokens)
+        any_rule(alloc, tokens, short)
     }
 }
 
 /// The items before the closing brace of their model.
-fn items(alloc: Global, tokens: &[Token]) -> Result<(Vec<SourceItem>, &[Token]), ParseError>
+fn items(
+    alloc: Global,
+    tokens: &[Token],
+    short: bool,
+) -> Result<(Vec<SourceItem>, &[Token]), ParseError>
     ensures { Gives (λ x. (map item_of x.0.items, x.1.now)) result
-        (many_at (item_at the_limits) (TokenKind.Symbol Symbol.CloseBrace) tokens.now) }
+        (many_at (item_at (our_limits short)) (TokenKind.Symbol Symbol.CloseBrace) tokens.now) }
 {
     let mut items = Vec::new(alloc);
     let mut rest = tokens;
     while !begins_with_symbol(rest, Symbol::CloseBrace) {
-        let (item, after) = item(alloc, rest)?;
+        let (item, after) = item(alloc, rest, short)?;
         items.push(item)?;
         rest = after;
     }
     Ok((items, rest))
 }
 
-/// `atomic name { .. }`. It has no memory to spare: a text may have very many models of a few items
-/// each.
+/// `atomic name { .. }`. `short` says whether its rules may have the short forms. It has no memory
+/// to spare: a text may have very many models of a few items each.
 #[tactic(auto, unfolding(crate::specs::Reading::atomic_at, crate::specs::Reading::braces_at, crate::specs::Reading::read_then))]
-pub fn atomic(alloc: Global, tokens: &[Token]) -> Result<(SourceAtomic, &[Token]), ParseError>
+pub fn atomic(
+    alloc: Global,
+    tokens: &[Token],
+    short: bool,
+) -> Result<(SourceAtomic, &[Token]), ParseError>
     ensures { Gives (λ x. ((x.0.name, map item_of x.0.items.items), x.1.now)) result
-        (atomic_at the_limits tokens.now) }
+        (atomic_at (our_limits short) tokens.now) }
 {
     let rest = after_keyword(tokens, Keyword::Atomic)?;
     let (name, rest) = name(rest)?;
     let rest = after_symbol(rest, Symbol::OpenBrace)?;
-    let (mut items, rest) = items(alloc, rest)?;
+    let (mut items, rest) = items(alloc, rest, short)?;
     let rest = after_symbol(rest, Symbol::CloseBrace)?;
     items.shrink_to_fit();
     Ok((SourceAtomic { name, items }, rest))

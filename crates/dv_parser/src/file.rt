@@ -1,10 +1,11 @@
 //! Files: a header or none, models, and the name of the root.
 
 ghost use Rattle.std.specs.Prelude.{◌≡◌, IfOk, IfErr, map};
+ghost use Rattle.dv_source.specs.Grammar.{has_short_forms, IsWritten};
 ghost use Rattle.dv_source.specs.Sources.{source_of, written_model};
-ghost use Rattle.dv_syntax.specs.Grammar.{IsWritten, the_limits};
+ghost use Rattle.dv_syntax.specs.Grammar.{the_limits};
 ghost use Rattle.dv_parser.specs.Reading.{Gives, IsRefused, many_at, model_at, file_at, obstacle_of};
-ghost use Rattle.dv_parser.specs.Reading.{Reads, header_at, version_at, refusal_of, answer_of};
+ghost use Rattle.dv_parser.specs.Reading.{Reads, header_at, version_at, refusal_of, answer_of, our_limits};
 
 use crate::atomic::atomic;
 use crate::coupled::coupled;
@@ -20,27 +21,35 @@ use std::alloc::Global;
 
 /// The model at the front.
 #[tactic(auto, unfolding(crate::specs::Reading::model_at, crate::specs::Reading::read_then, crate::specs::Reading::choose))]
-fn model(alloc: Global, tokens: &[Token]) -> Result<(SourceModel, &[Token]), ParseError>
-    ensures { Gives (λ x. (written_model x.0, x.1.now)) result (model_at the_limits tokens.now) }
+fn model(
+    alloc: Global,
+    tokens: &[Token],
+    short: bool,
+) -> Result<(SourceModel, &[Token]), ParseError>
+    ensures { Gives (λ x. (written_model x.0, x.1.now)) result (model_at (our_limits short) tokens.now) }
 {
     if begins_with_keyword(tokens, Keyword::Coupled) {
         let (coupled, rest) = coupled(alloc, tokens)?;
         Ok((SourceModel::Coupled(coupled), rest))
     } else {
-        let (atomic, rest) = atomic(alloc, tokens)?;
+        let (atomic, rest) = atomic(alloc, tokens, short)?;
         Ok((SourceModel::Atomic(atomic), rest))
     }
 }
 
 /// The models before `root`.
-fn models(alloc: Global, tokens: &[Token]) -> Result<(Vec<SourceModel>, &[Token]), ParseError>
+fn models(
+    alloc: Global,
+    tokens: &[Token],
+    short: bool,
+) -> Result<(Vec<SourceModel>, &[Token]), ParseError>
     ensures { Gives (λ x. (map written_model x.0.items, x.1.now)) result
-        (many_at (model_at the_limits) (TokenKind.Keyword Keyword.Root) tokens.now) }
+        (many_at (model_at (our_limits short)) (TokenKind.Keyword Keyword.Root) tokens.now) }
 {
     let mut models = Vec::new(alloc);
     let mut rest = tokens;
     while !begins_with_keyword(rest, Keyword::Root) {
-        let (model, after) = model(alloc, rest)?;
+        let (model, after) = model(alloc, rest, short)?;
         models.push(model)?;
         rest = after;
     }
@@ -55,9 +64,12 @@ fn version(tokens: &[Token]) -> Result<(Version, &[Token]), Obstacle>
     if begins_with_number(tokens, 1) {
         let rest = after_number(tokens, 1)?;
         Ok((Version::First, rest))
-    } else {
+    } else if begins_with_number(tokens, 2) {
         let rest = after_number(tokens, 2)?;
         Ok((Version::Second, rest))
+    } else {
+        let rest = after_number(tokens, 3)?;
+        Ok((Version::Third, rest))
     }
 }
 
@@ -76,13 +88,23 @@ fn header(tokens: &[Token]) -> Result<(Option<Version>, &[Token]), Obstacle>
     }
 }
 
+/// Whether a text with this header may have the short forms.
+fn has_short_forms(header: Option<Version>) -> bool
+    ensures { result ≡ has_short_forms header }
+{
+    match header {
+        Some(Version::Third) => true,
+        Some(Version::First | Version::Second) | None => false,
+    }
+}
+
 /// All the tokens as a file.
 #[tactic(auto, unfolding(crate::specs::Reading::file_at, crate::specs::Reading::obstacle_at, crate::specs::Reading::read_then, crate::specs::Reading::choose))]
 fn file(alloc: Global, tokens: &[Token]) -> Result<SourceFile, ParseError>
     ensures { Gives source_of result (file_at the_limits tokens.now) }
 {
     let (header, rest) = header(tokens)?;
-    let (models, rest) = models(alloc, rest)?;
+    let (models, rest) = models(alloc, rest, has_short_forms(header))?;
     let rest = after_keyword(rest, Keyword::Root)?;
     let (root, rest) = name(rest)?;
     let rest = after_symbol(rest, Symbol::Semicolon)?;

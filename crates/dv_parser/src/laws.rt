@@ -1,7 +1,7 @@
 //! Laws of the grammar. Each function states a law in its contract; its body does nothing.
 
 ghost use Rattle.std.specs.Prelude.{◌≡◌, ◌⊎◌, ℕ, List, Some, None};
-ghost use Rattle.dv_syntax.specs.Grammar.{IsFileOf};
+ghost use Rattle.dv_source.specs.Grammar.{IsFileOf};
 ghost use Rattle.dv_syntax.specs.Trees.{FileTree};
 ghost use Rattle.dv_parser.specs.Reading.{refusal_of_tokens};
 

@@ -1,11 +1,12 @@
 //! Statements and blocks.
 
 ghost use Rattle.std.specs.Prelude.{◌≡◌, ◌-◌, ◌<◌, ◌≤◌, IfOk, List, Ok, map};
-ghost use Rattle.dv_syntax.specs.Trees.{block_of, expression_of, Statements};
+ghost use Rattle.dv_syntax.specs.Trees.{block_of, expression_of, Done, Statements};
 ghost use Rattle.dv_syntax.specs.Grammar.{the_limits, command_word, change_word, change_preposition};
 ghost use Rattle.dv_parser.specs.Reading.{Gives, Reads, single_of, many_at, assign_at, command_at, send_at, change_at, if_at, for_at};
-ghost use Rattle.dv_parser.specs.Reading.{statement_at, block_at, after, offset_at, name_at, expression_at, within, read_then};
-ghost use Rattle.dv_parser.specs.Reading.{begins_command, begins_change, joined, SingleIf, SingleIfElse, SingleFor};
+ghost use Rattle.dv_parser.specs.Reading.{statement_at, block_at, other_at, after, offset_at, name_at, expression_at, within};
+ghost use Rattle.dv_parser.specs.Reading.{read_then, begins_command, begins_change, begins_chained, joined, our_limits};
+ghost use Rattle.dv_parser.specs.Reading.{single_before, SingleIf, SingleIfElse, SingleFor};
 
 use crate::expression::expression;
 use crate::limits::test_depth;
@@ -16,12 +17,12 @@ use crate::token::{
 use dv_bag::Change;
 use dv_lex::{Keyword, Symbol, Token, TokenKind};
 use dv_syntax::{Block, Command, Expr, Name, Stmt};
-use std::alloc::Global;
+use std::alloc::{AllocError, Global};
 
 /// `variable := value;`
 #[tactic(auto, unfolding(crate::specs::Reading::assign_at, crate::specs::Reading::read_then))]
 fn assign(alloc: Global, tokens: &[Token]) -> Result<(Stmt, &[Token]), ParseError>
-    ensures { Gives (λ x. (single_of x.0, x.1.now)) result (assign_at the_limits tokens.now) }
+    ensures { Gives (λ x. (single_of x.0, x.1.now)) result (assign_at the_limits.expression tokens.now) }
 {
     let (variable, rest) = name(tokens)?;
     let rest = after_symbol(rest, Symbol::Assign)?;
@@ -69,7 +70,7 @@ fn command_statement(tokens: &[Token], command: Command) -> Result<(Stmt, &[Toke
 /// `send port value;`
 #[tactic(auto, unfolding(crate::specs::Reading::send_at, crate::specs::Reading::read_then))]
 fn send(alloc: Global, tokens: &[Token]) -> Result<(Stmt, &[Token]), ParseError>
-    ensures { Gives (λ x. (single_of x.0, x.1.now)) result (send_at the_limits tokens.now) }
+    ensures { Gives (λ x. (single_of x.0, x.1.now)) result (send_at the_limits.expression tokens.now) }
 {
     let offset = first_offset(tokens);
     let rest = after_keyword(tokens, Keyword::Send)?;
@@ -122,7 +123,7 @@ fn change_statement(
     change: Change,
 ) -> Result<(Stmt, &[Token]), ParseError>
     ensures { Gives (λ x. (single_of x.0, x.1.now)) result
-        (change_at the_limits change tokens.now) }
+        (change_at the_limits.expression change tokens.now) }
 {
     let offset = first_offset(tokens);
     let rest = after_keyword(tokens, word_of_change(change))?;
@@ -187,22 +188,63 @@ fn if_with_else(offset: u32, condition: Expr, then_block: Block, else_block: Blo
     }
 }
 
-/// The block behind an `else`, and the rest.
+/// Whether the first token is an `if`, in a text that may have the short forms.
+fn begins_with_chained(tokens: &[Token], short: bool) -> bool
+    ensures { result ≡ begins_chained (our_limits short) tokens.now }
+{
+    short && begins_with_keyword(tokens, Keyword::If)
+}
+
+/// The block of one statement.
+#[tactic(auto, using(crate::proofs::Rows::joined_items))]
+fn block_of_one(alloc: Global, statement: Stmt) -> Result<Block, AllocError>
+    ensures { IfOk result (λ block. block_of block ≡ single_before (single_of statement) Done) }
+{
+    let mut statements = Vec::with_capacity(alloc, 1)?;
+    statements.push(statement)?;
+    Ok(Block { statements })
+}
+
+/// The block behind an `else`, or the `if` in its place, and the rest.
 #[cycle(block)]
 #[tactic(auto, unfolding(crate::specs::Reading::read_then))]
 fn after_else(
     alloc: Global,
     tokens: &[Token],
+    short: bool,
     limit: u32,
     loops: u32,
 ) -> Result<(Block, &[Token]), ParseError>
     requires { 0 < limit }
     ensures { Gives (λ x. (block_of x.0, x.1.now)) result
         (read_then (after (TokenKind.Keyword Keyword.Else) tokens.now)
-        (block_at the_limits limit loops)) }
+        (other_at (our_limits short) limit loops)) }
 {
     let behind = after_keyword(tokens, Keyword::Else)?;
-    block(alloc, behind, limit, loops)
+    other(alloc, behind, short, limit, loops)
+}
+
+/// A block, or the `if` in its place, and the rest.
+#[cycle(block)]
+#[tactic(auto, unfolding(crate::specs::Reading::other_at, crate::specs::Reading::choose, crate::specs::Reading::read_then))]
+fn other(
+    alloc: Global,
+    tokens: &[Token],
+    short: bool,
+    limit: u32,
+    loops: u32,
+) -> Result<(Block, &[Token]), ParseError>
+    requires { 0 < limit }
+    ensures { Gives (λ x. (block_of x.0, x.1.now)) result
+        (other_at (our_limits short) limit loops tokens.now) }
+{
+    if begins_with_chained(tokens, short) {
+        let (chained, rest) = if_statement(alloc, tokens, short, limit, loops)?;
+        let block = block_of_one(alloc, chained)?;
+        Ok((block, rest))
+    } else {
+        block(alloc, tokens, short, limit, loops)
+    }
 }
 
 /// `if condition { .. }`, with its `else` if there is one.
@@ -211,18 +253,20 @@ fn after_else(
 fn if_statement(
     alloc: Global,
     tokens: &[Token],
+    short: bool,
     limit: u32,
     loops: u32,
 ) -> Result<(Stmt, &[Token]), ParseError>
     requires { 0 < limit }
     ensures { Gives (λ x. (single_of x.0, x.1.now)) result
-        (if_at the_limits (block_at the_limits (limit - 1) loops) (limit - 1) tokens.now) }
+        (if_at (our_limits short) (block_at (our_limits short) (limit - 1) loops)
+        (other_at (our_limits short) (limit - 1) loops) (limit - 1) tokens.now) }
 {
     let offset = first_offset(tokens);
     let (condition, rest) = condition_of_if(alloc, tokens, limit)?;
-    let (then_block, rest) = block(alloc, rest, limit - 1, loops)?;
+    let (then_block, rest) = block(alloc, rest, short, limit - 1, loops)?;
     if begins_with_keyword(rest, Keyword::Else) {
-        let (else_block, rest) = after_else(alloc, rest, limit - 1, loops)?;
+        let (else_block, rest) = after_else(alloc, rest, short, limit - 1, loops)?;
         Ok((
             if_with_else(offset, condition, then_block, else_block),
             rest,
@@ -274,16 +318,17 @@ fn for_loop(offset: u32, variable: Name, bag: Name, block: Block) -> Stmt
 fn for_statement(
     alloc: Global,
     tokens: &[Token],
+    short: bool,
     limit: u32,
     loops: u32,
 ) -> Result<(Stmt, &[Token]), ParseError>
     requires { 0 < limit }
     ensures { Gives (λ x. (single_of x.0, x.1.now)) result
-        (for_at (block_at the_limits (limit - 1)) (limit - 1) loops tokens.now) }
+        (for_at (block_at (our_limits short) (limit - 1)) (limit - 1) loops tokens.now) }
 {
     let offset = first_offset(tokens);
     let (variable, bag, rest) = head_of_for(tokens, limit, loops)?;
-    let (block, rest) = block(alloc, rest, limit - 1, loops - 1)?;
+    let (block, rest) = block(alloc, rest, short, limit - 1, loops - 1)?;
     Ok((for_loop(offset, variable, bag, block), rest))
 }
 
@@ -293,12 +338,14 @@ fn for_statement(
 fn statement(
     alloc: Global,
     tokens: &[Token],
+    short: bool,
     limit: u32,
     loops: u32,
 ) -> Result<(Stmt, &[Token]), ParseError>
     requires { 0 < limit }
     ensures { Gives (λ x. (single_of x.0, x.1.now)) result
-        (statement_at the_limits (block_at the_limits (limit - 1)) (limit - 1) loops tokens.now) }
+        (statement_at (our_limits short) (block_at (our_limits short) (limit - 1))
+        (other_at (our_limits short) (limit - 1)) (limit - 1) loops tokens.now) }
 {
     if begins_with_command(tokens, Command::Goto) {
         Ok(command_statement(tokens, Command::Goto)?)
@@ -307,9 +354,9 @@ fn statement(
     } else if begins_with_keyword(tokens, Keyword::Send) {
         send(alloc, tokens)
     } else if begins_with_keyword(tokens, Keyword::If) {
-        if_statement(alloc, tokens, limit, loops)
+        if_statement(alloc, tokens, short, limit, loops)
     } else if begins_with_keyword(tokens, Keyword::For) {
-        for_statement(alloc, tokens, limit, loops)
+        for_statement(alloc, tokens, short, limit, loops)
     } else if begins_with_change(tokens, Change::Add) {
         change_statement(alloc, tokens, Change::Add)
     } else if begins_with_change(tokens, Change::Drop) {
@@ -326,18 +373,20 @@ fn statement(
 fn statements(
     alloc: Global,
     tokens: &[Token],
+    short: bool,
     limit: u32,
     loops: u32,
 ) -> Result<(Vec<Stmt>, &[Token]), ParseError>
     requires { 0 < limit }
     ensures { Gives (λ x. (map single_of x.0.items, x.1.now)) result
-        (many_at (statement_at the_limits (block_at the_limits (limit - 1)) (limit - 1) loops)
+        (many_at (statement_at (our_limits short) (block_at (our_limits short) (limit - 1))
+        (other_at (our_limits short) (limit - 1)) (limit - 1) loops)
         (TokenKind.Symbol Symbol.CloseBrace) tokens.now) }
 {
     let mut statements = Vec::with_capacity(alloc, 1)?;
     let mut rest = tokens;
     while !begins_with_symbol(rest, Symbol::CloseBrace) {
-        let (statement, after) = statement(alloc, rest, limit, loops)?;
+        let (statement, after) = statement(alloc, rest, short, limit, loops)?;
         statements.push(statement)?;
         rest = after;
     }
@@ -357,20 +406,22 @@ fn closed_block(mut statements: Vec<Stmt>, tokens: &[Token]) -> Result<(Block, &
     Ok((Block { statements }, rest))
 }
 
-/// Statements in braces. `limit` counts the levels of blocks that are left, with this one; `loops`
-/// counts the levels of loops that are left in it.
+/// Statements in braces. `short` says whether they may have the short forms. `limit` counts the
+/// levels of blocks that are left, with this one; `loops` counts the levels of loops that are left
+/// in it.
 #[cycle(block)]
 pub fn block(
     alloc: Global,
     tokens: &[Token],
+    short: bool,
     limit: u32,
     loops: u32,
 ) -> Result<(Block, &[Token]), ParseError>
     requires { 0 < limit }
     ensures { Gives (λ x. (block_of x.0, x.1.now)) result
-        (block_at the_limits limit loops tokens.now) }
+        (block_at (our_limits short) limit loops tokens.now) }
 {
     let inside = after_symbol(tokens, Symbol::OpenBrace)?;
-    let (statements, rest) = statements(alloc, inside, limit, loops)?;
+    let (statements, rest) = statements(alloc, inside, short, limit, loops)?;
     Ok(closed_block(statements, rest)?)
 }

@@ -1,4 +1,4 @@
--- The grammar of model texts: how a tree is spelled by tokens, and which trees are those of a text.
+-- The grammar of files: how a tree is spelled by tokens.
 use Rattle.std.specs.Prelude.{◌≡◌, ℕ, ◌+◌, ◌<◌, ◌≤◌, Bool, true, false, List, [], ◌∷◌, ◌++◌, length, Option, Some, None, if◌then◌else◌, max}
 use Rattle.std.specs.List.{flat_map, AllByRecursion}
 use Rattle.dv_bag.specs.declared.discipline.Change.{Change}
@@ -39,9 +39,9 @@ use Rattle.dv_syntax.specs.declared.tree.RuleSort.TheVariants as sort
 use Rattle.dv_syntax.specs.declared.tree.End.{End}
 use Rattle.dv_syntax.specs.Trees.{Expression, Literal, TruthValue, Named, Parens, Prefixed, Binary, Call, Elapsed, Times}
 use Rattle.dv_syntax.specs.Trees.{Statements, Done, Assign, Does, Send, If, IfElse, For, Changes, PhasesTree, HoldTree}
-use Rattle.dv_syntax.specs.Trees.{RuleTree, FileTree}
+use Rattle.dv_syntax.specs.Trees.{RuleTree}
 use Rattle.dv_syntax.specs.Written.{AtomicItem, Declares, Lists, Starts, Holds, Rules, CoupledItem, Inputs, Outputs, Contains}
-use Rattle.dv_syntax.specs.Written.{Couples, WrittenModel, WrittenAtomic, WrittenCoupled, WrittenFile, sorted}
+use Rattle.dv_syntax.specs.Written.{Couples, WrittenModel, WrittenAtomic, WrittenCoupled, WrittenFile}
 
 -- ---- Spellings
 
@@ -81,15 +81,16 @@ braces inside = sign symbol.OpenBrace ∷ (inside ++ sign symbol.CloseBrace ∷ 
 
 -- ---- Limits on depth
 
--- how deep expressions, blocks and loops may be nested
+-- how deep expressions, blocks and loops may be nested, and whether a text may have the short forms
 pub record Limits : Type 0 where
   pub expression : ℕ
   pub block : ℕ
   pub loop : ℕ
+  pub short_forms : Bool
 
 -- those of the language
 abbrev pub the_limits : Limits
-the_limits = record { expression = 64; block = 16; loop = 3 }
+the_limits = record { expression = 64; block = 16; loop = 3; short_forms = false }
 
 -- ---- Expressions
 
@@ -392,6 +393,7 @@ IsModel limits (WrittenCoupled n items) = Unit {0}
 abbrev pub version_number : Version → ℕ
 version_number version.First = 1
 version_number version.Second = 2
+version_number version.Third = 3
 
 abbrev pub header_spelling : Option Version → List Spelled
 header_spelling None = []
@@ -400,18 +402,3 @@ header_spelling (Some v) = word keyword.Version ∷ Anywhere (kind.Number (versi
 abbrev pub file_spelling : WrittenFile → List Spelled
 file_spelling f =
     header_spelling f.header ++ (flat_map model_spelling f.models ++ word keyword.Root ∷ name f.root ∷ sign symbol.Semicolon ∷ [])
-
--- the tokens are those of the file, to the last one, and the file is one of the grammar within limits on depth
-pub record IsWritten (limits : Limits) (ts : List Token) (f : WrittenFile) : Type 0 where
-  pub spelled : Spells (file_spelling f) ts []
-  pub models : AllByRecursion (IsModel limits) f.models
-
--- the tokens are those of a file with this tree, within limits on depth
-pub record IsFileWithin (limits : Limits) (ts : List Token) (f : FileTree) : Type 0 where
-  pub written : WrittenFile
-  pub read : IsWritten limits ts written
-  pub tree : f ≡ sorted written
-
--- the tokens are those of a file with this tree
-abbrev pub IsFileOf : List Token → FileTree → Type 0
-IsFileOf ts f = IsFileWithin the_limits ts f

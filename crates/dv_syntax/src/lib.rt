@@ -2,11 +2,12 @@
 //!
 //! A `File` has the models of a text in their order, and each model its items sorted by kind. Trees
 //! keep parentheses and the offset of each node, so that a refusal can name it. The grammar is a
-//! spelling: it says which tokens a file has, and so which files a list of tokens can be.
+//! spelling: it says which tokens a file has.
 //!
-//! `dv_parser` makes these trees, `dv_check` tests them, and `dv_eval`, `dv_gen`, `dv_bound` and
-//! the views read them. Nothing here reads tokens or tests a rule of the language: a tree may name
-//! something that is not declared.
+//! `dv_source` says which files a list of tokens can stand for. `dv_parser` and `dv_expand` make
+//! these trees, `dv_check` tests them, and `dv_eval`, `dv_gen`, `dv_bound` and the views read them.
+//! Nothing here reads tokens or tests a rule of the language: a tree may name something that is not
+//! declared.
 #![tactic(auto)]
 
 /// Laws of trees.

@@ -14,6 +14,8 @@ pub enum Version {
     First,
     /// Version 2, which has queues.
     Second,
+    /// Version 3, which has short forms besides.
+    Third,
 }
 
 /// An occurrence of a name: its number in the table of names, and its offset.

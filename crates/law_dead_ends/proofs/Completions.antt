@@ -181,17 +181,23 @@ then_at first second Ends1 Ends2 fill2 ts s c filled follows each2 = record {
   ];
 }
 
+pub then_completes_some : {A B : Type 0} {first : Reader A} (second : ℕ → A → Reader B) {Ends1 Ends2 : List Token → Type 0}
+    {fill2 : List Token} → CompletesSome first Ends1
+    → ((rest : List Token) → Ends2 rest → Ends1 (fill2 ++ rest)) → ((offset : ℕ) (x : A) → Completes (second offset x) Ends2 fill2)
+    → CompletesSome (one_then first second) Ends2
+then_completes_some {first = first} second {Ends1 = Ends1} {Ends2 = Ends2} {fill2 = fill2} c follows c2 = record {
+  steady = then_steady first second c.steady (λ offset x. (c2 offset x).some.steady);
+  behind = λ t us. then_at first second Ends1 Ends2 fill2 (t ∷ us) (c.steady (t ∷ us)) (c.behind t us)
+      (λ offset x. (c2 offset x).filled) follows (λ x rest e. each (c2 (offset_at (t ∷ us)) x) rest);
+}
+
 pub then_completes : {A B : Type 0} {first : Reader A} (second : ℕ → A → Reader B) {Ends1 Ends2 : List Token → Type 0}
     {fill1 fill2 : List Token} → Completes first Ends1 fill1
     → ((rest : List Token) → Ends2 rest → Ends1 (fill2 ++ rest)) → ((offset : ℕ) (x : A) → Completes (second offset x) Ends2 fill2)
     → Completes (one_then first second) Ends2 (fill1 ++ fill2)
 unfolding filled_behind
 then_completes {first = first} second {Ends1 = Ends1} {Ends2 = Ends2} {fill1 = fill1} {fill2 = fill2} c follows c2 = record {
-  some = record {
-    steady = then_steady first second c.some.steady (λ offset x. (c2 offset x).some.steady);
-    behind = λ t us. then_at first second Ends1 Ends2 fill2 (t ∷ us) (c.some.steady (t ∷ us)) (c.some.behind t us)
-        (λ offset x. (c2 offset x).filled) follows (λ x rest e. each (c2 (offset_at (t ∷ us)) x) rest);
-  };
+  some = then_completes_some second c.some follows c2;
   filled = (filled_behind first second Ends1 Ends2 fill2 [] (record { more = fill1; reads = c.filled })
       (λ offset x. (c2 offset x).filled) follows).reads;
 }

@@ -3,8 +3,9 @@ use Rattle.std.proofs.Common.{◌≡◌, ℕ, zero, suc, ◌<◌, ◌≤◌, All
 use Rattle.std.proofs.Common.{ap, subst, ◌∙◌, inl, inr, append_assoc}
 use Rattle.dv_lex.specs.declared.error.Refusal.{Refusal}
 use Rattle.dv_lex.specs.declared.token.Token.{Token}
+use Rattle.dv_source.specs.Grammar.{IsFileWithin}
 use Rattle.dv_syntax.specs.Written.{WrittenFile}
-use Rattle.dv_syntax.specs.Grammar.{Limits, the_limits, IsFileWithin}
+use Rattle.dv_syntax.specs.Grammar.{Limits, the_limits}
 use Rattle.dv_parser.specs.Reading.{Obstacle, Unexpected, TooDeep, TooShort, Read, file_at, refusal_of, refusal_in}
 use Rattle.dv_parser.specs.Reading.{refusal_of_tokens}
 use Rattle.law_dead_ends.specs.Refusals.{BeginsFileWithin, BeginsFile, BeginsFileAtAnyDepth, NoneBeginsAt, IsNumberOf, IsDeadEnd}

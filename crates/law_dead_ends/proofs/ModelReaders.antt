@@ -8,6 +8,7 @@ use Rattle.dv_lex.specs.declared.token.TokenKind.TheVariants as kind
 use Rattle.dv_lex.specs.declared.token.Keyword.{Keyword}
 use Rattle.dv_lex.specs.declared.token.Keyword.TheVariants as keyword
 use Rattle.dv_lex.specs.declared.token.Symbol.TheVariants as symbol
+use Rattle.dv_source.specs.Grammar.{limits_behind}
 use Rattle.dv_syntax.specs.declared.tree.Version.{Version}
 use Rattle.dv_syntax.specs.declared.tree.Version.TheVariants as version
 use Rattle.dv_syntax.specs.declared.tree.Declaration.TheVariants as declaration
@@ -25,7 +26,7 @@ use Rattle.dv_parser.proofs.Models.{item_shortens, further_name_shortens, couple
 use Rattle.dv_parser.proofs.Expressions.{IsClosed}
 use Rattle.dv_parser.proofs.Readers.{Always, later, same_chosen, err_kept}
 use Rattle.law_dead_ends.specs.Refusals.{BeginsFileWithin}
-use Rattle.law_dead_ends.proofs.Depths.{HaveRoom, AreWidened, above, widened}
+use Rattle.law_dead_ends.proofs.Depths.{HaveRoom, AreWidened, deeper, widened, widened_behind}
 use Rattle.law_dead_ends.proofs.Steady.{IsSteady, StopsThere}
 use Rattle.law_dead_ends.proofs.Completions.{of_kind, a_number, a_name, a_sign, a_word, empty_braces, Unfinished, Completes, each}
 use Rattle.law_dead_ends.proofs.Completions.{some_by_first}
@@ -102,7 +103,7 @@ start_widens =
     then_widens _ _ name_widens (λ rest h. tt) (λ _ p.
     after_widens (kind.Symbol symbol.Semicolon) _ _ (λ _. leaves_widens (Starts (record { offset = offset; phase = p })) Always)))
 
-ticks_widen : (n w : Limits) → AreWidened n w → Widens (ticks_at n) (ticks_at w) IsClosed (a_number ∷ [])
+ticks_widen : (n w : Limits) → AreWidened n w → Widens (ticks_at n.expression) (ticks_at w.expression) IsClosed (a_number ∷ [])
 unfolding ticks_at
 ticks_widen n w g =
     choose_widens (kind.Keyword keyword.Forever)
@@ -110,7 +111,7 @@ ticks_widen n w g =
     (then_widens _ _ (expression_widens n w g) (λ rest h. h) (λ _ e. leaves_widens (Some e) IsClosed))
 
 hold_widens : (n w : Limits) → AreWidened n w
-    → Widens (hold_at n) (hold_at w) Always (a_word keyword.Hold ∷ a_name ∷ a_sign symbol.Colon ∷ a_number ∷ a_sign symbol.Semicolon ∷ [])
+    → Widens (hold_at n.expression) (hold_at w.expression) Always (a_word keyword.Hold ∷ a_name ∷ a_sign symbol.Colon ∷ a_number ∷ a_sign symbol.Semicolon ∷ [])
 unfolding hold_at operator_of
 hold_widens n w g =
     after_widens (kind.Keyword keyword.Hold) _ _ (λ offset.
@@ -243,11 +244,12 @@ model_widens n w g =
     (then_widens _ _ coupled_widens (λ rest h. tt) (λ _ m. leaves_widens (WrittenCoupled m.0 m.1) Always)) (λ rest h. refl)
     (then_widens _ _ (atomic_widens n w g) (λ rest h. tt) (λ _ m. leaves_widens (WrittenAtomic m.0 m.1) Always))
 
-version_widens : Widens version_at version_at Always (of_kind (kind.Number 2) ∷ [])
+version_widens : Widens version_at version_at Always (of_kind (kind.Number 3) ∷ [])
 unfolding version_at
 version_widens =
     choose_widens (kind.Number 1) (after_widens (kind.Number 1) _ _ (λ _. leaves_widens version.First Always)) (λ rest h. refl)
-    (after_widens (kind.Number 2) _ _ (λ _. leaves_widens version.Second Always))
+    (choose_widens (kind.Number 2) (after_widens (kind.Number 2) _ _ (λ _. leaves_widens version.Second Always)) (λ rest h. refl)
+    (after_widens (kind.Number 3) _ _ (λ _. leaves_widens version.Third Always)))
 
 header_widens : Widens header_at header_at NoHeader []
 unfolding header_at
@@ -301,14 +303,16 @@ root_widens header models =
 
 -- what follows a header
 behind_at : Limits → Option Version → Reader WrittenFile
-behind_at limits header ts = read_then (many_at (model_at limits) (kind.Keyword keyword.Root) ts) (λ x. root_at header x.0 x.1)
+behind_at limits header ts =
+    read_then (many_at (model_at (limits_behind limits header)) (kind.Keyword keyword.Root) ts) (λ x. root_at header x.0 x.1)
 
 behind_widens : (n w : Limits) → AreWidened n w → (header : Option Version)
     → Widens (behind_at n header) (behind_at w header) Nothing a_root
 unfolding behind_at
 behind_widens n w g header =
     then_widens (λ _ models. root_at header models) (λ _ models. root_at header models)
-    (many_widens (kind.Keyword keyword.Root) (model_shortens n) (model_shortens w) (model_widens n w g) (λ rest h. tt)) (λ rest h. refl)
+    (many_widens (kind.Keyword keyword.Root) (model_shortens (limits_behind n header)) (model_shortens (limits_behind w header))
+    (model_widens (limits_behind n header) (limits_behind w header) (widened_behind n w g header)) (λ rest h. tt)) (λ rest h. refl)
     (λ _ models. root_widens header models)
 
 pub whole_at : Limits → Reader WrittenFile
@@ -321,7 +325,7 @@ whole_widens n w g =
     (λ _ header. behind_widens n w g header)
 
 whole_completes : (limits : Limits) → HaveRoom limits → Completes (whole_at limits) Nothing a_root
-whole_completes limits room = (whole_widens limits (above limits) (widened limits room)).narrow_completes
+whole_completes limits room = (whole_widens limits (deeper limits) (widened limits room)).narrow_completes
 
 pub whole_steady : (limits : Limits) → HaveRoom limits → IsSteady (whole_at limits)
 whole_steady limits room = (whole_completes limits room).some.steady
@@ -335,7 +339,7 @@ file_whole : (limits : Limits) (ts : List Token) → file_at limits ts ≡ read_
 unfolding file_at whole_at behind_at root_at last_at read_then
 file_whole limits ts =
     later (header_at ts) _ _ as_file (λ header.
-    later (many_at (model_at limits) (kind.Keyword keyword.Root) header.1) _ _ as_file (λ models.
+    later (many_at (model_at (limits_behind limits header.0)) (kind.Keyword keyword.Root) header.1) _ _ as_file (λ models.
     later (after (kind.Keyword keyword.Root) models.1) _ _ as_file (λ behind.
     later (name_at behind) _ _ as_file (λ n.
     later (after (kind.Symbol symbol.Semicolon) n.1) _ _ as_file (λ rest.

@@ -4,8 +4,9 @@ use Rattle.dv_lex.specs.declared.token.Token.{Token}
 use Rattle.dv_lex.specs.declared.error.Refusal.{Refusal}
 use Rattle.dv_lex.specs.declared.error.RefusalNumber.{RefusalNumber}
 use Rattle.dv_lex.specs.declared.error.RefusalNumber.TheVariants.{E4, E5}
+use Rattle.dv_source.specs.Grammar.{IsFileWithin, IsFileOf}
 use Rattle.dv_syntax.specs.Trees.{FileTree}
-use Rattle.dv_syntax.specs.Grammar.{Limits, the_limits, IsFileWithin, IsFileOf}
+use Rattle.dv_syntax.specs.Grammar.{Limits, the_limits}
 
 -- a file within these limits on depth begins with the tokens
 abbrev pub BeginsFileWithin : Limits → List Token → Type 0

@@ -1,6 +1,6 @@
 use Rattle.std.proofs.Common.{rules}
 use Rattle.std.proofs.lemmas.Result.{err_from_is_err_and}
-use Rattle.dv_syntax.specs.Grammar.{IsFileOf}
+use Rattle.dv_source.specs.Grammar.{IsFileOf}
 use Rattle.dv_syntax.specs.Trees.{file_of}
 use Rattle.dv_job.proofs.Loading.{unchecked_so, unlexed}
 use Rattle.dv_job.proofs.load.read.Goals as goal
