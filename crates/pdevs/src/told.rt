@@ -2,6 +2,7 @@
 
 use dv_cause::{Texts, explained};
 use dv_job::JobError;
+use dv_trace::TraceReason;
 use dv_views::ViewError;
 use std::fmt::Display;
 use std::io;
@@ -74,6 +75,9 @@ pub fn tell_view_error<R: AllocGlobal + Eprint>(
 ) {
     match error {
         ViewError::Job(error) => tell_error(rt, texts, error, is_explained),
+        ViewError::Trace(refusal) if matches!(refusal.reason, TraceReason::NoEnd) => {
+            tell_line(rt, format_args!("{error}; --partial takes it"));
+        }
         ViewError::Unread(_)
         | ViewError::Trace(_)
         | ViewError::NoPath(_)
