@@ -1,6 +1,6 @@
 //! What a text may go on with at an offset.
 
-use crate::grammar::{Called, FILE, Part, knows_queues};
+use crate::grammar::{Called, FILE, Part, Version};
 use dv_lex::{Token, TokenKind};
 use std::alloc::{AllocError, Global};
 use std::fmt;
@@ -10,8 +10,8 @@ use std::fmt;
 pub struct Expectations {
     /// The parts, the nearest first.
     pub parts: Vec<Part>,
-    /// Whether the words of queues are reserved in the text.
-    pub knows_queues: bool,
+    /// The version of the text.
+    pub version: Version,
 }
 
 /// What may follow at an offset, in bytes, of a text with these tokens. The tokens before the
@@ -35,7 +35,7 @@ pub fn expectations_at(
     }
     Ok(Expectations {
         parts,
-        knows_queues: knows_queues(tokens),
+        version: Version::of(tokens),
     })
 }
 
@@ -103,7 +103,7 @@ impl fmt::Display for Expectations {
             };
             let called = Called {
                 part,
-                knows_queues: self.knows_queues,
+                version: self.version,
             };
             write!(f, "{separator}{called}")?;
         }

@@ -2,7 +2,7 @@
 
 use crate::expectations::Expectations;
 use crate::grammar::{ASSIGN, Part};
-use dv_lex::{Symbol, TokenKind, Tokens};
+use dv_lex::{Keyword, Symbol, TokenKind, Tokens};
 
 /// A sentence with a line feed on a word of another language, or an empty text. The word is the
 /// token at index `number`, or the one before it if that begins a statement or a call.
@@ -38,7 +38,7 @@ fn unknown_call(expected: &Expectations) -> &'static str {
         || expected.have(ASSIGN);
     if !is_in_rule {
         "Models, phases and ports have no parameters: write a model for each value.\n"
-    } else if expected.knows_queues {
+    } else if expected.version.knows_queues() {
         "The calls are `size(b)`, `sum(b)`, `least(b)`, `most(b)`, `times(1, b)` and `front(q)`; there are no others.\n"
     } else {
         "The calls are `size(b)`, `sum(b)`, `least(b)`, `most(b)` and `times(1, b)`; there are no others.\n"
@@ -61,6 +61,17 @@ pub fn symbol_at(read: &Tokens, number: usize) -> Option<Symbol> {
     match read.tokens.get(number)?.kind {
         TokenKind::Symbol(symbol) => Some(symbol),
         TokenKind::Name(_) | TokenKind::Number(_) | TokenKind::Keyword(_) => None,
+    }
+}
+
+/// A sentence on a word that version 3 has taken from other languages and uses in none of its
+/// forms, or an empty text.
+pub fn sentence_on_unused(word: Keyword) -> &'static str {
+    match word {
+        Keyword::Const => sentence_on("const"),
+        Keyword::Each => sentence_on("each"),
+        Keyword::When => sentence_on("when"),
+        _ => "",
     }
 }
 
@@ -163,8 +174,12 @@ const FOREIGN: &[Foreign] = &[
         sentence: "There is no `while`: a rule runs once, `for v in b { .. }` goes through a bag, and a phase with `hold z: 0;` repeats at once.\n",
     },
     Foreign {
-        words: &["range"],
+        words: &["range", "foreach"],
         sentence: "A loop goes through the values of a bag, as `for v in b { .. }`; a phase with `hold z: 0;` repeats at once.\n",
+    },
+    Foreign {
+        words: &["each"],
+        sentence: "Nothing makes copies of items: write each of them. A loop goes through the values of a bag, as `for v in b { .. }`.\n",
     },
     Foreign {
         words: &["switch", "case", "match", "when", "select"],
@@ -172,7 +187,7 @@ const FOREIGN: &[Foreign] = &[
     },
     Foreign {
         words: &["elif", "elsif", "elseif"],
-        sentence: "Another condition needs a block: `else { if .. { .. } }`.\n",
+        sentence: "Another condition is written `else { if .. { .. } }`, or `else if .. { .. }` in a text that begins with `version 3;`.\n",
     },
     Foreign {
         words: &["then", "begin", "end", "endif"],

@@ -31,6 +31,8 @@ pub enum Part {
     Statements,
     /// `else` with its block, or nothing.
     Else,
+    /// What follows `else`: a block, or an `if` in version 3.
+    Alternative,
     /// Names, each after a comma, or none.
     Names,
     /// A number, perhaps after a minus sign.
@@ -119,6 +121,7 @@ impl Part {
             | Part::Name
             | Part::Number
             | Part::Version
+            | Part::Alternative
             | Part::Bound
             | Part::Truth
             | Part::Ticks
@@ -144,12 +147,13 @@ impl Part {
             Part::Name => nothing_if(matches!(kind, TokenKind::Name(_))),
             Part::Number => nothing_if(matches!(kind, TokenKind::Number(_))),
             Part::Header => after_word(kind, &[Role::Header]),
-            Part::Version => nothing_if(is_version(kind)),
+            Part::Version => nothing_if(version_numbered(kind).is_some()),
             Part::Models => after_word(kind, &[Role::Model]),
             Part::Items => after_word(kind, &[Role::Port, Role::Item]),
             Part::CoupledItems => after_word(kind, &[Role::Port, Role::CoupledItem]),
             Part::Statements => after_statement(kind),
             Part::Else => after_word(kind, &[Role::Else]),
+            Part::Alternative => after_else(kind),
             Part::Names => after_comma(kind),
             Part::Bound => after_bound(kind),
             Part::Truth => after_word(kind, &[Role::Truth]),
@@ -184,6 +188,7 @@ impl Part {
             | Part::Header
             | Part::Version
             | Part::Else
+            | Part::Alternative
             | Part::Bound
             | Part::Truth
             | Part::Operand
@@ -231,6 +236,8 @@ enum Role {
     Itself,
     /// Nothing by itself: it continues an item, a statement or a text.
     Inner,
+    /// Nothing: no form of the language has the word.
+    Unused,
 }
 
 /// What a reserved word begins, and what is expected after the word.
@@ -282,7 +289,7 @@ fn role_of(word: Keyword) -> (Role, &'static [Part]) {
         ),
         Keyword::If => (Role::Statement, CONDITIONAL),
         Keyword::For => (Role::Statement, LOOP),
-        Keyword::Else => (Role::Else, &[OPEN_BRACE, Part::Statements, CLOSE_BRACE]),
+        Keyword::Else => (Role::Else, &[Part::Alternative]),
         Keyword::True | Keyword::False => (Role::Truth, &[]),
         Keyword::Forever => (Role::Forever, &[]),
         Keyword::Not => (Role::Not, &[Part::Expression]),
@@ -299,6 +306,7 @@ fn role_of(word: Keyword) -> (Role, &'static [Part]) {
         Keyword::And | Keyword::Or => (Role::Join, &[Part::Expression]),
         Keyword::Itself => (Role::Itself, &[DOT, Part::Name]),
         Keyword::Root | Keyword::To | Keyword::From => (Role::Inner, &[]),
+        Keyword::Const | Keyword::Each | Keyword::When => (Role::Unused, &[]),
     }
 }
 
@@ -348,27 +356,45 @@ fn after_word(kind: &TokenKind, roles: &[Role]) -> Option<&'static [Part]> {
     }
 }
 
-/// Whether a token is the number of a version.
-fn is_version(kind: &TokenKind) -> bool {
-    is_number(kind, 1) || is_number(kind, 2)
+/// A version of the language.
+#[derive(Clone, Copy, PartialEq, Eq)]
+pub enum Version {
+    /// Version 1, and that of a text without a header.
+    First,
+    /// Version 2, which has queues.
+    Second,
+    /// Version 3, which has `else if` too.
+    Third,
 }
 
-/// Whether a token is this number.
-fn is_number(kind: &TokenKind, value: i64) -> bool {
-    match kind {
-        TokenKind::Number(number) => number.value() == value,
-        TokenKind::Name(_) | TokenKind::Keyword(_) | TokenKind::Symbol(_) => false,
+impl Version {
+    /// The version in which a text of these tokens is written: the first one if its header names
+    /// none.
+    pub fn of(tokens: &[Token]) -> Version {
+        match tokens {
+            [first, second, ..] if first.kind == TokenKind::Keyword(Keyword::Version) => {
+                version_numbered(&second.kind).unwrap_or(Version::First)
+            }
+            _ => Version::First,
+        }
+    }
+
+    /// Whether the words of queues are reserved.
+    pub fn knows_queues(self) -> bool {
+        self != Version::First
     }
 }
 
-/// Whether the words of queues are reserved in a text of these tokens: whether its header says
-/// version 2.
-pub fn knows_queues(tokens: &[Token]) -> bool {
-    match tokens {
-        [first, second, ..] => {
-            first.kind == TokenKind::Keyword(Keyword::Version) && is_number(&second.kind, 2)
-        }
-        _ => false,
+/// The version with the number that a token is.
+fn version_numbered(kind: &TokenKind) -> Option<Version> {
+    match kind {
+        TokenKind::Number(number) => match number.value() {
+            1 => Some(Version::First),
+            2 => Some(Version::Second),
+            3 => Some(Version::Third),
+            _ => None,
+        },
+        TokenKind::Name(_) | TokenKind::Keyword(_) | TokenKind::Symbol(_) => None,
     }
 }
 
@@ -377,6 +403,14 @@ fn after_statement(kind: &TokenKind) -> Option<&'static [Part]> {
         TokenKind::Name(_) => Some(&[ASSIGN, Part::Expression, SEMICOLON]),
         TokenKind::Keyword(_) => after_word(kind, &[Role::Statement]),
         TokenKind::Number(_) | TokenKind::Symbol(_) => None,
+    }
+}
+
+fn after_else(kind: &TokenKind) -> Option<&'static [Part]> {
+    match kind {
+        TokenKind::Symbol(Symbol::OpenBrace) => Some(&[Part::Statements, CLOSE_BRACE]),
+        TokenKind::Keyword(Keyword::If) => Some(CONDITIONAL),
+        _ => None,
     }
 }
 
@@ -494,16 +528,17 @@ pub fn is_comparison(symbol: Symbol) -> bool {
 pub struct Called<'a> {
     /// The part.
     pub part: &'a Part,
-    /// Whether the words of queues are reserved in the text.
-    pub knows_queues: bool,
+    /// The version of the text.
+    pub version: Version,
 }
 
 impl fmt::Display for Called<'_> {
     fn fmt<W: fmt::Write>(&self, f: &mut fmt::Formatter<W>) -> fmt::Result {
         match self.part {
             Part::Sign(_, text) | Part::Word(_, text) => write!(f, "`{text}`"),
-            Part::Items if self.knows_queues => f.write_str(ITEMS_WITH_QUEUES),
-            Part::Statements if self.knows_queues => f.write_str(STATEMENTS_WITH_QUEUES),
+            Part::Items if self.version.knows_queues() => f.write_str(ITEMS_WITH_QUEUES),
+            Part::Statements if self.version.knows_queues() => f.write_str(STATEMENTS_WITH_QUEUES),
+            Part::Alternative if self.version == Version::Third => f.write_str("`{` or `if`"),
             part => f.write_str(words_of(part)),
         }
     }
@@ -517,14 +552,14 @@ const ITEMS_WITH_QUEUES: &str =
 const STATEMENTS_WITH_QUEUES: &str =
     "a statement (`NAME :=`, `goto`, `send`, `if`, `for`, `add`, `drop`, `push`, `pop`)";
 
-/// The words for a part that is not one sign or word, if the words of queues are not reserved.
+/// The words for a part that is not one sign or word, in version 1.
 fn words_of(part: &Part) -> &'static str {
     match part {
         Part::Sign(..) | Part::Word(..) => "",
         Part::Name => "a name",
         Part::Number | Part::Bound => "a number",
-        Part::Header => "a header (`version 1;`, `version 2;`)",
-        Part::Version => "the number 1 or 2",
+        Part::Header => "a header (`version 1;`, `version 2;`, `version 3;`)",
+        Part::Version => "the number 1, 2 or 3",
         Part::Models => "a model (`atomic`, `coupled`)",
         Part::Items => {
             "an item of an atomic model (`in`, `out`, `var`, `flag`, `bag`, `phases`, `start`, `hold`, `output`, `internal`, `external`, `confluent`)"
@@ -534,6 +569,7 @@ fn words_of(part: &Part) -> &'static str {
             "a statement (`NAME :=`, `goto`, `send`, `if`, `for`, `add`, `drop`)"
         }
         Part::Else => "`else`",
+        Part::Alternative => "`{`",
         Part::Names => "`,`",
         Part::Truth => "`true` or `false`",
         Part::Ticks => "`forever` or an expression",

@@ -28,9 +28,6 @@ pub fn slip_at(text: &[u8], offset: usize) -> &'static str {
     if is_hyphen(before, after) {
         return "A name consists of letters, digits and `_`, without `-`.\n";
     }
-    if is_else_if(before, after) {
-        return "After `else` comes a block: `else { if .. { .. } }`.\n";
-    }
     if is_list_of_parts(before, after) {
         return "There are no lists of parts: write an item for each, as `part a1: A; part a2: A;`.\n";
     }
@@ -318,11 +315,6 @@ fn is_list_of_parts(before: &[u8], after: &[u8]) -> bool {
 fn is_import(before: &[u8], after: &[u8]) -> bool {
     let before = without_blanks(before);
     after.starts_with(b"\"") && IMPORTS.iter().any(|word| before.ends_with(word.as_bytes()))
-}
-
-/// Whether an `if` follows an `else`.
-fn is_else_if(before: &[u8], after: &[u8]) -> bool {
-    without_blanks(before).ends_with(b"else") && after.starts_with(b"if")
 }
 
 /// Whether an offset is the first on its line but for blanks, and the line is not the first one.

@@ -3,7 +3,7 @@
 
 use crate::cause::Cause;
 use crate::expectations::{Expectations, expectations_at};
-use crate::foreign::{foreign_at, name_at, symbol_at};
+use crate::foreign::{foreign_at, name_at, sentence_on_unused, symbol_at};
 use crate::grammar::{ASSIGN, COLON, DOT, EQUAL, OPEN_BRACE, Part, SEMICOLON, is_comparison};
 use crate::met::met_at;
 use crate::quoted::Quoted;
@@ -94,7 +94,7 @@ fn end_of_link(alloc: Global, name: &str) -> Result<String, AllocError> {
 
 /// On a word of queues in a text where it is not reserved.
 const WITHOUT_QUEUES: &str =
-    "Queues need a text that begins with `version 2;`: in others `queue`, `push`, `pop` and `front` are names.\n";
+    "Queues need a text that begins with `version 2;` or `version 3;`: in others `queue`, `push`, `pop` and `front` are names.\n";
 
 /// Whether the token at index `number`, or the one before it, is a name that is probably meant as a
 /// word of queues.
@@ -142,13 +142,23 @@ fn hint_after(read: &Tokens, number: usize, expected: &Expectations) -> &'static
     } else if symbol_at(read, number) == Some(Symbol::Comma) {
         hint_on_arguments(keyword_at(read, number.checked_sub(3)))
     } else if before == Some(Keyword::Else) {
-        BRACES
+        hint_after_else(keyword_at(read, Some(number)))
     } else if wants_number(expected) && is_name_behind_value(read, number) {
         NAMED_NUMBER
     } else if number == 0 && symbol_at(read, 1) == Some(Symbol::Dot) {
         "This looks like a trace: a model begins with `atomic`, `coupled` or `version`.\n"
     } else {
         ""
+    }
+}
+
+/// A sentence on what follows `else` in the place of a block.
+fn hint_after_else(word: Option<Keyword>) -> &'static str {
+    match word {
+        Some(Keyword::If) => {
+            "`else if` needs a text that begins with `version 3;`: in others write `else { if .. { .. } }`.\n"
+        }
+        _ => BRACES,
     }
 }
 
@@ -248,7 +258,7 @@ fn hint_on_word(expected: &Expectations, word: Keyword, is_assigned: bool) -> &'
     } else if begins_item(word) {
         hint_on_item(expected)
     } else {
-        ""
+        sentence_on_unused(word)
     }
 }
 

@@ -65,7 +65,7 @@ const REFUSALS: &[Explanation] = &[
     },
     Explanation {
         code: "E4",
-        words: "This token is not allowed here. It is the first one that does not fit the grammar; if the text ends too early, its end is named. Look just before it, too: a missing `;`, `:` or `}` is found at the token after it. A reserved word can't be a name; `queue`, `push`, `pop` and `front` are reserved in a text that begins with `version 2;`, and are names in all others. A text may begin with `version 1;` or `version 2;`, and no other version is known. The grammar is in `docs/REFERENCE.md`.",
+        words: "This token is not allowed here. It is the first one that does not fit the grammar; if the text ends too early, its end is named. Look just before it, too: a missing `;`, `:` or `}` is found at the token after it. A reserved word can't be a name; `queue`, `push`, `pop` and `front` are reserved in a text that begins with `version 2;` or `version 3;`, `const`, `each` and `when` in one that begins with `version 3;`, and all of them are names in others. A text may begin with `version 1;`, `version 2;` or `version 3;`, and no other version is known; only version 3 has `else if`. The grammar is in `docs/REFERENCE.md`.",
         example: Some(Example {
             model: "coupled T { part a A; }\nroot T;\n",
             inputs: "",

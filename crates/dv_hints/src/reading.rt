@@ -2,7 +2,7 @@
 
 use dv_expand::expand;
 use dv_explain::Position;
-use dv_explain::grammar::knows_queues;
+use dv_explain::grammar::Version;
 use dv_lex::{LoadError, Names, tokens};
 use dv_parser::parse;
 use dv_syntax::File;
@@ -53,11 +53,10 @@ fn parsed(alloc: Global, text: &[u8]) -> Result<ReadText<'_>, LoadError> {
         text.len().min(u32::MAX as usize) as u32,
     )?;
     let file = expand(alloc, source)?;
-    let knows_queues = knows_queues(&lexed.tokens);
     Ok(ReadText {
         text,
         file,
+        knows_queues: Version::of(&lexed.tokens).knows_queues(),
         names: lexed.names,
-        knows_queues,
     })
 }

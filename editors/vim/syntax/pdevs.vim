@@ -12,11 +12,15 @@ syntax keyword pdevsFunction size sum least most times
 syntax keyword pdevsConstant forever true false elapsed self
 " The word of a header is a name elsewhere: here it begins a line, before a number.
 syntax match pdevsStructure "^\s*\zsversion\ze\s\+\d"
-" These are names in a text that does not begin with the header of version 2.
-if search('\%^\_s*\%(#.*\_s*\)*version\_s\+0*2\_s*;', 'cnw')
+" These are names in a text that does not begin with the header of version 2 or 3.
+if search('\%^\_s*\%(#.*\_s*\)*version\_s\+0*[23]\_s*;', 'cnw')
   syntax keyword pdevsDeclaration queue
   syntax keyword pdevsStatement push pop
   syntax keyword pdevsFunction front
+endif
+" These are names in a text that does not begin with the header of version 3. No form has them.
+if search('\%^\_s*\%(#.*\_s*\)*version\_s\+0*3\_s*;', 'cnw')
+  syntax keyword pdevsUnused const each when
 endif
 syntax match pdevsNumber "\<\d\+\>"
 syntax match pdevsComment "#.*$" contains=@Spell
@@ -28,6 +32,7 @@ highlight default link pdevsStatement Statement
 highlight default link pdevsOperator Operator
 highlight default link pdevsFunction Function
 highlight default link pdevsConstant Constant
+highlight default link pdevsUnused Error
 highlight default link pdevsNumber Number
 highlight default link pdevsComment Comment
 
